@@ -1,0 +1,85 @@
+-- What each call on path bytes answers. On a refusal all but the refusal is zero.
+use Prim.Native.Nat.{ℕ, zero, suc, _-_}
+use mathlib.Core.List.{List, [], _∷_, reverse}
+use mathlib.Core.Bool.{Bool, true, false, not, cond, _&&_}
+use lib.Dec.{ltb, leb, eqb}
+use lib.ListN.{length, getD, replicate}
+use Rattle.room.specs.declared.Shape.{Shape}
+use Rattle.room.specs.declared.Refusal.{Refusal}
+use Rattle.room.specs.Refusals.{none, plain, refusedAt, serverRefusal, pairRefusal, shapeRefusal, _or-else_, _unless_}
+use Rattle.room.specs.Answers.{answer}
+use Rattle.path.specs.declared.Hop.{Hop}
+use Rattle.path.specs.declared.Walked.{Walked}
+use Rattle.path.specs.declared.Reading.{Reading}
+use Rattle.path.specs.declared.Writing.{Writing}
+use Rattle.path.specs.Lists.{filled}
+use Rattle.path.specs.Routes.{encode}
+use Rattle.path.specs.Walks.{Walk, stopped, arrived, hopTo, hopRefusal, walk, writeFrom}
+
+-- ---- one hop: 1 to 3, 4, 8, 9, 10
+
+abbrev pub noHop : ℕ → Hop
+noHop r = record { number = r; next = 0 }
+
+unfoldable pub hopAnswer : Shape → ℕ → ℕ → Hop
+hopAnswer s a b = answer (serverRefusal s a or-else hopRefusal s a b) noHop (record { number = 0; next = hopTo s a b })
+
+-- ---- walking an array: 1 to 3, 4, 5, 7, then hop after hop
+
+-- source and destination: 1 to 3, 4, 5
+unfoldable pub endsRefusal : Shape → ℕ → ℕ → ℕ
+endsRefusal s a d = pairRefusal s a d or-else 5 unless not (eqb a d)
+
+-- and one array: 7
+unfoldable pub arrayRefusal : Shape → ℕ → ℕ → List ℕ → ℕ
+arrayRefusal s a d bs = endsRefusal s a d or-else 7 unless eqb (length bs) 8
+
+abbrev pub noWalk : Refusal → Walked
+noWalk r = record { refusal = r; count = 0; servers = replicate 9 0; switches = replicate 8 0 }
+
+abbrev pub walked : Walk → Walked
+walked (stopped r h) = noWalk (refusedAt r 1 h)
+walked (arrived vs ws) = record { refusal = none; count = length vs; servers = filled 9 vs; switches = filled 8 ws }
+
+unfoldable pub walkAnswer : Shape → List ℕ → ℕ → ℕ → List ℕ → Walked
+walkAnswer s t a d bs = answer (arrayRefusal s a d bs) (λ r. noWalk (plain r)) (walked (walk s t a d bs))
+
+-- ---- plain reading and reversal: no link is failed
+
+abbrev pub reading : Walked → Reading
+reading w = record { refusal = w .refusal; count = w .count; servers = w .servers }
+
+unfoldable pub readAnswer : Shape → ℕ → ℕ → List ℕ → Reading
+readAnswer s a d bs = reading (walkAnswer s [] a d bs)
+
+abbrev pub noWriting : Refusal → Writing
+noWriting r = record { refusal = r; bytes = replicate 8 0 }
+
+abbrev pub reversed : Shape → Walk → Writing
+reversed s (stopped r h) = noWriting (refusedAt r 1 h)
+reversed s (arrived vs ws) = record { refusal = none; bytes = encode s (reverse vs) }
+
+unfoldable pub reverseAnswer : Shape → ℕ → ℕ → List ℕ → Writing
+reverseAnswer s a d bs = answer (arrayRefusal s a d bs) (λ r. noWriting (plain r)) (reversed s (walk s [] a d bs))
+
+-- ---- writing: 1 to 3, 22, 4, 5, then 23 and 12 at each hop
+
+-- the first refusal of an address in a list: 4
+unfoldable pub serversRefusal : Shape → List ℕ → ℕ
+serversRefusal s [] = 0
+serversRefusal s (a ∷ bs) = serverRefusal s a or-else serversRefusal s bs
+
+unfoldable pub writeRefusal : Shape → List ℕ → ℕ
+writeRefusal s vs =
+    shapeRefusal s or-else 22 unless (leb 2 (length vs) && leb (length vs) 9) or-else serversRefusal s vs or-else 5 unless not (eqb (getD vs 0 0) (getD vs (length vs - 1) 0))
+
+-- what is written where no refusal arises on the way
+abbrev pub written : Shape → List ℕ → Refusal → Writing
+written s vs r = cond (eqb (r .number) 0) (record { refusal = none; bytes = encode s vs }) (noWriting r)
+
+unfoldable pub onTheWay : Shape → List ℕ → Refusal
+onTheWay s [] = none
+onTheWay s (a ∷ bs) = writeFrom s 0 (a ∷ []) [] a bs
+
+unfoldable pub writeAnswer : Shape → List ℕ → Writing
+writeAnswer s vs = answer (writeRefusal s vs) (λ r. noWriting (plain r)) (written s vs (onTheWay s vs))

@@ -1,0 +1,4 @@
+pub mod Lists
+pub mod Routes
+pub mod Walks
+pub mod Answers

@@ -1,0 +1,73 @@
+-- The reading rule: from the source, byte after byte, to the first arrival; the bytes after that are zero.
+use Prim.Native.Nat.{ℕ, zero, suc, _+_, _/_, _%_}
+use mathlib.Core.List.{List, [], _∷_, _++_}
+use mathlib.Core.Bool.{Bool, true, false, not, cond, _&&_}
+use lib.Dec.{ltb, leb, eqb}
+use Rattle.room.specs.declared.Shape.{Shape}
+use Rattle.room.specs.declared.Refusal.{Refusal}
+use Rattle.room.specs.Shapes.{bound}
+use Rattle.room.specs.Addresses.{digit, withDigit, differing}
+use Rattle.room.specs.Refusals.{none, refusedAt, _or-else_, _unless_}
+use Rattle.links.specs.Table.{live}
+use Rattle.path.specs.Lists.{isIn}
+use Rattle.path.specs.Routes.{switchAt, switchTo}
+
+-- what a walk comes to: a refusal, by its number and hop; or arrival, with the servers met and the switches used
+pub data Walk : Type 0 where
+  stopped : ℕ → ℕ → Walk
+  arrived : List ℕ → List ℕ → Walk
+
+-- where the hop by byte b from server a leads
+unfoldable pub hopTo : Shape → ℕ → ℕ → ℕ
+hopTo s a b = withDigit s (b / 64) (b % 64) a
+
+-- why byte b is no hop from server a: 8, 9, 10
+unfoldable pub hopRefusal : Shape → ℕ → ℕ → ℕ
+hopRefusal s a b =
+    8 unless leb (b / 64) (s .k) or-else 9 unless ltb (b % 64) (bound s (b / 64)) or-else 10 unless not (eqb (digit s (b / 64) a) (b % 64))
+
+-- why a walk that has met these servers and used these switches does not take the hop by byte b from a: 8, 9, 10, 11, 12
+unfoldable pub fault : Shape → List ℕ → List ℕ → List ℕ → ℕ → ℕ → ℕ
+fault s t met used a b =
+    hopRefusal s a b or-else 11 unless live t (b / 64) a (hopTo s a b) or-else 12 unless (not (isIn (hopTo s a b) met) && not (isIn (switchAt s (b / 64) a) used))
+
+-- arrived after h hops, with these bytes left: each must be zero, else 14 at the first that is not
+unfoldable pub ended : ℕ → List ℕ → List ℕ → List ℕ → Walk
+ended h met used [] = arrived met used
+ended h met used (b ∷ bs) = cond (eqb b 0) (ended (h + 1) met used bs) (stopped 14 (h + 1))
+
+-- walking on to d from server a after h hops, with these bytes left
+unfoldable pub walkFrom : Shape → List ℕ → ℕ → ℕ → List ℕ → List ℕ → ℕ → List ℕ → Walk
+walkFrom s t d h met used a [] = stopped 13 8
+walkFrom s t d h met used a (b ∷ bs) =
+    let r = fault s t met used a b in
+    let next = hopTo s a b in
+    let met' = met ++ (next ∷ []) in
+    let used' = used ++ (switchAt s (b / 64) a ∷ []) in
+    cond (eqb r 0)
+    (cond (eqb next d) (ended (h + 1) met' used' bs) (walkFrom s t d (h + 1) met' used' next bs))
+    (stopped r (h + 1))
+
+-- walking the bytes of an array from server a to server d over the live links of a table
+unfoldable pub walk : Shape → List ℕ → ℕ → ℕ → List ℕ → Walk
+walk s t a d bs = walkFrom s t d 0 (a ∷ []) [] a bs
+
+-- whether a list has exactly one element
+abbrev pub single : List ℕ → Bool
+single [] = false
+single (x ∷ []) = true
+single (x ∷ y ∷ ys) = false
+
+-- why a route that has met these servers and used these switches is not written on from a to b: 23, 12
+unfoldable pub writeFault : Shape → List ℕ → List ℕ → ℕ → ℕ → ℕ
+writeFault s met used a b =
+    23 unless single (differing s a b) or-else 12 unless (not (isIn b met) && not (isIn (switchTo s a b) used))
+
+-- the first refusal of writing the servers of a list after server a and h hops: 23, then 12, at each hop
+unfoldable pub writeFrom : Shape → ℕ → List ℕ → List ℕ → ℕ → List ℕ → Refusal
+writeFrom s h met used a [] = none
+writeFrom s h met used a (b ∷ bs) =
+    let r = writeFault s met used a b in
+    cond (eqb r 0)
+    (writeFrom s (h + 1) (met ++ (b ∷ [])) (used ++ (switchTo s a b ∷ [])) b bs)
+    (refusedAt r 1 (h + 1))

@@ -1,0 +1,5 @@
+pub mod DigitLaws
+pub mod RefusalLaws
+pub mod RoomLaws
+pub mod FourPlaces
+pub mod Unique

@@ -1,0 +1,202 @@
+-- Laws of refusals: chains of tests, what no refusal means, and answers.
+use Prim.Native.Nat.{ℕ, zero, suc, _+_, _≤_, _<_, suc-le-suc}
+use mathlib.Core.Path.{_≡_, refl, sym, ap, _∙_}
+use mathlib.Core.Bool.{Bool, true, false, cond, _&&_}
+use mathlib.Core.List.{List, [], _∷_}
+use native.Mathlib.Numerals.{add-one}
+use native.Mathlib.Omega.{arith}
+use native.Mathlib.Nat.{add-zero, zero-add, add-suc, suc-add, le-of-suc-le-suc}
+use lib.ListN.{length, getD, drop, drop-of-length-le}
+use lib.Seq.{drop-cons}
+use lib.Dec.{ltb, leb}
+use borrow.Author.Tests.{lt-ltb, le-ltb, le-leb, lt-leb, ltb-true, ltb-false, leb-true, leb-false}
+use Rattle.room.specs.declared.Shape.{Shape}
+use Rattle.room.specs.Shapes.{serversOf, bound, Valid, Server, Link, Value}
+use Rattle.room.specs.Refusals.{shapeRefusal, levelRefusal, serverRefusal, pairRefusal, linkRefusal, valueRefusal, placeBound, placesFit, placesRefusal, _or-else_, _unless_}
+use Rattle.room.specs.Answers.{answer}
+
+-- ---- chains: an earlier refusal is the whole chain's; with none it is the next test's
+
+pub or-else-left : (p q : ℕ) → (p ≡ 0 → ⊥) → p or-else q ≡ p
+unfolding _or-else_
+or-else-left zero q h = absurd (h refl)
+or-else-left (suc p) q h = refl
+
+pub or-else-zero : (p q : ℕ) → p or-else q ≡ 0 → (p ≡ 0) × (q ≡ 0)
+unfolding _or-else_
+or-else-zero zero q e = (refl, e)
+or-else-zero (suc p) q e = omega arith
+
+pub chain-stops : (r p q : ℕ) → r ≡ p → (r ≡ 0 → ⊥) → r ≡ p or-else q
+chain-stops r p q e h = rw (← e) (sym (or-else-left r q h))
+
+pub chain-goes : (r p q x : ℕ) → r ≡ p → r ≡ 0 → x ≡ q → x ≡ p or-else q
+unfolding _or-else_
+chain-goes r p q x e z g = rw (← e, z) g
+
+-- ---- tests
+
+pub test-held : (t : Bool) (r : ℕ) → suc r unless t ≡ 0 → t ≡ true
+test-held true r e = refl
+test-held false r e = let z : ⊥ = omega arith in absurd z
+
+pub both-held : (t u : Bool) → t && u ≡ true → (t ≡ true) × (u ≡ true)
+both-held true u e = (refl, e)
+both-held false u e = let z : _≡_ {A = ℕ} 0 1 = cc in let n : ⊥ = omega arith in absurd n
+
+-- a test against what a call gave
+pub under : (a p q r : ℕ) → p ≡ q → a < p → 0 ≡ r unless ltb a q
+under a p q r e h = let k : a < q = omega arith in simp (lt-ltb a q k)
+
+pub over : (a p q r : ℕ) → p ≡ q → p ≤ a → r ≡ r unless ltb a q
+over a p q r e h = let k : q ≤ a = omega arith in simp (le-ltb a q k)
+
+-- a test that a call made
+pub passed : (r : ℕ) (t u : Bool) → t ≡ u → t ≡ true → 0 ≡ r unless u
+passed r t u e h = rw (← e, h)
+
+pub failed : (r : ℕ) (t u : Bool) → t ≡ u → t ≡ false → r ≡ r unless u
+failed r t u e h = rw (← e, h)
+
+-- ---- shapes
+
+pub valid-of : (s : Shape) → shapeRefusal s ≡ 0 → Valid s
+unfolding shapeRefusal
+valid-of s e =
+    let x = or-else-zero _ (3 unless leb (serversOf s) 4096) e in
+    let y = or-else-zero (1 unless (leb 2 (s .n) && leb (s .n) 64)) (2 unless leb (s .k) 3) (x .0) in
+    let n = both-held (leb 2 (s .n)) (leb (s .n) 64) (test-held _ 0 (y .0)) in
+    record {
+      two = leb-true 2 (s .n) (n .0);
+      ports = leb-true (s .n) 64 (n .1);
+      levels = leb-true (s .k) 3 (test-held _ 1 (y .1));
+      small = leb-true (serversOf s) 4096 (test-held _ 2 (x .1));
+    }
+
+pub few-ports : (s : Shape) → s .n < 2 → 1 ≡ shapeRefusal s
+unfolding shapeRefusal _or-else_
+few-ports s h = simp lt-leb
+
+pub many-ports : (s : Shape) → 2 ≤ s .n → 64 < s .n → 1 ≡ shapeRefusal s
+unfolding shapeRefusal _or-else_
+many-ports s a b = simp (le-leb, lt-leb)
+
+pub many-levels : (s : Shape) → 2 ≤ s .n → s .n ≤ 64 → 3 < s .k → 2 ≡ shapeRefusal s
+unfolding shapeRefusal _or-else_
+many-levels s a b d = simp (le-leb, lt-leb)
+
+pub many-servers : (s : Shape) → 2 ≤ s .n → s .n ≤ 64 → s .k ≤ 3 → 4096 < serversOf s → 3 ≡ shapeRefusal s
+unfolding shapeRefusal _or-else_
+many-servers s a b d e = simp (le-leb, lt-leb)
+
+pub valid-none : {s : Shape} → Valid s → 0 ≡ shapeRefusal s
+unfolding shapeRefusal _or-else_
+valid-none {s} v = simp (le-leb 2 (s .n) (v .two), le-leb (s .n) 64 (v .ports), le-leb (s .k) 3 (v .levels), le-leb (serversOf s) 4096 (v .small))
+
+-- ---- servers, links, values: no refusal, and there is one; there is one, and no refusal
+
+pub level-of : (s : Shape) (l : ℕ) → levelRefusal s l ≡ 0 → Valid s × (l ≤ s .k)
+unfolding levelRefusal
+level-of s l e =
+    let z = or-else-zero (shapeRefusal s) _ e in (valid-of s (z .0), leb-true l (s .k) (test-held _ 19 (z .1)))
+
+pub server-of : (s : Shape) (a : ℕ) → serverRefusal s a ≡ 0 → Server s a
+unfolding serverRefusal
+server-of s a e =
+    let z = or-else-zero (shapeRefusal s) _ e in
+    record { valid = valid-of s (z .0); below = ltb-true a (serversOf s) (test-held _ 3 (z .1)) }
+
+pub server-none : {s : Shape} {a : ℕ} → Server s a → 0 ≡ serverRefusal s a
+unfolding serverRefusal
+server-none {s} {a} h = chain-goes _ _ _ _ (valid-none (h .valid)) refl (simp (lt-ltb a (serversOf s) (h .below)))
+
+pub pair-of : (s : Shape) (a b : ℕ) → pairRefusal s a b ≡ 0 → Server s a × Server s b
+unfolding pairRefusal
+pair-of s a b e = let z = or-else-zero (serverRefusal s a) _ e in (server-of s a (z .0), server-of s b (z .1))
+
+pub pair-none : {s : Shape} {a b : ℕ} → Server s a → Server s b → 0 ≡ pairRefusal s a b
+unfolding pairRefusal
+pair-none ha hb = chain-goes _ _ _ _ (server-none ha) refl (server-none hb)
+
+pub link-of : (s : Shape) (a l : ℕ) → linkRefusal s a l ≡ 0 → Link s a l
+unfolding linkRefusal
+link-of s a l e =
+    let z = or-else-zero (serverRefusal s a) _ e in
+    record { server = server-of s a (z .0); level = leb-true l (s .k) (test-held _ 19 (z .1)) }
+
+pub link-none : {s : Shape} {a l : ℕ} → Link s a l → 0 ≡ linkRefusal s a l
+unfolding linkRefusal
+link-none {s} {a} {l} h = chain-goes _ _ _ _ (server-none (h .server)) refl (simp (le-leb l (s .k) (h .level)))
+
+pub value-of : (s : Shape) (a l v : ℕ) → valueRefusal s a l v ≡ 0 → Value s a l v
+unfolding valueRefusal
+value-of s a l v e =
+    let z = or-else-zero (linkRefusal s a l) _ e in
+    record { link = link-of s a l (z .0); value = ltb-true v (bound s l) (test-held _ 20 (z .1)) }
+
+pub value-none : {s : Shape} {a l v : ℕ} → Value s a l v → 0 ≡ valueRefusal s a l v
+unfolding valueRefusal
+value-none {s} {a} {l} {v} h = chain-goes _ _ _ _ (link-none (h .link)) refl (simp (lt-ltb v (bound s l) (h .value)))
+
+-- ---- four places
+
+pub fit-step : (s : Shape) (i : ℕ) (ds : List ℕ) → i < length ds → getD ds i 0 < placeBound s i → placesFit s i (drop i ds) ≡ placesFit s (i + 1) (drop (i + 1) ds)
+unfolding placesFit
+fit-step s i ds h b = rw (add-one, drop-cons ds i 0 h) (simp (lt-ltb _ _ b))
+
+pub fit-stop : (s : Shape) (i : ℕ) (ds : List ℕ) → i < length ds → placeBound s i ≤ getD ds i 0 → placesFit s i (drop i ds) ≡ false
+unfolding placesFit
+fit-stop s i ds h b = rw (drop-cons ds i 0 h) (simp (le-ltb _ _ b))
+
+pub fit-done : (s : Shape) (i : ℕ) (ds : List ℕ) → length ds ≤ i → placesFit s i (drop i ds) ≡ true
+unfolding placesFit
+fit-done s i ds h = rw (drop-of-length-le ds h)
+
+fit-at : (s : Shape) (o : ℕ) (ds : List ℕ) → placesFit s o ds ≡ true → (i : ℕ) → i < length ds → getD ds i 0 < placeBound s (o + i)
+unfolding placesFit
+fit-at s o [] e i h = omega arith
+fit-at s o (d ∷ ds) e zero h = rw add-zero (ltb-true d (placeBound s o) (both-held (ltb d (placeBound s o)) _ e .0))
+fit-at s o (d ∷ ds) e (suc i) h =
+    rw (add-suc, ← suc-add) (fit-at s (suc o) ds (both-held (ltb d (placeBound s o)) _ e .1) i (le-of-suc-le-suc h))
+
+fit-all : (s : Shape) (o : ℕ) (ds : List ℕ) → ((i : ℕ) → i < length ds → getD ds i 0 < placeBound s (o + i)) → placesFit s o ds ≡ true
+unfolding placesFit
+fit-all s o [] h = refl
+fit-all s o (d ∷ ds) h =
+    rw (lt-ltb d (placeBound s o) (rw add-zero at (h zero (omega arith))))
+    (fit-all s (suc o) ds (λ i p. rw (suc-add, ← add-suc) (h (suc i) (suc-le-suc p))))
+
+-- places that are not refused
+pub record Places (s : Shape) (ds : List ℕ) : Type 0 where
+  pub valid : Valid s
+  pub at : (i : ℕ) → i < length ds → getD ds i 0 < placeBound s i
+
+pub places-of : (s : Shape) (ds : List ℕ) → placesRefusal s ds ≡ 0 → Places s ds
+unfolding placesRefusal
+places-of s ds e =
+    let z = or-else-zero (shapeRefusal s) _ e in
+    record { valid = valid-of s (z .0); at = λ i h. rw zero-add at (fit-at s 0 ds (test-held _ 20 (z .1)) i h) }
+
+pub places-none : {s : Shape} {ds : List ℕ} → Places s ds → 0 ≡ placesRefusal s ds
+unfolding placesRefusal
+places-none {s} {ds} h =
+    chain-goes _ _ _ _ (valid-none (h .valid)) refl (rw (fit-all s 0 ds (λ i p. rw zero-add (h .at i p))))
+
+-- ---- answers: a refusal and zeros, or what was asked for
+
+module _ {X : Type 0} where
+  pub answer-refused : (r q : ℕ) (refused : ℕ → X) (x y : X) → x ≡ refused r → r ≡ q → (r ≡ 0 → ⊥) → x ≡ answer q refused y
+  answer-refused zero q refused x y e g h = absurd (h refl)
+  answer-refused (suc r) q refused x y e g h = rw (← g) e
+
+  pub answer-given : (r q : ℕ) (refused : ℕ → X) (x y : X) → r ≡ q → r ≡ 0 → x ≡ y → x ≡ answer q refused y
+  answer-given r q refused x y g z e = rw (← g, z) e
+
+  -- for a caller: where the answer's number is 0 there is no refusal, and it is what was asked for
+  pub answered : (number : X → ℕ) (refused : ℕ → X) → ((r : ℕ) → number (refused r) ≡ r) → (q : ℕ) (x y : X) → x ≡ answer q refused y → number x ≡ 0 → (q ≡ 0) × (x ≡ y)
+  answered number refused same zero x y e z = (refl, e)
+  answered number refused same (suc q) x y e z = let w : suc q ≡ 0 = sym (same (suc q)) ∙ ap number (sym e) ∙ z in let n : ⊥ = omega arith in absurd n
+
+  -- and where there is none, the answer is what was asked for
+  pub answer-none : (q : ℕ) (refused : ℕ → X) (y : X) → 0 ≡ q → answer q refused y ≡ y
+  answer-none q refused y e = rw (← e)

@@ -1,0 +1,519 @@
+-- Laws of the room: digits and addresses undo each other, what setting a digit does, and when two servers share a switch.
+use Prim.Native.Nat.{ℕ, zero, suc, _+_, _-_, _*_, _/_, _%_, _^_, _≤_, _<_, suc-le-suc, zero-le}
+use mathlib.Core.Path.{_≡_, refl, sym, ap, _∙_}
+use mathlib.Core.Logic.{_≢_, _⊎_, inl, inr, ⊎-elim, _↔_}
+use mathlib.Core.Bool.{Bool, true, false, cond}
+use mathlib.Core.List.{List, [], _∷_, _++_}
+use native.Mathlib.Numerals.{add-one}
+use native.Mathlib.Omega.{arith}
+use native.Mathlib.Decide.{decLe, decLt, ℕ-discrete}
+use native.Mathlib.Nat.{one-le-pow, pow-suc, le-refl, mod-add-div, mul-le-mul-left, div-le-self, mul-div-cancel, le-of-suc-le-suc, add-zero, zero-add, add-suc, suc-add}
+use lib.ListN.{length, getD, set, take, drop, replicate, length-set, length-take, length-append, length-replicate, drop-of-length-le, List·getD-eq-default}
+use lib.Seq.{getD-set-same, getD-set-other, set-getD, set-append-left, ext-getD, getD-append-add, take-at, drop-at, length-take-le, drop-cons, getD-take}
+use lib.Dec.{ltb, leb, lit<, eqb}
+use lib.Arith.{lt-one}
+use borrow.Author.Tests.{le-leb, lt-leb, eq-eqb, ne-eqb}
+use Rattle.room.specs.declared.Shape.{Shape}
+use Rattle.room.specs.declared.Between.{Between}
+use Rattle.room.specs.Digits.{digitsOf, addressOf, strike, padded, differFrom, Below}
+use Rattle.room.specs.Shapes.{serversOf, bound, Valid, Server, Link, Value}
+use Rattle.room.specs.Addresses.{digits, digit, withDigit, switchOf, switchesAt, differing, Written, Beside, Neighbours}
+use Rattle.room.specs.Refusals.{placeBound, none}
+use Rattle.room.specs.Answers.{onlyLevel, noBetween}
+use Rattle.room.proofs.DigitLaws.{length-digits, digits-below, address-digits, digits-address, address-lt, address-injective, strike-keeps, strike-same, strike-agree, length-strike, set-keeps, digit-closed, with-closed, strike-closed, padded-digits, address-padded, But}
+use Rattle.room.proofs.RefusalLaws.{Places}
+
+-- ---- the bound of a level, and the number of servers
+
+pub bound-le : {s : Shape} → Valid s → (l : ℕ) → bound s l ≤ s .n
+unfolding bound
+bound-le {s} v l = le-refl (s .n)
+
+-- every digit has two values or more
+pub bound-two : {s : Shape} → Valid s → (l : ℕ) → 2 ≤ bound s l
+unfolding bound
+bound-two v l = v .two
+
+pub positive : {s : Shape} → Valid s → 0 < s .n
+positive v = omega arith
+
+-- as the program computes it
+pub servers-power : (s : Shape) → s .n ^ (s .k + 1) ≡ serversOf s
+unfolding serversOf
+servers-power s = ap (λ (x : ℕ). s .n ^ x) (add-one (s .k))
+
+pub servers-le : {s : Shape} → Valid s → serversOf s ≤ s .n ^ suc (s .k)
+unfolding serversOf
+servers-le {s} v = le-refl (s .n ^ suc (s .k))
+
+-- ---- digits and addresses
+
+pub digits-long : (s : Shape) (a : ℕ) → length (digits s a) ≡ suc (s .k)
+unfolding digits
+digits-long s a = length-digits (s .n) (suc (s .k)) a
+
+-- a digit is below its level's bound
+pub digit-lt : {s : Shape} {a : ℕ} → Server s a → (l : ℕ) → l ≤ s .k → digit s l a < bound s l
+unfolding digit digits bound
+digit-lt {s} {a} h l p =
+    digits-below (s .n) (suc (s .k)) a (positive (h .valid)) .at l (rw (length-digits (s .n) (suc (s .k)) a) (omega arith))
+
+pub written-digits : {s : Shape} {a : ℕ} → Server s a → Written s (digits s a)
+unfolding digit
+written-digits {s} {a} h = record { long = digits-long s a; small = digit-lt h }
+
+-- digits that are below their bounds are below the base
+pub written-below : {s : Shape} {ds : List ℕ} → Valid s → Written s ds → Below (s .n) ds
+written-below {s} {ds} v w =
+    record { at = λ i p. omega (arith, w .small i (omega (arith, w .long)), bound-le v i) }
+
+-- the address of the digits of a server is the server
+pub read-back : {s : Shape} {a : ℕ} → Server s a → addressOf (s .n) (digits s a) ≡ a
+unfolding digits
+read-back {s} {a} h =
+    address-digits (s .n) (suc (s .k)) a (positive (h .valid)) (omega (arith, h .below, servers-le (h .valid)))
+
+-- the digits of the address of digits are those digits
+pub write-back : {s : Shape} {ds : List ℕ} → Valid s → Written s ds → digits s (addressOf (s .n) ds) ≡ ds
+unfolding digits
+write-back {s} {ds} v w =
+    ap (λ (m : ℕ). digitsOf (s .n) m (addressOf (s .n) ds)) (sym (w .long)) ∙ digits-address (s .n) ds (written-below v w)
+
+-- the address of digits is a server
+pub written-server : {s : Shape} {ds : List ℕ} → Valid s → Written s ds → Server s (addressOf (s .n) ds)
+unfolding serversOf
+written-server {s} {ds} v w = record { valid = v; below = rw (← w .long) (address-lt (s .n) ds (written-below v w)) }
+
+-- equal digits, equal servers
+pub same-digits : {s : Shape} {a b : ℕ} → Server s a → Server s b → ((l : ℕ) → l ≤ s .k → digit s l a ≡ digit s l b) → a ≡ b
+unfolding digit
+same-digits {s} {a} {b} ha hb q =
+    sym (read-back ha)
+    ∙ ap (addressOf (s .n)) (ext-getD 0 (digits s a) (digits s b) (digits-long s a ∙ sym (digits-long s b)) (λ i p. q i (omega (arith, digits-long s a))))
+    ∙ read-back hb
+
+-- past level k there is no digit
+pub digit-past : (s : Shape) (a l : ℕ) → s .k < l → digit s l a ≡ 0
+unfolding digit
+digit-past s a l h = let z : length (digits s a) ≤ l = omega (arith, digits-long s a) in List·getD-eq-default (digits s a) 0 z
+
+-- ---- setting a digit
+
+written-with : {s : Shape} {a l v : ℕ} → Value s a l v → Written s (set (digits s a) l v)
+unfolding digit
+written-with {s} {a} {l} {v} h =
+    record {
+      long = length-set (digits s a) l v ∙ digits-long s a;
+      small = λ i p.
+          elim (ℕ-discrete i l) [
+            | yes q ↦ rw (q, getD-set-same (digits s a) l v 0 (rw digits-long (omega arith))) (h .value)
+            | no q ↦ rw (getD-set-other (digits s a) l i v 0 q) (digit-lt (h .link .server) i p)
+          ];
+    }
+
+pub with-digits : {s : Shape} {a l v : ℕ} → Value s a l v → digits s (withDigit s l v a) ≡ set (digits s a) l v
+unfolding withDigit
+with-digits h = write-back (h .link .server .valid) (written-with h)
+
+-- it stays in the room
+pub with-server : {s : Shape} {a l v : ℕ} → Value s a l v → Server s (withDigit s l v a)
+unfolding withDigit
+with-server h = written-server (h .link .server .valid) (written-with h)
+
+-- the digit is what it was set to
+pub with-same : {s : Shape} {a l v : ℕ} → Value s a l v → digit s l (withDigit s l v a) ≡ v
+unfolding digit
+with-same {s} {a} {l} {v} h = rw (with-digits h) (getD-set-same (digits s a) l v 0 (rw digits-long (omega arith)))
+
+-- and the others are kept
+pub with-other : {s : Shape} {a l v : ℕ} → Value s a l v → (i : ℕ) → i ≢ l → digit s i (withDigit s l v a) ≡ digit s i a
+unfolding digit
+with-other {s} {a} {l} {v} h i q = rw (with-digits h) (getD-set-other (digits s a) l i v 0 q)
+
+pub with-own : {s : Shape} {a : ℕ} → Server s a → (l : ℕ) → withDigit s l (digit s l a) a ≡ a
+unfolding withDigit digit
+with-own {s} {a} h l = ap (addressOf (s .n)) (set-getD (digits s a) l 0) ∙ read-back h
+
+pub with-beside : {s : Shape} {a l v : ℕ} → Value s a l v → Beside s l a (withDigit s l v a)
+with-beside h = record { agree = λ i q. sym (with-other h i q) }
+
+-- a server that agrees in every digit but l is reached by setting digit l
+pub beside-with : {s : Shape} {l a b : ℕ} → Link s a l → Server s b → Beside s l a b → withDigit s l (digit s l b) a ≡ b
+beside-with {s} {l} {a} {b} h hb q =
+    let v : Value s a l (digit s l b) = record { link = h; value = digit-lt hb l (h .level) } in
+    same-digits (with-server v) hb
+    (λ i p. elim (ℕ-discrete i l) [ yes e ↦ rw e (with-same v) | no e ↦ with-other v i e ∙ q .agree i e ])
+
+-- ---- switches
+
+pub same-switch : {s : Shape} {l a b : ℕ} → l ≤ s .k → Beside s l a b → switchOf s l a ≡ switchOf s l b
+unfolding switchOf digit
+same-switch {s} {l} {a} {b} h q =
+    ap (addressOf (s .n))
+    (strike-same l (digits s a) (digits s b) (rw digits-long (omega arith))
+    (record { long = digits-long s a ∙ sym (digits-long s b); agree = q .agree }))
+
+pub switch-same : {s : Shape} {l a b : ℕ} → Link s a l → Server s b → switchOf s l a ≡ switchOf s l b → Beside s l a b
+unfolding switchOf digit
+switch-same {s} {l} {a} {b} h hb q =
+    let la : l < length (digits s a) = rw digits-long (omega arith) in
+    let lb : l < length (digits s b) = rw digits-long (omega arith) in
+    let long : length (digits s a) ≡ length (digits s b) = digits-long s a ∙ sym (digits-long s b) in
+    let v = hb .valid in
+    let e : strike l (digits s a) ≡ strike l (digits s b) =
+    address-injective (s .n) (strike l (digits s a)) (strike l (digits s b))
+    (omega (arith, length-strike l (digits s a) la, length-strike l (digits s b) lb))
+    (strike-keeps (s .n) l (digits s a) (written-below v (written-digits (h .server))) la)
+    (strike-keeps (s .n) l (digits s b) (written-below v (written-digits hb)) lb)
+    q in
+    record { agree = strike-agree l (digits s a) (digits s b) long e .agree }
+
+-- two servers have the same switch at level l exactly when they agree in every digit but l
+pub switch-exactly : {s : Shape} {l a b : ℕ} → Link s a l → Server s b → (switchOf s l a ≡ switchOf s l b) ↔ Beside s l a b
+switch-exactly h hb = (switch-same h hb, same-switch (h .level))
+
+pub with-switch : {s : Shape} {a l v : ℕ} → Value s a l v → switchOf s l (withDigit s l v a) ≡ switchOf s l a
+with-switch h = sym (same-switch (h .link .level) (with-beside h))
+
+-- ---- how many switches a level has
+
+pub switches-power : {s : Shape} → Valid s → (l : ℕ) → switchesAt s l ≡ s .n ^ s .k
+unfolding switchesAt serversOf bound
+switches-power {s} v l = rw pow-suc (mul-div-cancel (s .n ^ s .k) (positive v))
+
+-- a switch's number is below the number of switches of its level
+pub switch-lt : {s : Shape} {a l : ℕ} → Link s a l → switchOf s l a < switchesAt s l
+unfolding switchOf
+switch-lt {s} {a} {l} h =
+    let v = h .server .valid in
+    let q : l < length (digits s a) = rw digits-long (omega arith) in
+    let e : length (strike l (digits s a)) ≡ s .k = omega (arith, length-strike l (digits s a) q, digits-long s a) in
+    omega (
+      arith,
+      switches-power v l,
+      ap (λ (x : ℕ). s .n ^ x) e,
+      address-lt (s .n) (strike l (digits s a)) (strike-keeps (s .n) l (digits s a) (written-below v (written-digits (h .server))) q),
+    )
+
+-- a list with x put in at place l, the rest moved up
+pub put-in : ℕ → ℕ → List ℕ → List ℕ
+put-in l x ds = take l ds ++ (x ∷ drop l ds)
+
+strike-put : (l x : ℕ) (ds : List ℕ) → l ≤ length ds → strike l (put-in l x ds) ≡ ds
+unfolding put-in
+strike-put zero x ds h = refl
+strike-put (suc l) x [] h = let z : ⊥ = omega arith in absurd z
+strike-put (suc l) x (d ∷ ds) h = ap (λ (y : List ℕ). d ∷ y) (strike-put l x ds (le-of-suc-le-suc h))
+
+put-long : (l x : ℕ) (ds : List ℕ) → length (put-in l x ds) ≡ suc (length ds)
+unfolding put-in
+put-long zero x ds = refl
+put-long (suc l) x [] = refl
+put-long (suc l) x (d ∷ ds) = ap suc (put-long l x ds)
+
+put-small : (n l : ℕ) (ds : List ℕ) → 0 < n → Below n ds → (i : ℕ) → i < length (put-in l 0 ds) → getD (put-in l 0 ds) i 0 < n
+unfolding put-in
+put-small n zero ds p b zero h = p
+put-small n zero ds p b (suc i) h = b .at i (le-of-suc-le-suc h)
+put-small n (suc l) [] p b zero h = p
+put-small n (suc l) [] p b (suc i) h = let z : ⊥ = omega arith in absurd z
+put-small n (suc l) (d ∷ ds) p b zero h = b .at zero (suc-le-suc zero-le)
+put-small n (suc l) (d ∷ ds) p b (suc i) h =
+    put-small n l ds p (record { at = λ j q. b .at (suc j) (suc-le-suc q) }) i (le-of-suc-le-suc h)
+
+-- a server that has switch w at level l
+pub record Joins (s : Shape) (l w : ℕ) : Type 0 where
+  pub who : ℕ
+  pub server : Server s who
+  pub there : switchOf s l who ≡ w
+
+-- and every number below it is that of a switch of the level
+pub switch-all : {s : Shape} {l : ℕ} → Valid s → l ≤ s .k → (w : ℕ) → w < switchesAt s l → Joins s l w
+unfolding switchOf bound
+switch-all {s} {l} v h w p = record { who = addressOf (s .n) whole; server = written-server v written; there = there }
+  where
+    low : List ℕ
+    low = digitsOf (s .n) (s .k) w
+
+    whole : List ℕ
+    whole = put-in l 0 low
+
+    fits : w < s .n ^ s .k
+    fits = omega (arith, switches-power v l)
+
+    written : Written s whole
+    written =
+        record {
+          long = put-long l 0 low ∙ ap suc (length-digits (s .n) (s .k) w);
+          small = λ i q. put-small (s .n) l low (positive v) (digits-below (s .n) (s .k) w (positive v)) i (omega (arith, put-long l 0 low, length-digits (s .n) (s .k) w));
+        }
+
+    there : addressOf (s .n) (strike l (digits s (addressOf (s .n) whole))) ≡ w
+    there =
+        ap (λ (x : List ℕ). addressOf (s .n) (strike l x)) (write-back v written)
+        ∙ ap (addressOf (s .n)) (strike-put l 0 low (omega (arith, length-digits (s .n) (s .k) w)))
+        ∙ address-digits (s .n) (s .k) w (positive v) fits
+
+-- ---- neighbours
+
+pub differ-step : (i : ℕ) (ds es : List ℕ) → i < length ds → i < length es → getD ds i 0 ≡ getD es i 0 → differFrom i (drop i ds) (drop i es) ≡ differFrom (i + 1) (drop (i + 1) ds) (drop (i + 1) es)
+unfolding differFrom
+differ-step i ds es p q e = rw (add-one, drop-cons ds i 0 p, drop-cons es i 0 q) (simp (eq-eqb _ _ e))
+
+pub differ-here : (i : ℕ) (ds es : List ℕ) → i < length ds → i < length es → (getD ds i 0 ≡ getD es i 0 → ⊥) → differFrom i (drop i ds) (drop i es) ≡ i ∷ differFrom (i + 1) (drop (i + 1) ds) (drop (i + 1) es)
+unfolding differFrom
+differ-here i ds es p q e = rw (add-one, drop-cons ds i 0 p, drop-cons es i 0 q) (simp (ne-eqb _ _ e))
+
+pub differ-end : (i : ℕ) (ds es : List ℕ) → length ds ≤ i → differFrom i (drop i ds) (drop i es) ≡ []
+unfolding differFrom
+differ-end i ds es h = rw (drop-of-length-le ds h)
+
+differ-none : (o : ℕ) (ds : List ℕ) → differFrom o ds ds ≡ []
+unfolding differFrom
+differ-none o [] = refl
+differ-none o (d ∷ ds) = rw (eq-eqb d d refl) (differ-none (suc o) ds)
+
+none-differ : (o : ℕ) (ds es : List ℕ) → length ds ≡ length es → differFrom o ds es ≡ [] → ds ≡ es
+unfolding differFrom
+none-differ o [] [] l q = refl
+none-differ o [] (e ∷ es) l q = let z : ⊥ = omega arith in absurd z
+none-differ o (d ∷ ds) [] l q = let z : ⊥ = omega arith in absurd z
+none-differ o (d ∷ ds) (e ∷ es) l q =
+    elim (ℕ-discrete d e) [
+      | yes h ↦ let r : differFrom (suc o) ds es ≡ [] = rw (eq-eqb d e h) at q in
+          ap (λ (x : ℕ). x ∷ ds) h ∙ ap (λ (x : List ℕ). e ∷ x) (none-differ (suc o) ds es (omega arith) r)
+      | no h ↦ let r : o ∷ differFrom (suc o) ds es ≡ [] = rw (ne-eqb d e h) at q in
+          let z : _≡_ {A = ℕ} 0 1 = cc in let n : ⊥ = omega arith in absurd n
+    ]
+
+-- two lists differ in place l only
+pub record Only (l : ℕ) (ds es : List ℕ) : Type 0 where
+  pub inside : l < length ds
+  pub differ : getD ds l 0 ≢ getD es l 0
+  pub agree : (i : ℕ) → i ≢ l → getD ds i 0 ≡ getD es i 0
+
+pub only-differ : (o l : ℕ) (ds es : List ℕ) → length ds ≡ length es → Only l ds es → differFrom o ds es ≡ (o + l) ∷ []
+unfolding differFrom
+only-differ o l [] es q h = let z : ⊥ = omega (arith, h .inside) in absurd z
+only-differ o l (d ∷ ds) [] q h = let z : ⊥ = omega arith in absurd z
+only-differ o zero (d ∷ ds) (e ∷ es) q h =
+    let r : ds ≡ es = ext-getD 0 ds es (omega arith) (λ i p. h .agree (suc i) (omega arith)) in
+    rw (ne-eqb d e (h .differ), add-zero) (ap (λ (x : List ℕ). o ∷ differFrom (suc o) x es) r ∙ ap (λ (x : List ℕ). o ∷ x) (differ-none (suc o) es))
+only-differ o (suc l) (d ∷ ds) (e ∷ es) q h =
+    rw (eq-eqb d e (h .agree zero (omega arith)), add-suc, ← suc-add)
+    (only-differ (suc o) l ds es (omega arith)
+    (record { inside = le-of-suc-le-suc (h .inside); differ = h .differ; agree = λ i p. h .agree (suc i) (omega arith) }))
+
+pub differ-only : (o m : ℕ) (ds es : List ℕ) → length ds ≡ length es → differFrom o ds es ≡ m ∷ [] → (l : ℕ) × (m ≡ o + l) × Only l ds es
+unfolding differFrom
+differ-only o m [] es q h = let z : _≡_ {A = ℕ} 0 1 = cc in let n : ⊥ = omega arith in absurd n
+differ-only o m (d ∷ ds) [] q h = let n : ⊥ = omega arith in absurd n
+differ-only o m (d ∷ ds) (e ∷ es) q h =
+    elim (ℕ-discrete d e) [
+      | yes y ↦ let r : differFrom (suc o) ds es ≡ m ∷ [] = rw (eq-eqb d e y) at h in
+          let t = differ-only (suc o) m ds es (omega arith) r in
+          (suc (t .0), omega (arith, t .1), record { inside = suc-le-suc (t .2 .inside); differ = t .2 .differ; agree = after y (t .0) (t .2 .agree) })
+      | no y ↦ let r : o ∷ differFrom (suc o) ds es ≡ m ∷ [] = rw (ne-eqb d e y) at h in
+          let u : o ≡ m = cc in
+          let w : differFrom (suc o) ds es ≡ [] = cc in
+          (zero, omega arith, record { inside = suc-le-suc zero-le; differ = y; agree = here (none-differ (suc o) ds es (omega arith) w) })
+    ]
+  where
+    after : d ≡ e → (l : ℕ) → ((i : ℕ) → i ≢ l → getD ds i 0 ≡ getD es i 0) → (i : ℕ) → i ≢ suc l → getD (d ∷ ds) i 0 ≡ getD (e ∷ es) i 0
+    after y l f zero p = y
+    after y l f (suc i) p = f i (λ t. p (ap suc t))
+
+    here : ds ≡ es → (i : ℕ) → i ≢ zero → getD (d ∷ ds) i 0 ≡ getD (e ∷ es) i 0
+    here y zero p = absurd (p refl)
+    here y (suc i) p = ap (λ (x : List ℕ). getD x i 0) y
+
+-- two servers differ in one level alone exactly when they are neighbours there
+pub neighbours-exactly : {s : Shape} {a b : ℕ} → Server s a → Server s b → (l : ℕ) → (differing s a b ≡ l ∷ []) ↔ Neighbours s l a b
+unfolding differing digit
+neighbours-exactly {s} {a} {b} ha hb l = (there, back)
+  where
+    long : length (digits s a) ≡ length (digits s b)
+    long = digits-long s a ∙ sym (digits-long s b)
+
+    there : differFrom 0 (digits s a) (digits s b) ≡ l ∷ [] → Neighbours s l a b
+    there e =
+        let t = differ-only 0 l (digits s a) (digits s b) long e in
+        let m : t .0 ≡ l = omega (arith, t .1) in
+        let o : Only l (digits s a) (digits s b) = rw m at (t .2) in
+        record { level = omega (arith, o .inside, digits-long s a); beside = record { agree = o .agree }; differ = o .differ }
+
+    back : Neighbours s l a b → differFrom 0 (digits s a) (digits s b) ≡ l ∷ []
+    back h =
+        rw zero-add at (only-differ 0 l (digits s a) (digits s b) long
+        (record { inside = rw digits-long (omega (arith, h .level)); differ = h .differ; agree = h .beside .agree }))
+
+-- ---- four places
+
+pub digits-four : {s : Shape} {a : ℕ} → Server s a → digitsOf (s .n) 4 a ≡ padded (digits s a)
+unfolding digits
+digits-four {s} {a} h =
+    padded-digits (s .n) (suc (s .k)) a (positive (h .valid)) (omega (arith, h .valid .levels)) (omega (arith, h .below, servers-le (h .valid)))
+
+zeros-at : (n i : ℕ) → _≡_ {A = ℕ} (getD (replicate n 0) i 0) 0
+zeros-at zero i = refl
+zeros-at (suc n) zero = refl
+zeros-at (suc n) (suc i) = zeros-at n i
+
+-- zeros past the end are not seen
+pub pad-at : (ds : List ℕ) (n i : ℕ) → getD (ds ++ replicate n 0) i 0 ≡ getD ds i 0
+pad-at [] n i = zeros-at n i
+pad-at (d ∷ ds) n zero = refl
+pad-at (d ∷ ds) n (suc i) = pad-at ds n i
+
+pub padded-at : (ds : List ℕ) (i : ℕ) → getD (padded ds) i 0 ≡ getD ds i 0
+unfolding padded
+padded-at ds i = pad-at ds (4 - length ds) i
+
+pub padded-long : (ds : List ℕ) → length ds ≤ 4 → length (padded ds) ≡ 4
+unfolding padded
+padded-long ds h = rw (length-append, length-replicate {A = ℕ} (4 - length ds) 0) (omega arith)
+
+pub place-digit : (s : Shape) (a l : ℕ) → getD (padded (digits s a)) l 0 ≡ digit s l a
+unfolding digit
+place-digit s a l = padded-at (digits s a) l
+
+-- every digit of a list with zeros behind it is below n
+pub below-padded : (n : ℕ) (ds : List ℕ) (m : ℕ) → 0 < n → Below n ds → Below n (ds ++ replicate m 0)
+below-padded n ds m p b =
+    record {
+      at = λ i h.
+          rw (pad-at ds m i)
+          (elim (decLt i (length ds)) [ yes y ↦ b .at i y | no y ↦ let z : length ds ≤ i = omega arith in rw (List·getD-eq-default ds 0 z) p ]);
+    }
+
+pub padded-below : {s : Shape} {ds : List ℕ} → Valid s → Written s ds → Below (s .n) (padded ds)
+unfolding padded
+padded-below {s} {ds} v w = below-padded (s .n) ds (4 - length ds) (positive v) (written-below v w)
+
+-- setting a digit among four places
+pub with-four : {s : Shape} {a l v : ℕ} → Value s a l v → addressOf (s .n) (set (padded (digits s a)) l v) ≡ withDigit s l v a
+unfolding withDigit padded
+with-four {s} {a} {l} {v} h =
+    let q : l < length (digits s a) = rw digits-long (omega arith) in
+    let z = 4 - length (digits s a) in
+    ap (addressOf (s .n)) (set-append-left (digits s a) (replicate z 0) l v q)
+    ∙ address-padded (s .n) (set (digits s a) l v) z
+
+pub with-four-below : {s : Shape} {a l v : ℕ} → Value s a l v → Below (s .n) (set (padded (digits s a)) l v)
+with-four-below {s} {a} {l} {v} h =
+    set-keeps (s .n) l v (padded (digits s a)) (padded-below (h .link .server .valid) (written-digits (h .link .server)))
+    (omega (arith, h .value, bound-le (h .link .server .valid) l))
+
+strike-padded : (l : ℕ) (ds zs : List ℕ) → l < length ds → strike l (ds ++ zs) ≡ strike l ds ++ zs
+strike-padded l [] zs h = let z : ⊥ = omega arith in absurd z
+strike-padded zero (d ∷ ds) zs h = refl
+strike-padded (suc l) (d ∷ ds) zs h = ap (λ (x : List ℕ). d ∷ x) (strike-padded l ds zs (le-of-suc-le-suc h))
+
+-- striking a digit out of four places
+pub strike-four : {s : Shape} {a l : ℕ} → Link s a l → addressOf (s .n) (strike l (padded (digits s a)) ++ (0 ∷ [])) ≡ switchOf s l a
+unfolding switchOf padded
+strike-four {s} {a} {l} h =
+    let q : l < length (digits s a) = rw digits-long (omega arith) in
+    let z = 4 - length (digits s a) in
+    address-padded (s .n) (strike l (padded (digits s a))) 1
+    ∙ ap (addressOf (s .n)) (strike-padded l (digits s a) (replicate z 0) q)
+    ∙ address-padded (s .n) (strike l (digits s a)) z
+
+pub strike-four-below : {s : Shape} {a l : ℕ} → Link s a l → Below (s .n) (strike l (padded (digits s a)) ++ (0 ∷ []))
+strike-four-below {s} {a} {l} h =
+    let v = h .server .valid in
+    let w = written-digits (h .server) in
+    let q : length (digits s a) ≤ 4 = rw digits-long (omega arith) in
+    below-padded (s .n) (strike l (padded (digits s a))) 1 (positive v)
+    (strike-keeps (s .n) l (padded (digits s a)) (padded-below v w) (rw (padded-long (digits s a) q) (omega arith)))
+
+differ-padded : (o : ℕ) (ds es zs : List ℕ) → length ds ≡ length es → differFrom o (ds ++ zs) (es ++ zs) ≡ differFrom o ds es
+unfolding differFrom
+differ-padded o [] [] zs h = differ-none o zs
+differ-padded o [] (e ∷ es) zs h = let z : ⊥ = omega arith in absurd z
+differ-padded o (d ∷ ds) [] zs h = let z : ⊥ = omega arith in absurd z
+differ-padded o (d ∷ ds) (e ∷ es) zs h =
+    let r : length ds ≡ length es = omega arith in rw (differ-padded (suc o) ds es zs r)
+
+pub differ-four : (s : Shape) (a b : ℕ) → differFrom 0 (padded (digits s a)) (padded (digits s b)) ≡ differing s a b
+unfolding differing padded
+differ-four s a b =
+    rw (digits-long s a, digits-long s b)
+    (differ-padded 0 (digits s a) (digits s b) (replicate (4 - suc (s .k)) 0) (digits-long s a ∙ sym (digits-long s b)))
+
+-- ---- four places that are not refused
+
+pub places-below : {s : Shape} {ds : List ℕ} → Places s ds → Below (s .n) ds
+unfolding placeBound
+places-below {s} {ds} p = record { at = at }
+  where
+    at : (i : ℕ) → i < length ds → getD ds i 0 < s .n
+    at i h =
+        elim (decLe i (s .k)) [
+          | yes y ↦ let b : getD ds i 0 < bound s i = rw (le-leb i (s .k) y) at (p .at i h) in omega (arith, bound-le (p .valid) i)
+          | no y ↦ let b : getD ds i 0 < 1 = rw (lt-leb i (s .k) (omega arith)) at (p .at i h) in omega (arith, positive (p .valid))
+        ]
+
+pub places-digits : {s : Shape} {a : ℕ} → Server s a → Places s (padded (digits s a))
+unfolding placeBound
+places-digits {s} {a} h = record { valid = h .valid; at = at }
+  where
+    at : (i : ℕ) → i < length (padded (digits s a)) → getD (padded (digits s a)) i 0 < cond (leb i (s .k)) (bound s i) 1
+    at i p =
+        elim (decLe i (s .k)) [
+          | yes y ↦ rw (le-leb i (s .k) y, place-digit s a i) (digit-lt h i y)
+          | no y ↦ rw (lt-leb i (s .k) (omega arith), place-digit s a i, digit-past s a i (omega arith)) (lit< tt)
+        ]
+
+pub places-written : {s : Shape} {ds : List ℕ} → Places s ds → length ds ≡ 4 → Written s (take (suc (s .k)) ds)
+unfolding placeBound
+places-written {s} {ds} h l =
+    record {
+      long = length-take-le (suc (s .k)) ds (omega (arith, h .valid .levels));
+      small = λ i p.
+          rw (getD-take (suc (s .k)) ds i 0 (suc-le-suc p))
+          (rw (le-leb i (s .k) p) at (h .at i (omega (arith, h .valid .levels))));
+    }
+
+pub places-padded : {s : Shape} {ds : List ℕ} → Places s ds → length ds ≡ 4 → padded (take (suc (s .k)) ds) ≡ ds
+unfolding placeBound
+places-padded {s} {ds} h l = ext-getD 0 (padded T) ds (padded-long T (omega (arith, length-take (suc (s .k)) ds, h .valid .levels)) ∙ sym l) at
+  where
+    T : List ℕ
+    T = take (suc (s .k)) ds
+
+    at : (i : ℕ) → i < length (padded T) → getD (padded T) i 0 ≡ getD ds i 0
+    at i p =
+        padded-at T i
+        ∙ (elim (decLt i (suc (s .k))) as (λ x. getD T i 0 ≡ getD ds i 0) [
+          | yes y ↦ getD-take (suc (s .k)) ds i 0 y
+          | no y ↦ let z : length T ≤ i = omega (arith, length-take (suc (s .k)) ds) in
+              let q : i < length ds = omega (arith, padded-long T (omega (arith, length-take (suc (s .k)) ds, h .valid .levels))) in
+              let b : getD ds i 0 < 1 = rw (lt-leb i (s .k) (omega arith)) at (h .at i q) in
+              List·getD-eq-default T 0 z ∙ sym (lt-one b)
+        ])
+
+pub places-address : {s : Shape} {ds : List ℕ} → Places s ds → length ds ≡ 4 → addressOf (s .n) ds ≡ addressOf (s .n) (take (suc (s .k)) ds)
+unfolding padded
+places-address {s} {ds} h l =
+    ap (addressOf (s .n)) (sym (places-padded h l))
+    ∙ address-padded (s .n) (take (suc (s .k)) ds) (4 - length (take (suc (s .k)) ds))
+
+-- ---- closed forms, for a program that has the power p of the base at hand
+
+pub digit-closed-at : {s : Shape} {a l : ℕ} → Link s a l → (p : ℕ) → p ≡ s .n ^ l → a / p % s .n ≡ digit s l a
+unfolding digit digits
+digit-closed-at {s} {a} {l} h p e = rw e (sym (digit-closed (s .n) (suc (s .k)) l a (omega arith)))
+
+pub switch-closed-at : {s : Shape} {a l : ℕ} → Link s a l → (p : ℕ) → p ≡ s .n ^ l → a % p + p * (a / p / s .n) ≡ switchOf s l a
+unfolding switchOf digits
+switch-closed-at {s} {a} {l} h p e =
+    rw e (sym (strike-closed (s .n) (suc (s .k)) l a (positive (h .server .valid)) (omega (arith, h .server .below, servers-le (h .server .valid))) (omega arith)))
+
+pub with-closed-at : {s : Shape} {a l v : ℕ} → Value s a l v → (p : ℕ) → p ≡ s .n ^ l → a % p + p * (v + s .n * (a / p / s .n)) ≡ withDigit s l v a
+unfolding withDigit digits
+with-closed-at {s} {a} {l} {v} h p e =
+    rw e (sym (with-closed (s .n) (suc (s .k)) l v a (positive (h .link .server .valid)) (omega (arith, h .link .server .below, servers-le (h .link .server .valid))) (omega arith)))
+
+pub weight-pos : {s : Shape} → Valid s → (l p : ℕ) → p ≡ s .n ^ l → 0 < p
+weight-pos {s} v l p e = rw e (one-le-pow l (s .n) (positive v))

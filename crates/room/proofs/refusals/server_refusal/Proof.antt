@@ -1,0 +1,17 @@
+-- `room::refusals::server_refusal` meets its contract. Assumes nothing.
+use borrow.Author.Needs.{needs}
+use Rattle.room.proofs.RefusalLaws.{chain-goes, chain-stops, over, under}
+use Rattle.room.specs.Refusals.{serverRefusal}
+use Rattle.room.proofs.refusals.server_refusal.Statement.{statement}
+use Rattle.room.proofs.refusals.server_refusal.Tie as tie
+
+pub server-refusal-spec : {M : Type 1} → statement M
+unfolding serverRefusal
+server-refusal-spec =
+    tie.close
+    (tie.spec
+    (λ c κs. search needs)
+    (λ c. search chain-stops)
+    (λ c κs. search needs)
+    (λ c. search (chain-goes, under))
+    (λ c. search (chain-goes, over)))

@@ -1,0 +1,12 @@
+-- `room::shapes::digit_bound` meets its contract. Assumes nothing.
+use mathlib.Core.Path.{refl}
+use Rattle.room.specs.Shapes.{bound}
+use Rattle.room.proofs.shapes.digit_bound.Statement.{statement}
+use Rattle.room.proofs.shapes.digit_bound.Tie as tie
+
+pub digit-bound-spec : {M : Type 1} → statement M
+unfolding bound
+digit-bound-spec =
+    tie.close
+    (tie.spec
+    (λ c. refl))

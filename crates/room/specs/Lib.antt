@@ -1,0 +1,6 @@
+pub mod Digits
+pub mod Shapes
+pub mod Addresses
+pub mod Refusals
+pub mod Answers
+pub mod Determined
