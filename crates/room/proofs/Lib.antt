@@ -2,4 +2,5 @@ pub mod DigitLaws
 pub mod RefusalLaws
 pub mod RoomLaws
 pub mod FourPlaces
+pub mod AnswerLaws
 pub mod Unique

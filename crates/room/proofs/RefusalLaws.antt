@@ -100,6 +100,10 @@ unfolding levelRefusal
 level-of s l e =
     let z = or-else-zero (shapeRefusal s) _ e in (valid-of s (z .0), leb-true l (s .k) (test-held _ 19 (z .1)))
 
+pub level-none : {s : Shape} {l : ℕ} → Valid s → l ≤ s .k → 0 ≡ levelRefusal s l
+unfolding levelRefusal
+level-none {s} {l} h p = chain-goes _ _ _ _ (valid-none h) refl (simp (le-leb l (s .k) p))
+
 pub server-of : (s : Shape) (a : ℕ) → serverRefusal s a ≡ 0 → Server s a
 unfolding serverRefusal
 server-of s a e =
