@@ -126,11 +126,11 @@ pub link-of : (s : Shape) (a l : ℕ) → linkRefusal s a l ≡ 0 → Link s a l
 unfolding linkRefusal
 link-of s a l e =
     let z = or-else-zero (serverRefusal s a) _ e in
-    record { server = server-of s a (z .0); level = leb-true l (s .k) (test-held _ 19 (z .1)) }
+    record { server = server-of s a (z .0); level = level-of s l (z .1) .1 }
 
 pub link-none : {s : Shape} {a l : ℕ} → Link s a l → 0 ≡ linkRefusal s a l
 unfolding linkRefusal
-link-none {s} {a} {l} h = chain-goes _ _ _ _ (server-none (h .server)) refl (simp (le-leb l (s .k) (h .level)))
+link-none h = chain-goes _ _ _ _ (server-none (h .server)) refl (level-none (h .server .valid) (h .level))
 
 pub value-of : (s : Shape) (a l v : ℕ) → valueRefusal s a l v ≡ 0 → Value s a l v
 unfolding valueRefusal

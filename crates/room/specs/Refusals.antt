@@ -43,7 +43,7 @@ unfoldable pub pairRefusal : Shape → ℕ → ℕ → ℕ
 pairRefusal s a b = serverRefusal s a or-else serverRefusal s b
 
 unfoldable pub linkRefusal : Shape → ℕ → ℕ → ℕ
-linkRefusal s a l = serverRefusal s a or-else 20 unless leb l (s .k)
+linkRefusal s a l = serverRefusal s a or-else levelRefusal s l
 
 unfoldable pub valueRefusal : Shape → ℕ → ℕ → ℕ → ℕ
 valueRefusal s a l v = linkRefusal s a l or-else 21 unless ltb v (bound s l)

@@ -77,10 +77,7 @@ pub fn link_refusal(shape: Shape, server: usize, level: usize) -> usize
     if r != 0 {
         return r;
     }
-    if level <= shape.k {
-        return 0;
-    }
-    Refusal::LEVEL
+    level_refusal(shape, level)
 }
 
 // The first of 1, 2, 3, 4, 20, 21 that refuses a value for a digit of a server, or 0.

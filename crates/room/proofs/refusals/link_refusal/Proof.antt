@@ -2,7 +2,6 @@
 use borrow.Author.Needs.{needs}
 use Rattle.room.proofs.RefusalLaws.{chain-goes, chain-stops}
 use Rattle.room.specs.Refusals.{linkRefusal}
-use borrow.Author.Tests.{le-leb, lt-leb}
 use Rattle.room.proofs.refusals.link_refusal.Statement.{statement}
 use Rattle.room.proofs.refusals.link_refusal.Tie as tie
 
@@ -13,5 +12,5 @@ link-refusal-spec =
     (tie.spec
     (λ c κs. search needs)
     (λ c. search chain-stops)
-    (λ c. search (chain-goes, le-leb))
-    (λ c. search (chain-goes, lt-leb)))
+    (λ c κs. search needs)
+    (λ c. search chain-goes))

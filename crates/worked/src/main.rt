@@ -1,0 +1,13 @@
+// The worked numbers of the rules, and every refusal's edge, one line a question.
+// print.rt: lines of text and numbers
+mod print;
+// rooms.rt: shapes, addresses, switches, neighbours
+mod rooms;
+
+fn main() {
+    rooms::shapes();
+    rooms::digits();
+    rooms::addresses();
+    rooms::switches();
+    rooms::neighbours();
+}
