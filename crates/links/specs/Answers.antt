@@ -1,5 +1,5 @@
 -- What each call on the failed-link table answers, and the table that it leaves.
-use Prim.Native.Nat.{ℕ, zero, suc}
+use Prim.Native.Nat.{ℕ}
 use mathlib.Core.List.{List}
 use mathlib.Core.Bool.{Bool, false}
 use Rattle.room.specs.declared.Shape.{Shape}

@@ -1,12 +1,13 @@
 -- The failed-link table: one byte for each server, whose bit l says that the server's link at level l is failed.
-use Prim.Native.Nat.{ℕ, suc, _+_, _-_, _/_, _%_, _^_}
+use Prim.Native.Nat.{ℕ, suc, _+_, _-_, _/_, _%_, _^_, _≤_, _<_}
+use mathlib.Core.Path.{_≡_}
 use mathlib.Core.List.{List, [], _∷_}
 use mathlib.Core.Bool.{Bool, true, not, cond, _&&_}
 use lib.Dec.{ltb, eqb}
 use lib.ListN.{length, getD, set}
 use Rattle.room.specs.declared.Shape.{Shape}
 use Rattle.room.specs.Shapes.{serversOf}
-use Rattle.room.specs.Refusals.{linkRefusal, _or-else_, _unless_}
+use Rattle.room.specs.Refusals.{shapeRefusal, linkRefusal, _or-else_, _unless_}
 
 -- whether bit l of a byte is set
 unfoldable pub bit : ℕ → ℕ → Bool
@@ -43,6 +44,19 @@ bitsFit k (x ∷ xs) = ltb x (2 ^ suc k) && bitsFit k xs
 unfoldable pub tableRefusal : Shape → List ℕ → ℕ
 tableRefusal s t = 6 unless (eqb (length t) (serversOf s) && bitsFit (s .k) t)
 
+-- what a call on a room's table refuses: 1 to 3, 6
+unfoldable pub roomTableRefusal : Shape → List ℕ → ℕ
+roomTableRefusal s t = shapeRefusal s or-else tableRefusal s t
+
 -- what a call on one link of a table refuses: 1 to 3, 4, 20, 6
 unfoldable pub tableLinkRefusal : Shape → List ℕ → ℕ → ℕ → ℕ
 tableLinkRefusal s t a l = linkRefusal s a l or-else tableRefusal s t
+
+-- t is a failed-link table of the room
+pub record TableOf (s : Shape) (t : List ℕ) : Type 0 where
+  pub long : length t ≡ serversOf s
+  pub small : (a : ℕ) → getD t a 0 < 2 ^ suc (s .k)
+
+-- a dead server has all its links marked
+pub record Dead (s : Shape) (t : List ℕ) (a : ℕ) : Type 0 where
+  pub all : (l : ℕ) → l ≤ s .k → failed t a l ≡ true

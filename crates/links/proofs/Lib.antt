@@ -1,0 +1,5 @@
+pub mod BitLaws
+pub mod TableLaws
+pub mod LinkLaws
+pub mod AnswerLaws
+pub mod Unique

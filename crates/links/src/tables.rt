@@ -1,0 +1,76 @@
+// A whole failed-link table, and the links of a hop.
+ghost use Prim.Native.Nat.{_≤_};
+ghost use mathlib.Core.Path.{_≡_};
+ghost use Rattle.room.specs.Refusals.{shapeRefusal};
+ghost use Rattle.links.specs.Table.{failed, live, bitsFit, tableRefusal, roomTableRefusal};
+use crate::bits::has_bit;
+use crate::bits::weight;
+use room::Refusal;
+use room::Shape;
+use room::servers_of;
+use room::shape_refusal;
+
+// Whether the link of a server is failed; past the table's end none is.
+pub(crate) fn is_failed(table: &[u8], server: usize, level: usize) -> bool
+    ensures { λ r. ⌜ r ≡ failed (now (table .entry)) server level ⌝ }
+{
+    if server < table.len() {
+        return has_bit(table[server], level);
+    }
+    false
+}
+
+// Whether a hop is live: neither its sender's link nor its receiver's is failed.
+pub fn is_live(table: &[u8], level: usize, from: usize, to: usize) -> bool
+    ensures { λ r. ⌜ r ≡ live (now (table .entry)) level from to ⌝ }
+{
+    if is_failed(table, from, level) {
+        return false;
+    }
+    if is_failed(table, to, level) {
+        return false;
+    }
+    true
+}
+
+// Whether no byte has a bit above k set.
+fn bits_fit(k: usize, table: &[u8]) -> bool
+    requires { ⌜ k ≤ 3 ⌝ }
+    ensures { λ r. ⌜ r ≡ bitsFit k (now (table .entry)) ⌝ }
+{
+    let above = weight(k + 1);
+    let mut i: usize = 0;
+    while i < table.len() {
+        if above <= table[i] {
+            return false;
+        }
+        i += 1;
+    }
+    true
+}
+
+// 6 where a table is none of this room, or 0.
+pub(crate) fn room_refusal(shape: Shape, table: &[u8]) -> usize
+    requires { ⌜ shapeRefusal shape ≡ 0 ⌝ }
+    ensures { λ r. ⌜ r ≡ tableRefusal shape (now (table .entry)) ⌝ }
+{
+    let servers = servers_of(shape);
+    if table.len() != servers.value {
+        return Refusal::TABLE;
+    }
+    if bits_fit(shape.k, table) {
+        return 0;
+    }
+    Refusal::TABLE
+}
+
+// The first of 1, 2, 3, 6 that refuses a table of a room, or 0.
+pub fn table_refusal(shape: Shape, table: &[u8]) -> usize
+    ensures { λ r. ⌜ r ≡ roomTableRefusal shape (now (table .entry)) ⌝ }
+{
+    let r = shape_refusal(shape);
+    if r != 0 {
+        return r;
+    }
+    room_refusal(shape, table)
+}

@@ -1,0 +1,5 @@
+pub mod ListLaws
+pub mod HopLaws
+pub mod RouteLaws
+pub mod ReverseLaws
+pub mod CodecLaws
