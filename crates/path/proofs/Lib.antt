@@ -1,3 +1,9 @@
+pub mod ListCode
+pub mod HopCode
+pub mod WalkLaws
+pub mod WriteLaws
+pub mod TurnLaws
+pub mod Unique
 pub mod ListLaws
 pub mod HopLaws
 pub mod RouteLaws

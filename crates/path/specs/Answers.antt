@@ -1,5 +1,5 @@
 -- What each call on path bytes answers. On a refusal all but the refusal is zero.
-use Prim.Native.Nat.{ℕ, zero, suc, _-_}
+use Prim.Native.Nat.{ℕ, zero, suc, _-_, _/_}
 use mathlib.Core.List.{List, [], _∷_, reverse}
 use mathlib.Core.Bool.{Bool, true, false, not, cond, _&&_}
 use lib.Dec.{ltb, leb, eqb}
@@ -9,20 +9,48 @@ use Rattle.room.specs.declared.Refusal.{Refusal}
 use Rattle.room.specs.Refusals.{none, plain, refusedAt, serverRefusal, pairRefusal, shapeRefusal, _or-else_, _unless_}
 use Rattle.room.specs.Answers.{answer}
 use Rattle.path.specs.declared.Hop.{Hop}
+use Rattle.path.specs.declared.Tried.{Tried}
 use Rattle.path.specs.declared.Walked.{Walked}
 use Rattle.path.specs.declared.Reading.{Reading}
 use Rattle.path.specs.declared.Writing.{Writing}
-use Rattle.path.specs.Lists.{filled}
-use Rattle.path.specs.Routes.{encode}
-use Rattle.path.specs.Walks.{Walk, stopped, arrived, hopTo, hopRefusal, walk, writeFrom}
+use Rattle.path.specs.Lists.{isIn, filled}
+use Rattle.path.specs.Routes.{switchAt, switchTo, encode}
+use Rattle.path.specs.Walks.{Walk, stopped, arrived, hopTo, hopRefusal, fault, walk, writeFault, writeFrom}
 
 -- ---- one hop: 1 to 3, 4, 8, 9, 10
 
 abbrev pub noHop : ℕ → Hop
 noHop r = record { number = r; next = 0 }
 
+abbrev pub aHop : ℕ → Hop
+aHop a = record { number = 0; next = a }
+
 unfoldable pub hopAnswer : Shape → ℕ → ℕ → Hop
-hopAnswer s a b = answer (serverRefusal s a or-else hopRefusal s a b) noHop (record { number = 0; next = hopTo s a b })
+hopAnswer s a b = answer (serverRefusal s a or-else hopRefusal s a b) noHop (aHop (hopTo s a b))
+
+-- the same of a server of the room
+unfoldable pub hopFrom : Shape → ℕ → ℕ → Hop
+hopFrom s a b = answer (hopRefusal s a b) noHop (aHop (hopTo s a b))
+
+-- ---- what a hop adds to a route that has met these servers and used these switches
+
+abbrev pub noTry : ℕ → Tried
+noTry r = record { number = r; next = 0; switch = 0 }
+
+abbrev pub adds : ℕ → ℕ → Tried
+adds b w = record { number = 0; next = b; switch = w }
+
+-- server b and switch w: 12
+unfoldable pub newly : List ℕ → List ℕ → ℕ → ℕ → Tried
+newly met used b w = answer (12 unless (not (isIn b met) && not (isIn w used))) noTry (adds b w)
+
+-- the hop by byte b from server a, when an array is walked
+unfoldable pub tried : Shape → List ℕ → List ℕ → List ℕ → ℕ → ℕ → Tried
+tried s t met used a b = answer (fault s t met used a b) noTry (adds (hopTo s a b) (switchAt s (b / 64) a))
+
+-- the hop from server a to server b, when servers are written
+unfoldable pub triedTo : Shape → List ℕ → List ℕ → ℕ → ℕ → Tried
+triedTo s met used a b = answer (writeFault s met used a b) noTry (adds b (switchTo s a b))
 
 -- ---- walking an array: 1 to 3, 4, 5, 7, then hop after hop
 
@@ -55,9 +83,12 @@ readAnswer s a d bs = reading (walkAnswer s [] a d bs)
 abbrev pub noWriting : Refusal → Writing
 noWriting r = record { refusal = r; bytes = replicate 8 0 }
 
+abbrev pub aWriting : List ℕ → Writing
+aWriting bs = record { refusal = none; bytes = bs }
+
 abbrev pub reversed : Shape → Walk → Writing
 reversed s (stopped r h) = noWriting (refusedAt r 1 h)
-reversed s (arrived vs ws) = record { refusal = none; bytes = encode s (reverse vs) }
+reversed s (arrived vs ws) = aWriting (encode s (reverse vs))
 
 unfoldable pub reverseAnswer : Shape → ℕ → ℕ → List ℕ → Writing
 reverseAnswer s a d bs = answer (arrayRefusal s a d bs) (λ r. noWriting (plain r)) (reversed s (walk s [] a d bs))
@@ -75,7 +106,7 @@ writeRefusal s vs =
 
 -- what is written where no refusal arises on the way
 abbrev pub written : Shape → List ℕ → Refusal → Writing
-written s vs r = cond (eqb (r .number) 0) (record { refusal = none; bytes = encode s vs }) (noWriting r)
+written s vs r = cond (eqb (r .number) 0) (aWriting (encode s vs)) (noWriting r)
 
 unfoldable pub onTheWay : Shape → List ℕ → Refusal
 onTheWay s [] = none

@@ -1,10 +1,36 @@
 // Path bytes: one hop, and whole arrays read, written and reversed.
 use room::Refusal;
+// hops.rt: one hop, by its byte
+mod hops;
+// readings.rt: plain reading
+mod readings;
+// repeats.rt: servers and switches already on the route
+mod repeats;
+// turns.rt: reversal
+mod turns;
+// walks.rt: walking an array, hop after hop
+mod walks;
+// writings.rt: the bytes of servers in turn
+mod writings;
+
+pub use hops::hop_of;
+pub use readings::read_path;
+pub use turns::reverse_path;
+pub use walks::ends_refusal;
+pub use walks::walk;
+pub use writings::write_path;
 
 // Where a hop leads; or the number of its refusal, whose place the caller knows, and 0.
 pub struct Hop {
     pub number: usize,
     pub next: usize,
+}
+
+// The server and the switch that a hop adds to a route; or the number of its refusal and zeros.
+pub(crate) struct Tried {
+    pub(crate) number: usize,
+    pub(crate) next: usize,
+    pub(crate) switch: usize,
 }
 
 // The servers that an array meets, source first, and the switches that it uses; or a refusal and

@@ -3,6 +3,8 @@
 mod print;
 // rooms.rt: shapes, addresses, switches, neighbours
 mod rooms;
+// tables.rt: the failed-link table
+mod tables;
 
 fn main() {
     rooms::shapes();
@@ -10,4 +12,6 @@ fn main() {
     rooms::addresses();
     rooms::switches();
     rooms::neighbours();
+    tables::marks();
+    tables::refusals();
 }

@@ -51,3 +51,24 @@ pub(crate) fn answer(x: Number) {
     item(x.value);
     text(b"\n");
 }
+
+fn wide(x: u8) -> u64 {
+    x as u64
+}
+
+// The bytes of a slice as hex, with a space before them; "-" where there are none.
+pub(crate) fn bytes(b: &[u8]) {
+    text(b" ");
+    if b.len() == 0 {
+        text(b"-");
+    }
+    let mut i: usize = 0;
+    while i < b.len() {
+        io::print_hex(1, wide(b[i]), 2);
+        i += 1;
+    }
+}
+
+pub(crate) fn end() {
+    text(b"\n");
+}

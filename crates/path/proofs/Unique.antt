@@ -1,0 +1,33 @@
+-- Each public function's contract determines its answer: whatever meets it on some arguments is the one answer to them.
+use mathlib.Core.Path.{_∙_, sym}
+use Rattle.room.specs.Determined.{Determined}
+use Rattle.path.proofs.hops.hop_of.Reads as hop-of
+use Rattle.path.proofs.hops.hop_of.Kinds as hop-of-kinds
+use Rattle.path.proofs.walks.ends_refusal.Reads as ends-refusal
+use Rattle.path.proofs.walks.ends_refusal.Kinds as ends-refusal-kinds
+use Rattle.path.proofs.walks.walk.Reads as walk
+use Rattle.path.proofs.walks.walk.Kinds as walk-kinds
+use Rattle.path.proofs.readings.read_path.Reads as read-path
+use Rattle.path.proofs.readings.read_path.Kinds as read-path-kinds
+use Rattle.path.proofs.turns.reverse_path.Reads as reverse-path
+use Rattle.path.proofs.turns.reverse_path.Kinds as reverse-path-kinds
+use Rattle.path.proofs.writings.write_path.Reads as write-path
+use Rattle.path.proofs.writings.write_path.Kinds as write-path-kinds
+
+pub hop-of-unique : Determined 0 hop-of-kinds.ps hop-of-kinds.r hop-of.Post
+hop-of-unique κs a x y s t e f = e ∙ sym f
+
+pub ends-refusal-unique : Determined 0 ends-refusal-kinds.ps ends-refusal-kinds.r ends-refusal.Post
+ends-refusal-unique κs a x y s t e f = e ∙ sym f
+
+pub walk-unique : Determined 2 walk-kinds.ps walk-kinds.r walk.Post
+walk-unique κs a x y s t e f = e ∙ sym f
+
+pub read-path-unique : Determined 1 read-path-kinds.ps read-path-kinds.r read-path.Post
+read-path-unique κs a x y s t e f = e ∙ sym f
+
+pub reverse-path-unique : Determined 1 reverse-path-kinds.ps reverse-path-kinds.r reverse-path.Post
+reverse-path-unique κs a x y s t e f = e ∙ sym f
+
+pub write-path-unique : Determined 1 write-path-kinds.ps write-path-kinds.r write-path.Post
+write-path-unique κs a x y s t e f = e ∙ sym f

@@ -1,0 +1,38 @@
+-- `path::writings::put_bytes` meets its contract. Assumes nothing.
+use borrow.Author.Needs.{needs}
+use native.Mathlib.Omega.{arith}
+use mathlib.Core.Path.{_≡_, ap}
+use Prim.Native.Nat.{ℕ, _+_, _-_}
+use native.Mathlib.Numerals.{add-one}
+use lib.ListN.{length, getD}
+use Rattle.path.specs.Routes.{Next}
+use Rattle.path.proofs.WriteLaws.{Putting, put-start, put-next, put-end}
+use Rattle.path.proofs.writings.put_bytes.Statement.{statement}
+use Rattle.path.proofs.writings.put_bytes.Tie as tie
+
+abbrev Inv-loop : tie.InvT-loop
+Inv-loop shape servers bytes₀ i₀ bytes i = Putting shape servers bytes i
+
+abbrev μ-loop : tie.MeasureT-loop
+μ-loop shape servers bytes₀ i₀ bytes i = length servers - i
+
+pub put-bytes-spec : {M : Type 1} → statement M
+put-bytes-spec =
+    tie.close
+    (tie.spec
+    Inv-loop
+    μ-loop
+    (λ c. put-start _ _)
+    (λ c. search needs)
+    (λ c. search needs)
+    (λ c. search needs)
+    (λ c. search needs)
+    (λ c. search needs)
+    (λ c. search needs)
+    (λ c κs.
+    let i = c .before .before .before .loop .i in
+    rw add-one (c .before .before .before .before .before .pre .next i (omega arith)))
+    (λ c. search needs)
+    (λ c. search needs)
+    (λ c. put-next (c .before .before .before .before .loop .inv) (c .before .before .before .loop-test .taken) (c .before .before .before .before .before .before .pre .few) _ (c .byte-to .ensures))
+    (λ c. put-end (c .before .loop .inv) (c .loop-test .left)))

@@ -1,0 +1,60 @@
+// Servers and switches already on the route.
+ghost use mathlib.Core.Path.{_≡_};
+ghost use Rattle.room.specs.Refusals.{linkRefusal};
+ghost use Rattle.path.specs.Lists.{isIn};
+ghost use Rattle.path.specs.Routes.{switchAt};
+ghost use Rattle.path.specs.Answers.{noTry, newly};
+use crate::Tried;
+use room::Refusal;
+use room::Shape;
+use room::switch_of;
+
+pub(crate) fn no_try(number: usize) -> Tried
+    ensures { λ r. ⌜ r ≡ noTry number ⌝ }
+{
+    Tried {
+        number,
+        next: 0,
+        switch: 0,
+    }
+}
+
+// Whether x is in a list.
+fn is_among(list: &[usize], x: usize) -> bool
+    ensures { λ r. ⌜ r ≡ isIn x (now (list .entry)) ⌝ }
+{
+    let mut i: usize = 0;
+    while i < list.len() {
+        if list[i] == x {
+            return true;
+        }
+        i += 1;
+    }
+    false
+}
+
+// The switch of a link as one number.
+pub(crate) fn switch_at(shape: Shape, level: usize, server: usize) -> usize
+    requires { ⌜ linkRefusal shape server level ≡ 0 ⌝ }
+    ensures { λ r. ⌜ r ≡ switchAt shape level server ⌝ }
+{
+    let switch = switch_of(shape, server, level);
+    Shape::MOST_SERVERS * level + switch.number
+}
+
+// A server and a switch that a route adds to those that it has. Refusal 12.
+pub(crate) fn add_hop(met: &[usize], used: &[usize], next: usize, switch: usize) -> Tried
+    ensures { λ r. ⌜ r ≡ newly (now (met .entry)) (now (used .entry)) next switch ⌝ }
+{
+    if is_among(met, next) {
+        return no_try(Refusal::REPEATED);
+    }
+    if is_among(used, switch) {
+        return no_try(Refusal::REPEATED);
+    }
+    Tried {
+        number: 0,
+        next,
+        switch,
+    }
+}

@@ -1,0 +1,154 @@
+// The bytes of servers in turn.
+ghost use mathlib.Core.Path.{_≡_};
+ghost use Prim.Native.Nat.{_≤_};
+ghost use lib.ListN.{length};
+ghost use Rattle.room.specs.Refusals.{pairRefusal};
+ghost use Rattle.path.specs.Routes.{byteTo, encode, Next, Chain};
+ghost use Rattle.path.specs.Answers.{triedTo, noWriting, aWriting, serversRefusal, writeRefusal, onTheWay, writeAnswer};
+use crate::Tried;
+use crate::Writing;
+use crate::repeats::add_hop;
+use crate::repeats::no_try;
+use crate::repeats::switch_at;
+use room::Refusal;
+use room::Shape;
+use room::digit_of;
+use room::level_between;
+use room::server_refusal;
+use room::shape_refusal;
+
+pub(crate) fn no_writing(refusal: Refusal) -> Writing
+    ensures { λ r. ⌜ r ≡ noWriting refusal ⌝ }
+{
+    Writing {
+        refusal,
+        bytes: [0; 8],
+    }
+}
+
+// The byte of the hop from a server to its neighbour.
+fn byte_to(shape: Shape, from: usize, to: usize) -> u8
+    requires { ⌜ Next shape from to ⌝ }
+    ensures { λ r. ⌜ r ≡ byteTo shape from to ⌝ }
+{
+    let between = level_between(shape, from, to);
+    let digit = digit_of(shape, to, between.level);
+    (64 * between.level + digit.value) as u8
+}
+
+// The bytes of servers in turn, and zeros after them.
+fn put_bytes(shape: Shape, servers: &[usize]) -> [u8; 8]
+    requires { ⌜ Chain shape (now servers) ⌝ }
+    ensures { λ r. ⌜ r ≡ encode shape (now (servers .entry)) ⌝ }
+{
+    let mut bytes: [u8; 8] = [0; 8];
+    let mut i: usize = 0;
+    while i + 1 < servers.len() {
+        let next = i + 1;
+        bytes[i] = byte_to(shape, servers[i], servers[next]);
+        i = next;
+    }
+    bytes
+}
+
+pub(crate) fn a_writing(shape: Shape, servers: &[usize]) -> Writing
+    requires { ⌜ Chain shape (now servers) ⌝ }
+    ensures { λ r. ⌜ r ≡ aWriting (encode shape (now (servers .entry))) ⌝ }
+{
+    Writing {
+        refusal: Refusal::none(),
+        bytes: put_bytes(shape, servers),
+    }
+}
+
+// The first of 1, 2, 3, 4 that refuses one of the servers, or 0.
+fn servers_refusal(shape: Shape, servers: &[usize]) -> usize
+    ensures { λ r. ⌜ r ≡ serversRefusal shape (now (servers .entry)) ⌝ }
+{
+    let mut i: usize = 0;
+    while i < servers.len() {
+        let r = server_refusal(shape, servers[i]);
+        if r != 0 {
+            return r;
+        }
+        i += 1;
+    }
+    0
+}
+
+// The first of 1, 2, 3, 22, 4, 5 that refuses a list of servers, or 0.
+fn write_refusal(shape: Shape, servers: &[usize]) -> usize
+    ensures { λ r. ⌜ r ≡ writeRefusal shape (now (servers .entry)) ⌝ }
+{
+    let r = shape_refusal(shape);
+    if r != 0 {
+        return r;
+    }
+    let count = servers.len();
+    if count < 2 {
+        return Refusal::SERVER_COUNT;
+    }
+    if 9 < count {
+        return Refusal::SERVER_COUNT;
+    }
+    let q = servers_refusal(shape, servers);
+    if q != 0 {
+        return q;
+    }
+    if servers[0] == servers[count - 1] {
+        return Refusal::SAME_ENDS;
+    }
+    0
+}
+
+// The hop to a server from the last of a route. Refusals 23, 12.
+fn try_next(shape: Shape, met: &[usize], used: &[usize], from: usize, to: usize) -> Tried
+    requires { ⌜ pairRefusal shape from to ≡ 0 ⌝ }
+    ensures { λ r. ⌜ r ≡ triedTo shape (now (met .entry)) (now (used .entry)) from to ⌝ }
+{
+    let between = level_between(shape, from, to);
+    if between.adjacent {
+        return add_hop(met, used, to, switch_at(shape, between.level, from));
+    }
+    no_try(Refusal::NOT_NEIGHBOURS)
+}
+
+// The first refusal of the hops from each server to the next: 23, 12.
+fn on_the_way(shape: Shape, servers: &[usize]) -> Refusal
+    requires { ⌜ writeRefusal shape (now servers) ≡ 0 ⌝ }
+    ensures { λ r. ⌜ r ≡ onTheWay shape (now (servers .entry)) ⌝ }
+{
+    let mut used: [usize; 8] = [0; 8];
+    let mut i: usize = 0;
+    while i + 1 < servers.len() {
+        let next = i + 1;
+        let hop = try_next(
+            shape,
+            &servers[..next],
+            &used[..i],
+            servers[i],
+            servers[next],
+        );
+        if hop.number != 0 {
+            return Refusal::at(hop.number, 1, next);
+        }
+        used[i] = hop.switch;
+        i = next;
+    }
+    Refusal::none()
+}
+
+// The eight bytes of the route that meets these servers. Refusals 1, 2, 3, 22, 4, 5, then 23, 12 at a hop.
+pub fn write_path(shape: Shape, servers: &[usize]) -> Writing
+    ensures { λ r. ⌜ r ≡ writeAnswer shape (now (servers .entry)) ⌝ }
+{
+    let number = write_refusal(shape, servers);
+    if number != 0 {
+        return no_writing(Refusal::plain(number));
+    }
+    let refusal = on_the_way(shape, servers);
+    if refusal.number != 0 {
+        return no_writing(refusal);
+    }
+    a_writing(shape, servers)
+}
