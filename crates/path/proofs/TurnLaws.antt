@@ -22,7 +22,8 @@ use Rattle.links.specs.Table.{live}
 use Rattle.path.specs.declared.Walked.{Walked}
 use Rattle.path.specs.declared.Writing.{Writing}
 use Rattle.path.specs.Lists.{filled}
-use Rattle.path.specs.Routes.{levelTo, switchAt, encode, Next, Chain}
+use Rattle.path.specs.Routes.{levelTo, switchAt, encode}
+use Rattle.path.specs.Inside.{Next, Chain}
 use Rattle.path.specs.Walks.{Walk, stopped, arrived, hopTo, hopRefusal, fault, ended, walkFrom, walk}
 use Rattle.path.specs.Answers.{arrayRefusal, noWalk, walked, walkAnswer, noWriting, aWriting, reversed, reverseAnswer}
 use Rattle.path.proofs.ListCode.{filled-is, rest-on, taken-on}

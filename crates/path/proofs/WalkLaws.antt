@@ -22,7 +22,8 @@ use Rattle.path.specs.declared.Walked.{Walked}
 use Rattle.path.specs.Lists.{isIn, filled}
 use Rattle.path.specs.Routes.{switchAt}
 use Rattle.path.specs.Walks.{Walk, stopped, arrived, hopTo, hopRefusal, fault, ended, walkFrom, walk}
-use Rattle.path.specs.Answers.{noHop, aHop, hopFrom, noTry, adds, newly, tried, endsRefusal, arrayRefusal, noWalk, walked}
+use Rattle.path.specs.Answers.{noHop, aHop, endsRefusal, arrayRefusal, noWalk, walked}
+use Rattle.path.specs.Inside.{hopFrom, noTry, adds, newly, tried}
 use Rattle.path.proofs.ListCode.{left, filled-is, rest-on, taken-on}
 use Rattle.path.proofs.HopCode.{answer-chain, hop-value, hop-server}
 

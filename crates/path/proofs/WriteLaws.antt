@@ -26,9 +26,11 @@ use Rattle.room.proofs.RoomLaws.{digit-lt, bound-le, neighbours-exactly}
 use Rattle.path.specs.declared.Tried.{Tried}
 use Rattle.path.specs.declared.Writing.{Writing}
 use Rattle.path.specs.Lists.{isIn, inTurn, filled}
-use Rattle.path.specs.Routes.{levelTo, switchAt, switchTo, byteTo, encode, Next, Chain}
+use Rattle.path.specs.Routes.{levelTo, switchAt, switchTo, byteTo, encode}
+use Rattle.path.specs.Inside.{Next, Chain}
 use Rattle.path.specs.Walks.{single, writeFault, writeFrom}
-use Rattle.path.specs.Answers.{noTry, adds, newly, triedTo, serversRefusal, writeRefusal, noWriting, aWriting, written, onTheWay}
+use Rattle.path.specs.Answers.{serversRefusal, writeRefusal, noWriting, aWriting, written, onTheWay}
+use Rattle.path.specs.Inside.{noTry, adds, newly, triedTo}
 use Rattle.path.proofs.ListCode.{left, filled-is, rest-on, taken-on}
 use Rattle.path.proofs.HopCode.{answer-chain, digit-found}
 

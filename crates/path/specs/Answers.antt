@@ -1,5 +1,5 @@
 -- What each call on path bytes answers. On a refusal all but the refusal is zero.
-use Prim.Native.Nat.{ℕ, zero, suc, _-_, _/_}
+use Prim.Native.Nat.{ℕ, zero, suc, _-_}
 use mathlib.Core.List.{List, [], _∷_, reverse}
 use mathlib.Core.Bool.{Bool, true, false, not, cond, _&&_}
 use lib.Dec.{ltb, leb, eqb}
@@ -9,13 +9,12 @@ use Rattle.room.specs.declared.Refusal.{Refusal}
 use Rattle.room.specs.Refusals.{none, plain, refusedAt, serverRefusal, pairRefusal, shapeRefusal, _or-else_, _unless_}
 use Rattle.room.specs.Answers.{answer}
 use Rattle.path.specs.declared.Hop.{Hop}
-use Rattle.path.specs.declared.Tried.{Tried}
 use Rattle.path.specs.declared.Walked.{Walked}
 use Rattle.path.specs.declared.Reading.{Reading}
 use Rattle.path.specs.declared.Writing.{Writing}
-use Rattle.path.specs.Lists.{isIn, filled}
-use Rattle.path.specs.Routes.{switchAt, switchTo, encode}
-use Rattle.path.specs.Walks.{Walk, stopped, arrived, hopTo, hopRefusal, fault, walk, writeFault, writeFrom}
+use Rattle.path.specs.Lists.{filled}
+use Rattle.path.specs.Routes.{encode}
+use Rattle.path.specs.Walks.{Walk, stopped, arrived, hopTo, hopRefusal, walk, writeFrom}
 
 -- ---- one hop: 1 to 3, 4, 8, 9, 10
 
@@ -27,30 +26,6 @@ aHop a = record { number = 0; next = a }
 
 unfoldable pub hopAnswer : Shape → ℕ → ℕ → Hop
 hopAnswer s a b = answer (serverRefusal s a or-else hopRefusal s a b) noHop (aHop (hopTo s a b))
-
--- the same of a server of the room
-unfoldable pub hopFrom : Shape → ℕ → ℕ → Hop
-hopFrom s a b = answer (hopRefusal s a b) noHop (aHop (hopTo s a b))
-
--- ---- what a hop adds to a route that has met these servers and used these switches
-
-abbrev pub noTry : ℕ → Tried
-noTry r = record { number = r; next = 0; switch = 0 }
-
-abbrev pub adds : ℕ → ℕ → Tried
-adds b w = record { number = 0; next = b; switch = w }
-
--- server b and switch w: 12
-unfoldable pub newly : List ℕ → List ℕ → ℕ → ℕ → Tried
-newly met used b w = answer (12 unless (not (isIn b met) && not (isIn w used))) noTry (adds b w)
-
--- the hop by byte b from server a, when an array is walked
-unfoldable pub tried : Shape → List ℕ → List ℕ → List ℕ → ℕ → ℕ → Tried
-tried s t met used a b = answer (fault s t met used a b) noTry (adds (hopTo s a b) (switchAt s (b / 64) a))
-
--- the hop from server a to server b, when servers are written
-unfoldable pub triedTo : Shape → List ℕ → List ℕ → ℕ → ℕ → Tried
-triedTo s met used a b = answer (writeFault s met used a b) noTry (adds b (switchTo s a b))
 
 -- ---- walking an array: 1 to 3, 4, 5, 7, then hop after hop
 

@@ -2,3 +2,4 @@ pub mod Lists
 pub mod Routes
 pub mod Walks
 pub mod Answers
+pub mod Inside

@@ -37,17 +37,6 @@ switchesOf s vs = inTurn (switchTo s) vs
 unfoldable pub encode : Shape → List ℕ → List ℕ
 encode s vs = filled 8 (inTurn (byteTo s) vs)
 
--- servers a and b of the room are neighbours
-pub record Next (s : Shape) (a b : ℕ) : Type 0 where
-  pub from : Server s a
-  pub to : Server s b
-  pub hop : Neighbours s (levelTo s a b) a b
-
--- at most nine servers, each the neighbour of the one before
-pub record Chain (s : Shape) (vs : List ℕ) : Type 0 where
-  pub few : length vs ≤ 9
-  pub next : (i : ℕ) → suc i < length vs → Next s (getD vs i 0) (getD vs (suc i) 0)
-
 -- a route over the live links of a table, by the servers that it meets: 1 to 8 hops, each to a neighbour over two links
 -- that are not failed, no server met twice, no switch used twice. Over the table with no bytes every link is live.
 pub record Route (s : Shape) (t vs : List ℕ) : Type 0 where
@@ -69,3 +58,8 @@ pub record RouteTo (s : Shape) (t : List ℕ) (a d : ℕ) (vs : List ℕ) : Type
 pub record Parallel (s : Shape) (us vs : List ℕ) : Type 0 where
   pub switches : Apart (switchesOf s us) (switchesOf s vs)
   pub servers : Apart (middle us) (middle vs)
+
+-- bs are the eight path bytes of a route from server a to server d, which meets the servers vs
+pub record Encodes (s : Shape) (t : List ℕ) (a d : ℕ) (bs vs : List ℕ) : Type 0 where
+  pub route : RouteTo s t a d vs
+  pub bytes : bs ≡ encode s vs

@@ -2,7 +2,8 @@
 ghost use mathlib.Core.Path.{_≡_};
 ghost use Rattle.room.specs.Refusals.{serverRefusal};
 ghost use Rattle.path.specs.Walks.{hopRefusal};
-ghost use Rattle.path.specs.Answers.{noHop, hopFrom, hopAnswer};
+ghost use Rattle.path.specs.Answers.{noHop, hopAnswer};
+ghost use Rattle.path.specs.Inside.{hopFrom};
 use crate::Hop;
 use room::Refusal;
 use room::Shape;

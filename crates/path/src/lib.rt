@@ -15,6 +15,7 @@ mod writings;
 
 pub use hops::hop_of;
 pub use readings::read_path;
+pub use repeats::is_among;
 pub use turns::reverse_path;
 pub use walks::ends_refusal;
 pub use walks::walk;

@@ -3,7 +3,7 @@ ghost use mathlib.Core.Path.{_≡_};
 ghost use Rattle.room.specs.Refusals.{linkRefusal};
 ghost use Rattle.path.specs.Lists.{isIn};
 ghost use Rattle.path.specs.Routes.{switchAt};
-ghost use Rattle.path.specs.Answers.{noTry, newly};
+ghost use Rattle.path.specs.Inside.{noTry, newly};
 use crate::Tried;
 use room::Refusal;
 use room::Shape;
@@ -20,7 +20,7 @@ pub(crate) fn no_try(number: usize) -> Tried
 }
 
 // Whether x is in a list.
-fn is_among(list: &[usize], x: usize) -> bool
+pub fn is_among(list: &[usize], x: usize) -> bool
     ensures { λ r. ⌜ r ≡ isIn x (now (list .entry)) ⌝ }
 {
     let mut i: usize = 0;

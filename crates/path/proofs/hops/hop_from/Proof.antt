@@ -4,7 +4,8 @@ use mathlib.Core.Path.{_≡_, sym, ap, _∙_}
 use Prim.Native.Nat.{ℕ}
 use Rattle.room.proofs.RefusalLaws.{server-of, answer-refused, answer-given}
 use Rattle.path.specs.Walks.{hopTo}
-use Rattle.path.specs.Answers.{noHop, aHop, hopFrom}
+use Rattle.path.specs.Answers.{noHop, aHop}
+use Rattle.path.specs.Inside.{hopFrom}
 use Rattle.path.proofs.HopCode.{neighbour-found, hop-value}
 use Rattle.path.proofs.hops.hop_from.Statement.{statement}
 use Rattle.path.proofs.hops.hop_from.Tie as tie

@@ -2,7 +2,8 @@
 use borrow.Author.Needs.{needs}
 use mathlib.Core.Path.{_≡_, sym, ap, _∙_}
 use Rattle.room.proofs.RefusalLaws.{answer-refused, answer-given}
-use Rattle.path.specs.Answers.{noHop, hopFrom, hopAnswer}
+use Rattle.path.specs.Answers.{noHop, hopAnswer}
+use Rattle.path.specs.Inside.{hopFrom}
 use Rattle.path.proofs.HopCode.{answer-chain}
 use Rattle.path.proofs.hops.hop_of.Statement.{statement}
 use Rattle.path.proofs.hops.hop_of.Tie as tie

@@ -5,7 +5,7 @@ use mathlib.Core.Path.{_≡_, ap}
 use Prim.Native.Nat.{ℕ, _+_, _-_}
 use native.Mathlib.Numerals.{add-one}
 use lib.ListN.{length, getD}
-use Rattle.path.specs.Routes.{Next}
+use Rattle.path.specs.Inside.{Next}
 use Rattle.path.proofs.WriteLaws.{Putting, put-start, put-next, put-end}
 use Rattle.path.proofs.writings.put_bytes.Statement.{statement}
 use Rattle.path.proofs.writings.put_bytes.Tie as tie
