@@ -1,0 +1,5 @@
+pub mod ScanLaws
+pub mod AcceptLaws
+pub mod ListWalk
+pub mod LengthLaws
+pub mod Unique

@@ -1,0 +1,132 @@
+-- Walking the arrays of a list in turn: what the loop keeps.
+use Prim.Native.Nat.{ℕ, zero, suc, _+_, _-_, _*_, _/_, _≤_, _<_, suc-le-suc, zero-le}
+use mathlib.Core.Path.{_≡_, refl, sym, ap, ap₂, _∙_}
+use mathlib.Core.Bool.{Bool, true, false, cond}
+use mathlib.Core.List.{List, [], _∷_, _++_, map}
+use native.Mathlib.Omega.{arith}
+use native.Mathlib.Nat.{le-of-suc-le-suc}
+use native.Mathlib.Numerals.{add-one}
+use native.Mathlib.Decide.{decLt}
+use lib.ListN.{length, getD, set, take, drop, length-set, length-take, drop-of-length-le}
+use lib.Seq.{take-suc-set, take-suc, take-all, getD-set-same, getD-set-other, drop-drop}
+use borrow.Author.Tests.{eq-eqb, ne-eqb}
+use Rattle.room.specs.declared.Shape.{Shape}
+use Rattle.room.specs.declared.Refusal.{Refusal}
+use Rattle.room.specs.Refusals.{none, refusedAt}
+use Rattle.path.specs.declared.Walked.{Walked}
+use Rattle.path.specs.Answers.{walkAnswer}
+use Rattle.path.specs.Lists.{filled, inTurn}
+use Rattle.path.specs.Routes.{switchesOf, switchTo}
+use Rattle.path.proofs.ListLaws.{length-filled, length-turn}
+use Rattle.path.proofs.CodecLaws.{walk-given, walk-exactly}
+use Rattle.verdict.specs.Checks.{arrays, firstStop, firstPair, firstOf, walksOf}
+use Rattle.verdict.specs.Arrived.{nowhere, Arrived, AllArrived}
+use Rattle.verdict.proofs.ScanLaws.{left, first-right}
+
+-- a walked array with no refusal has arrived
+pub arrived-of : (s : Shape) (t : List ℕ) (a d : ℕ) (bs : List ℕ) (w : Walked) → w ≡ walkAnswer s t a d bs → w .refusal .number ≡ 0 → Arrived w
+unfolding switchesOf
+arrived-of s t a d bs w e n =
+    let h = walk-exactly s t a d bs .0 (ap (λ (x : Walked). x .refusal .number) (sym e) ∙ n) in
+    let g = e ∙ walk-given (h .1) in
+    let r = h .1 .route .route in
+    record {
+      some = omega (arith, ap (λ (x : Walked). x .count) g, r .some);
+      few = omega (arith, ap (λ (x : Walked). x .count) g, r .few);
+      long-servers = ap (λ (x : Walked). length (x .servers)) g ∙ length-filled 9 (h .0) (r .few);
+      long-switches = ap (λ (x : Walked). length (x .switches)) g ∙ length-filled 8 (inTurn (switchTo s) (h .0)) (omega (arith, length-turn (switchTo s) (h .0), r .few));
+    }
+
+arrays-long : (m : ℕ) (bs : List ℕ) → length (arrays m bs) ≡ m
+unfolding arrays
+arrays-long zero bs = refl
+arrays-long (suc m) bs = ap suc (arrays-long m (drop 8 bs))
+
+arrays-at : (m i : ℕ) (bs : List ℕ) → i < m → getD (arrays m bs) i [] ≡ take 8 (drop (8 * i) bs)
+unfolding arrays
+arrays-at zero i bs h = let z : ⊥ = omega arith in absurd z
+arrays-at (suc m) zero bs h = refl
+arrays-at (suc m) (suc i) bs h =
+    let e : 8 + 8 * i ≡ 8 * suc i = omega arith in
+    arrays-at m i (drop 8 bs) (le-of-suc-le-suc h) ∙ ap (take 8) (drop-drop (8 * i) 8 bs ∙ ap (λ (x : ℕ). drop x bs) e)
+
+map-long : {A B : Type 0} (f : A → B) (xs : List A) → length (map f xs) ≡ length xs
+map-long f [] = refl
+map-long f (x ∷ xs) = ap suc (map-long f xs)
+
+map-at : {A B : Type 0} (f : A → B) (xs : List A) (i : ℕ) (x : A) (y : B) → i < length xs → getD (map f xs) i y ≡ f (getD xs i x)
+map-at f [] i x y h = let z : ⊥ = omega arith in absurd z
+map-at f (z ∷ zs) zero x y h = refl
+map-at f (z ∷ zs) (suc i) x y h = map-at f zs i x y (le-of-suc-le-suc h)
+
+module _ (s : Shape) (t : List ℕ) (a d : ℕ) (bs : List ℕ) where
+  abbrev pub W : List Walked
+  W = walksOf s t a d bs
+
+  W-long : length W ≡ length bs / 8
+  unfolding walksOf
+  W-long = map-long (walkAnswer s t a d) (arrays (length bs / 8) bs) ∙ arrays-long (length bs / 8) bs
+
+  W-at : (i : ℕ) → i < length bs / 8 → getD W i nowhere ≡ walkAnswer s t a d (take 8 (drop (8 * i) bs))
+  unfolding walksOf
+  W-at i h =
+      map-at (walkAnswer s t a d) (arrays (length bs / 8) bs) i [] nowhere (rw (arrays-long (length bs / 8) bs) h)
+      ∙ ap (walkAnswer s t a d) (arrays-at (length bs / 8) i bs h)
+
+  -- the first i arrays have been walked, and none was refused
+  pub record Walking (walks : List Walked) (i : ℕ) : Type 0 where
+    pub within : i ≤ length bs / 8
+    pub arrived : AllArrived i walks
+    pub same : take i walks ≡ take i W
+    pub rest : firstStop (i + 1) (drop i W) ≡ firstStop 1 W
+
+  pub walking-none : (walks : List Walked) → length walks ≡ 4 → Walking walks 0
+  walking-none walks l =
+      record { within = omega arith; arrived = record { long = l; each = λ i p. absurd (let z : ⊥ = omega arith in z) }; same = refl; rest = refl }
+
+  module _ (walks : List Walked) (i : ℕ) (g : Walking walks i) (few : length bs / 8 ≤ 4) (more : i < length bs / 8) (w : Walked) (part : w ≡ walkAnswer s t a d (take (8 * i + 8 - 8 * i) (drop (8 * i) bs))) where
+    e : w ≡ walkAnswer s t a d (take 8 (drop (8 * i) bs))
+    e = let q : 8 * i + 8 - 8 * i ≡ 8 = omega arith in part ∙ ap (λ (m : ℕ). walkAnswer s t a d (take m (drop (8 * i) bs))) q
+
+    cut : drop i W ≡ w ∷ drop (i + 1) W
+    cut =
+        left W i nowhere (rw W-long more)
+        ∙ ap (λ (x : Walked). x ∷ drop (i + 1) W) (W-at i more ∙ sym e)
+
+    -- a refused array is the answer
+    pub walking-stops : (w .refusal .number ≡ 0 → ⊥) → refusedAt (w .refusal .number) (i + 1) (w .refusal .hop) ≡ firstOf (firstStop 1 W) (firstPair 1 W)
+    unfolding firstStop firstOf
+    walking-stops n =
+        let f : firstStop 1 W ≡ refusedAt (w .refusal .number) (i + 1) (w .refusal .hop) = sym (g .rest) ∙ rw (cut, ne-eqb (w .refusal .number) 0 n) in
+        rw (f, ne-eqb (w .refusal .number) 0 n)
+
+    pub walking-goes : w .refusal .number ≡ 0 → Walking (set walks i w) (i + 1)
+    unfolding firstStop
+    walking-goes n =
+        let l : i < length walks = omega (arith, g .arrived .long) in
+        record {
+          within = omega arith;
+          arrived = record { long = length-set walks i w ∙ g .arrived .long; each = at l };
+          same =
+              rw add-one
+              (take-suc-set walks i w l ∙ ap (λ (x : List Walked). x ++ (w ∷ [])) (g .same)
+              ∙ sym (take-suc W i nowhere (rw W-long more) ∙ ap (λ (x : Walked). take i W ++ (x ∷ [])) (W-at i more ∙ sym e)));
+          rest = sym (rw (cut, eq-eqb (w .refusal .number) 0 n)) ∙ g .rest;
+        }
+      where
+        at : i < length walks → (j : ℕ) → j < i + 1 → Arrived (getD (set walks i w) j nowhere)
+        at l j p =
+            elim (decLt j i) [
+              | yes y ↦ rw (getD-set-other walks i j w nowhere (λ q. omega arith)) (g .arrived .each j y)
+              | no y ↦ let q : j ≡ i = omega arith in rw (q, getD-set-same walks i w nowhere l) (arrived-of s t a d _ w e n)
+            ]
+
+  -- after the last, every two are held against each other
+  pub walking-ends : (walks : List Walked) (i : ℕ) → Walking walks i → length bs / 8 ≤ i → firstPair 1 (take (length bs / 8) walks) ≡ firstOf (firstStop 1 W) (firstPair 1 W)
+  unfolding firstStop
+  walking-ends walks i g h =
+      let q : i ≡ length bs / 8 = omega (arith, g .within) in
+      let f : take (length bs / 8) walks ≡ W = ap (λ (x : ℕ). take x walks) (sym q) ∙ g .same ∙ take-all i W (omega (arith, W-long)) in
+      let z : length W ≤ i = omega (arith, W-long) in
+      let n : firstStop 1 W ≡ none = sym (g .rest) ∙ rw (drop-of-length-le W z) in
+      ap (firstPair 1) f ∙ sym (ap (λ (r : Refusal). firstOf r (firstPair 1 W)) n ∙ first-right none (firstPair 1 W) refl)

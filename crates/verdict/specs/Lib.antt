@@ -1,0 +1,3 @@
+pub mod Checks
+pub mod Arrived
+pub mod Accepted
