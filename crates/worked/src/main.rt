@@ -1,4 +1,8 @@
 // The worked numbers of the rules, and every refusal's edge, one line a question.
+// lists.rt: lists of arrays
+mod lists;
+// paths.rt: path bytes
+mod paths;
 // print.rt: lines of text and numbers
 mod print;
 // rooms.rt: shapes, addresses, switches, neighbours
@@ -14,4 +18,10 @@ fn main() {
     rooms::neighbours();
     tables::marks();
     tables::refusals();
+    paths::readings();
+    paths::refused_readings();
+    paths::writings();
+    lists::checks();
+    lists::shared();
+    lists::failed();
 }

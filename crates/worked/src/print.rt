@@ -72,3 +72,23 @@ pub(crate) fn bytes(b: &[u8]) {
 pub(crate) fn end() {
     text(b"\n");
 }
+
+// The first numbers of nine, each with a space before it.
+pub(crate) fn items(numbers: [usize; 9], count: usize) {
+    let mut i: usize = 0;
+    while i < 9 {
+        if i < count {
+            item(numbers[i]);
+        }
+        i += 1;
+    }
+}
+
+// Every number of a slice, with a space before it.
+pub(crate) fn all(numbers: &[usize]) {
+    let mut i: usize = 0;
+    while i < numbers.len() {
+        item(numbers[i]);
+        i += 1;
+    }
+}
