@@ -1,0 +1,12 @@
+pub mod Vectors
+pub mod ListLaws
+pub mod Symbolic
+pub mod Lift
+pub mod HopLaws
+pub mod Words
+pub mod ServerWords
+pub mod BuiltLaws
+pub mod SetLaws
+pub mod ArrayLaws
+pub mod SlotLaws
+pub mod Unique

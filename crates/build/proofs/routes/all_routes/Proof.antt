@@ -1,0 +1,42 @@
+-- `build::routes::all_routes` meets its contract. Assumes nothing.
+use borrow.Author.Needs.{needs}
+use native.Mathlib.Omega.{arith}
+use mathlib.Core.Path.{_≡_, _∙_}
+use Prim.Native.Nat.{suc, _-_, _≤_}
+use Rattle.build.specs.Built.{builtArrays}
+use Rattle.build.specs.Sets.{setOf}
+use Rattle.build.proofs.ArrayLaws.{ends-of, withPlaces, gather-start, gather-next, gather-end}
+use Rattle.build.proofs.routes.all_routes.Statement.{statement}
+use Rattle.build.proofs.routes.all_routes.Tie as tie
+
+abbrev Inv-loop : tie.InvT-loop
+Inv-loop shape source destination k set₀ place₀ set place =
+    (place ≤ suc (shape .k)) × (withPlaces shape source destination set place ≡ setOf (builtArrays shape source destination))
+
+abbrev μ-loop : tie.MeasureT-loop
+μ-loop shape source destination k set₀ place₀ set place = suc (shape .k) - place
+
+pub all-routes-spec : {M : Type 1} → statement M
+all-routes-spec =
+    tie.close
+    (tie.spec
+    Inv-loop
+    μ-loop
+    (λ c κs. search needs)
+    (λ c.
+    let a = c .before .args in
+    (omega arith, gather-start (ends-of (a .shape) (a .source) (a .destination) (c .before .pre)) _ (c .new .ensures)))
+    (λ c κs. let e = ends-of _ _ _ (c .before .before .before .pre) in (search needs, search needs, omega arith))
+    (λ c κs. search needs)
+    (λ c. let e = ends-of _ _ _ (c .before .before .before .before .before .pre) in let v = e .source .valid in omega arith)
+    (λ c. search needs)
+    (λ c.
+    let a = c .before .before .before .before .before .args in
+    let o = c .before .before .before .loop in (
+      omega arith,
+      gather-next (a .shape) (a .source) (a .destination) (o .set) (o .place) (c .before .before .loop-test .taken) _ (c .before .route-bytes .ensures) _ (c .with-route .ensures) ∙ o .inv .1,
+    ))
+    (λ c.
+    let a = c .before .before .before .args in
+    let o = c .before .loop in
+    gather-end (a .shape) (a .source) (a .destination) (o .set) (o .place) (c .loop-test .left) ∙ o .inv .1))
