@@ -280,6 +280,17 @@ def step(n, k, here, d, index, path, table):
     return f'next {address(n, ds)} index {index + 1} mac {bytes(entry[:6]).hex()} port {entry[6]}'
 
 
+def accepted_from(n, k, a):
+    """How many destinations have a built list that a check in a healthy room takes."""
+    count = 0
+    for d in range(n ** (k + 1)):
+        if d != a:
+            data = [x for r in build(n, k, a, d) for x in encode(n, k, r)]
+            check(n, k, [0] * n ** (k + 1), a, d, data)
+            count += 1
+    return count
+
+
 # ---- the rows
 
 def hexed(word):
@@ -349,6 +360,8 @@ def answer(name, n, k, words):
         return pick(n, k, hexed(words[0]), int(words[1]), int(words[2]), hexed(words[3]), hexed(words[4]))
     if name == 'build':
         return shown(build(n, k, num[0], num[1]), n, k)
+    if name == 'accepted':
+        return ' '.join(str(accepted_from(n, k, a)) for a in range(n ** (k + 1)))
     if name == 'select':
         return shown(select(n, k, hexed(words[0]), int(words[1]), int(words[2])), n, k)
     if name == 'step':

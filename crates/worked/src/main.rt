@@ -5,6 +5,8 @@ mod lists;
 mod paths;
 // print.rt: lines of text and numbers
 mod print;
+// routes.rt: built routes
+mod routes;
 // rooms.rt: shapes, addresses, switches, neighbours
 mod rooms;
 // tables.rt: the failed-link table
@@ -24,4 +26,6 @@ fn main() {
     lists::checks();
     lists::shared();
     lists::failed();
+    routes::built();
+    routes::pairs();
 }
