@@ -1,0 +1,50 @@
+-- For the layers above: what an answer of the search tells.
+use Prim.Native.Nat.{ℕ, _-_, _<_, _≤_}
+use native.Mathlib.Omega.{arith}
+use native.Mathlib.Decide.{ℕ-discrete}
+use mathlib.Core.Path.{_≡_, refl, sym, ap, _∙_}
+use mathlib.Core.Logic.{_⊎_, inl, inr, ⊎-elim, _↔_}
+use mathlib.Core.List.{List}
+use lib.ListN.{length}
+use Rattle.room.specs.declared.Shape.{Shape}
+use Rattle.room.specs.declared.Refusal.{Refusal}
+use Rattle.room.specs.Refusals.{plain}
+use Rattle.path.specs.Routes.{encode, RouteTo}
+use Rattle.finder.specs.declared.Found.{Found}
+use Rattle.finder.specs.Alternates.{Alternate}
+use Rattle.finder.specs.Answers.{findRefusal, notFound, Given, Finding}
+use Rattle.finder.proofs.Order.{split}
+
+module _ {s : Shape} {t : List ℕ} {a d : ℕ} {r : Found} where
+  -- the hops and bytes of the alternate
+  pub given-hops : (g : Given s t a d r) → r .hops ≡ length (g .servers) - 1
+  given-hops g = ap (λ (x : Found). x .hops) (g .answer)
+
+  pub given-bytes : (g : Given s t a d r) → r .bytes ≡ encode s (g .servers)
+  given-bytes g = ap (λ (x : Found). x .bytes) (g .answer)
+
+  pub given-some : Given s t a d r → (0 < r .hops) × (r .hops ≤ 8)
+  given-some g =
+      (omega (arith, given-hops g, g .alternate .route .route .some), omega (arith, given-hops g, g .alternate .route .route .few))
+
+  module _ (f : Finding s t a d r) where
+    -- the refusal is the test's
+    pub found-refusal : r .refusal ≡ plain (findRefusal s t a d)
+    found-refusal =
+        elim (ℕ-discrete (findRefusal s t a d) 0) [
+          | yes z ↦
+              ⊎-elim (λ p. ap (λ (x : Found). x .refusal) (f .given z p .answer)) (λ p. ap (λ (x : Found). x .refusal) (f .none z (omega arith) .0)) (split 0 (r .hops)) ∙ ap plain (sym z)
+          | no n ↦ ap (λ (x : Found). x .refusal) (f .refused n)
+        ]
+
+    module _ (z : findRefusal s t a d ≡ 0) where
+      -- the alternate, or no route
+      pub found-or-none : Given s t a d r ⊎ ((r ≡ notFound 0) × ((vs : List ℕ) → RouteTo s t a d vs → ⊥))
+      found-or-none = ⊎-elim (λ p. inl (f .given z p)) (λ p. inr (f .none z (omega arith))) (split 0 (r .hops))
+
+      -- no hops exactly where there is no route
+      pub none-exactly : (r .hops ≡ 0) ↔ ((vs : List ℕ) → RouteTo s t a d vs → ⊥)
+      none-exactly = (
+        λ e. f .none z e .1,
+        λ no-route. ⊎-elim (λ p. absurd (no-route (f .given z p .servers) (f .given z p .alternate .route))) (λ p. omega arith) (split 0 (r .hops)),
+      )

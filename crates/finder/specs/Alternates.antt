@@ -1,0 +1,32 @@
+-- The alternate: the route that comes first in document 01's order, among all routes over the live links of a table.
+use Prim.Native.Nat.{ℕ, _/_, _%_, _<_}
+use mathlib.Core.Path.{_≡_}
+use mathlib.Core.Logic.{_⊎_}
+use mathlib.Core.List.{List, [], _∷_}
+use lib.ListN.{length}
+use Rattle.room.specs.declared.Shape.{Shape}
+use Rattle.path.specs.Lists.{inTurn}
+use Rattle.path.specs.Routes.{byteTo, RouteTo}
+
+-- the path bytes of a route's hops, in turn
+unfoldable pub bytesOf : Shape → List ℕ → List ℕ
+bytesOf s vs = inTurn (byteTo s) vs
+
+-- of two hops, by their path bytes: the higher level comes first, then the lower value
+abbrev pub Sooner : ℕ → ℕ → Type 0
+Sooner b c = (c / 64 < b / 64) ⊎ ((b / 64 ≡ c / 64) × (b % 64 < c % 64))
+
+-- hop by hop from the source: at the first hop in which they differ, the first comes sooner
+abbrev pub HopByHop : List ℕ → List ℕ → Type 0
+HopByHop [] cs = ⊥
+HopByHop (b ∷ bs) [] = ⊥
+HopByHop (b ∷ bs) (c ∷ cs) = Sooner b c ⊎ ((b ≡ c) × HopByHop bs cs)
+
+-- route us comes before route vs: it has fewer hops, or as many and comes first hop by hop
+abbrev pub Before : Shape → List ℕ → List ℕ → Type 0
+Before s us vs = (length us < length vs) ⊎ ((length us ≡ length vs) × HopByHop (bytesOf s us) (bytesOf s vs))
+
+-- the alternate from a to d over the live links of table t: a route, of eight hops at most, and no route comes before it
+pub record Alternate (s : Shape) (t : List ℕ) (a d : ℕ) (vs : List ℕ) : Type 0 where
+  pub route : RouteTo s t a d vs
+  pub first : (us : List ℕ) → RouteTo s t a d us → Before s us vs → ⊥

@@ -1,0 +1,37 @@
+-- What the search for the alternate answers. On a refusal all but the refusal is zero.
+use Prim.Native.Nat.{ℕ, zero, suc, _-_, _<_}
+use mathlib.Core.Path.{_≡_}
+use mathlib.Core.Logic.{_≢_}
+use mathlib.Core.List.{List}
+use lib.ListN.{length, replicate}
+use Rattle.room.specs.declared.Shape.{Shape}
+use Rattle.room.specs.Refusals.{none, plain, _or-else_}
+use Rattle.links.specs.Table.{tableRefusal}
+use Rattle.path.specs.Routes.{encode, RouteTo}
+use Rattle.path.specs.Answers.{endsRefusal}
+use Rattle.finder.specs.declared.Found.{Found}
+use Rattle.finder.specs.Alternates.{Alternate}
+
+-- 1 to 3, 4, 5, 6
+unfoldable pub findRefusal : Shape → List ℕ → ℕ → ℕ → ℕ
+findRefusal s t a d = endsRefusal s a d or-else tableRefusal s t
+
+-- no route, with or without a refusal
+abbrev pub notFound : ℕ → Found
+notFound r = record { refusal = plain r; hops = 0; bytes = replicate 8 0 }
+
+-- the route vs, by its path bytes
+abbrev pub found : Shape → List ℕ → Found
+found s vs = record { refusal = none; hops = length vs - 1; bytes = encode s vs }
+
+-- the alternate, by its servers, and the answer that gives it
+pub record Given (s : Shape) (t : List ℕ) (a d : ℕ) (r : Found) : Type 0 where
+  pub servers : List ℕ
+  pub alternate : Alternate s t a d servers
+  pub answer : r ≡ found s servers
+
+-- what the search answers: the refusal; or the alternate; or, where no route is, no hops
+pub record Finding (s : Shape) (t : List ℕ) (a d : ℕ) (r : Found) : Type 0 where
+  pub refused : findRefusal s t a d ≢ 0 → r ≡ notFound (findRefusal s t a d)
+  pub given : findRefusal s t a d ≡ 0 → 0 < r .hops → Given s t a d r
+  pub none : findRefusal s t a d ≡ 0 → r .hops ≡ 0 → (r ≡ notFound 0) × ((vs : List ℕ) → RouteTo s t a d vs → ⊥)

@@ -1,0 +1,8 @@
+pub mod Alternates
+pub mod Answers
+pub mod Walks
+pub mod Hops
+pub mod State
+pub mod Kept
+pub mod Scan
+pub mod Trace

@@ -1,0 +1,59 @@
+-- What the parts of the scan are given and give.
+use Prim.Native.Nat.{ℕ, _+_, _-_, _*_, _/_, _^_, _<_, _≤_}
+use mathlib.Core.Path.{_≡_}
+use mathlib.Core.Logic.{_≢_, _⊎_}
+use mathlib.Core.Bool.{true, false}
+use mathlib.Core.List.{List}
+use lib.ListN.{length, getD}
+use Rattle.room.specs.declared.Shape.{Shape}
+use Rattle.room.specs.Shapes.{serversOf, bound, Valid, Server, Link}
+use Rattle.room.specs.Addresses.{withDigit, switchOf}
+use Rattle.links.specs.Table.{failed}
+use Rattle.finder.specs.declared.Side.{Side}
+use Rattle.finder.specs.Hops.{stepOf, Ok}
+use Rattle.finder.specs.Kept.{Kept}
+
+-- where the mark of a switch stands: 2,048 places for each level
+unfoldable pub markAt : Shape → ℕ → ℕ → ℕ
+markAt s l u = l * 2048 + switchOf s l u
+
+-- a marked switch has been scanned: each server at it whose link there is live is among the n that are found
+pub record Swept (s : Shape) (t marks queue : List ℕ) (n : ℕ) : Type 0 where
+  pub long : length marks ≡ 8192
+  pub met : (l u : ℕ) → l ≤ s .k → Server s u → getD marks (markAt s l u) 0 ≢ 0 → failed t u l ≡ false → (i : ℕ) × (i < n) × (getD queue i 0 ≡ u)
+
+-- what the servers at the switch of server u at level l are computed from
+pub record Siding (s : Shape) (marks : List ℕ) (u l p h : ℕ) : Type 0 where
+  pub link : Link s u l
+  pub stride : p ≡ s .n ^ l
+  pub high : h ≡ u / p / s .n
+  pub long : length marks ≡ 8192
+
+-- the servers at the switch of server u at level l, and how many of them to try: all, or none where the link of u is failed or
+-- the switch is marked
+pub record Sided (s : Shape) (t marks : List ℕ) (u l : ℕ) (side : Side) : Type 0 where
+  pub reach : (v : ℕ) → v < bound s l → side .first + v * side .stride ≡ withDigit s l v u
+  pub mark : side .mark ≡ markAt s l u
+  pub inside : side .mark < 8192
+  pub upper : side .upper ≡ u / s .n ^ l
+  pub most : side .count ≤ bound s l
+  pub all : 0 < side .count → (side .count ≡ bound s l) × (failed t u l ≡ false)
+  pub none : side .count ≡ 0 → (failed t u l ≡ true) ⊎ (getD marks (markAt s l u) 0 ≢ 0)
+
+-- the next hop to try: from the server at the place `head`, at a level, with the value v, to server w
+pub record Trying (s : Shape) (t back queue : List ℕ) (head tail l v w : ℕ) : Type 0 where
+  pub valid : Valid s
+  pub place : head < tail
+  pub level : l ≤ s .k
+  pub value : v < bound s l
+  pub small : v < 64
+  pub leads : w ≡ withDigit s l v (getD queue head 0)
+  pub inside : w < 4096
+  pub here : getD queue head 0 < 4096
+  pub kept : Kept (stepOf s) (Ok s t) (serversOf s) (getD queue 0 0) back queue tail (head * 256 + ((s .k - l) * 64 + v))
+
+-- after that hop was tried: r servers are found
+pub record Tried (s : Shape) (t queue back′ queue′ : List ℕ) (head tail r l v : ℕ) : Type 0 where
+  pub grows : tail ≤ r
+  pub same : (i : ℕ) → i < tail → getD queue′ i 0 ≡ getD queue i 0
+  pub kept : Kept (stepOf s) (Ok s t) (serversOf s) (getD queue 0 0) back′ queue′ r (head * 256 + ((s .k - l) * 64 + v) + 1)

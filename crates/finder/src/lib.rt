@@ -1,0 +1,29 @@
+// The search for the alternate: the least route over the live links of a failed-link table. Every
+// call takes every input: it answers, or refuses by number.
+use room::Refusal;
+// finding.rt: the call, and what it refuses
+mod finding;
+// scan.rt: breadth first from the source, until the destination is met
+mod scan;
+// trace.rt: the way back from the destination
+mod trace;
+
+pub use finding::find_route;
+
+// A route by its eight path bytes and its count of hops; or zeros where there is none, with the
+// refusal if there is one.
+pub struct Found {
+    pub refusal: Refusal,
+    pub hops: usize,
+    pub bytes: [u8; 8],
+}
+
+// The servers at a switch: the first, how far the next is from each, and how many to try; where the
+// switch's mark stands; and the digits from its level up, as one number.
+pub(crate) struct Side {
+    pub(crate) first: usize,
+    pub(crate) stride: usize,
+    pub(crate) count: usize,
+    pub(crate) mark: usize,
+    pub(crate) upper: usize,
+}

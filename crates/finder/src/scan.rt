@@ -1,0 +1,146 @@
+// The scan: breadth first from the source, levels from k down and values from 0 up, until the
+// destination is met.
+ghost use mathlib.Core.Path.{_≡_};
+ghost use Prim.Native.Nat.{ℕ, _^_, _<_, _≤_};
+ghost use mathlib.Core.List.{List, [], _∷_};
+ghost use lib.ListN.{length, getD};
+ghost use Rattle.room.specs.declared.Shape.{Shape as AShape};
+ghost use Rattle.room.specs.Shapes.{serversOf};
+ghost use Rattle.finder.specs.Hops.{stepOf, Ok};
+ghost use Rattle.finder.specs.Kept.{Blank, Kept};
+ghost use Rattle.finder.specs.Scan.{Siding, Sided, Trying, Tried};
+ghost use Rattle.finder.specs.Answers.{findRefusal, Finding};
+use crate::Found;
+use crate::Side;
+use crate::finding::no_route;
+use crate::trace::retrace;
+use links::is_live;
+use room::Shape;
+use room::bound_of;
+
+// What stands in the back-links of a server that is not found.
+const NONE: u32 = 4294967295;
+
+// What stands in the queue past the servers found: no server.
+const NOBODY: u16 = 65535;
+
+// The weights of the digits to the base n.
+fn weights(n: usize) -> [usize; 4]
+    requires { ⌜ n ≤ 64 ⌝ }
+    ensures { λ r. ⌜ r ≡ n ^ 0 ∷ n ^ 1 ∷ n ^ 2 ∷ n ^ 3 ∷ [] ⌝ }
+{
+    [1, n, n * n, n * n * n]
+}
+
+// The servers at the switch of a server at a level; none to try where the server's link is failed, or
+// the switch has been scanned. `high` is the digits above the level, as one number. A level has no more
+// than 2,048 switches, each with a place among the marks.
+fn side_of(
+    shape: Shape,
+    table: &[u8],
+    marks: &[u8; 8192],
+    server: usize,
+    level: usize,
+    stride: usize,
+    high: usize,
+) -> Side
+    requires { ⌜ Siding shape (now marks) server level stride high ⌝ }
+    ensures { λ r. ⌜ Sided shape (now (table .entry)) (now (marks .entry)) server level r ⌝ }
+{
+    let upper = server / stride;
+    let low = server % stride;
+    let first = low + stride * (shape.n * high);
+    let mark = level * 2048 + (low + stride * high);
+    let mut count: usize = 0;
+    if marks[mark] == 0 {
+        if is_live(table, level, server, server) {
+            let bound = bound_of(shape, level);
+            count = bound.value;
+        }
+    }
+    Side {
+        first,
+        stride,
+        count,
+        mark,
+        upper,
+    }
+}
+
+// Tries one hop, with the value v at a level, from the server at the place `head` to server w. The
+// result is the number of servers found.
+fn visit(
+    shape: Shape,
+    table: &[u8],
+    back: &mut [u32; 4096],
+    queue: &mut [u16; 4096],
+    head: usize,
+    tail: usize,
+    level: usize,
+    v: usize,
+    w: usize,
+) -> usize
+    requires { ⌜ Trying shape (now table) (now back) (now queue) head tail level v w ⌝ }
+    ensures { λ r. ⌜ Tried shape (now (table .entry)) (now (queue .entry)) (now (back .exit)) (now (queue .exit)) head tail r level v ⌝ }
+{
+    if back[w] != NONE {
+        return tail;
+    }
+    let here = queue[head] as usize;
+    if is_live(table, level, here, w) {
+        back[w] = (head * 256 + ((shape.k - level) * 64 + v)) as u32;
+        queue[tail] = w as u16;
+        return tail + 1;
+    }
+    tail
+}
+
+// The tables with the source alone in them.
+fn begin(back: &mut [u32; 4096], queue: &mut [u16; 4096], source: usize)
+    requires { ⌜ (source < 4096) × Blank (now back) × (length (now queue) ≡ 4096) ⌝ }
+    ensures { λ r. ⌜ ((s : AShape) (t : List ℕ) → serversOf s ≤ 4096 → source < serversOf s → Kept (stepOf s) (Ok s t) (serversOf s) source (now (back .exit)) (now (queue .exit)) 1 0) ⌝ }
+{
+    back[source] = 0;
+    queue[0] = source as u16;
+}
+
+// The least route, where nothing is refused: servers in the order in which they are found, levels down
+// from k, values up from 0; a switch is scanned once.
+pub(crate) fn search(shape: Shape, table: &[u8], source: usize, destination: usize) -> Found
+    requires { ⌜ findRefusal shape (now table) source destination ≡ 0 ⌝ }
+    ensures { λ r. ⌜ Finding shape (now (table .entry)) source destination r ⌝ }
+{
+    let mut back = [NONE; 4096];
+    let mut queue = [NOBODY; 4096];
+    begin(&mut back, &mut queue, source);
+    let mut marks = [0u8; 8192];
+    let weight = weights(shape.n);
+    let mut head: usize = 0;
+    let mut tail: usize = 1;
+    'scan: while head < tail {
+        let here = queue[head] as usize;
+        let mut level = shape.k + 1;
+        let mut high: usize = 0;
+        while 0 < level {
+            level -= 1;
+            let side = side_of(shape, table, &marks, here, level, weight[level], high);
+            high = side.upper;
+            for v in 0..side.count {
+                let w = side.first + v * side.stride;
+                tail = visit(shape, table, &mut back, &mut queue, head, tail, level, v, w);
+                if back[destination] != NONE {
+                    break 'scan;
+                }
+            }
+            if 0 < side.count {
+                let mark = side.mark;
+                marks[mark] = 1;
+            }
+        }
+        head += 1;
+    }
+    if back[destination] == NONE {
+        return no_route(0);
+    }
+    retrace(shape.k, &back, &queue, source, destination)
+}

@@ -1,0 +1,5 @@
+pub mod LengthLaws
+pub mod UsableLaws
+pub mod PickLaws
+pub mod Promises
+pub mod Unique

@@ -1,0 +1,14 @@
+-- `pick::lengths::are_arrays` meets its contract. Assumes nothing.
+use borrow.Author.Needs.{needs}
+use Rattle.pick.proofs.LengthLaws.{fits-not, fits-by}
+use Rattle.pick.proofs.lengths.are_arrays.Statement.{statement}
+use Rattle.pick.proofs.lengths.are_arrays.Tie as tie
+
+pub are-arrays-spec : {M : Type 1} → statement M
+are-arrays-spec =
+    tie.close
+    (tie.spec
+    (λ c. search fits-not)
+    (λ c. search needs)
+    (λ c. search needs)
+    (λ c. search fits-by))

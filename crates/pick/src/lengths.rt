@@ -1,0 +1,52 @@
+// What is tested before any reading.
+ghost use mathlib.Core.Path.{_≡_};
+ghost use Prim.Native.Nat.{_≤_};
+ghost use Rattle.verdict.specs.Checks.{roomRefusal};
+ghost use Rattle.pick.specs.Picks.{fits, listsRefusal};
+use room::Refusal;
+use room::Shape;
+
+// The first of 1, 2, 3, 4, 5, 6 that refuses a room with its ends and its table, or 0.
+fn room_refusal(shape: Shape, table: &[u8], source: usize, destination: usize) -> usize
+    ensures { λ r. ⌜ r ≡ roomRefusal shape (now (table .entry)) source destination ⌝ }
+{
+    let r = path::ends_refusal(shape, source, destination);
+    if r != 0 {
+        return r;
+    }
+    links::table_refusal(shape, table)
+}
+
+// Whether so many bytes are whole arrays, at most k + 1 of them; none will do.
+fn are_arrays(shape: Shape, bytes: usize) -> bool
+    requires { ⌜ shape .k ≤ 3 ⌝ }
+    ensures { λ r. ⌜ r ≡ fits shape bytes ⌝ }
+{
+    if bytes % 8 != 0 {
+        return false;
+    }
+    bytes <= 8 * (shape.k + 1)
+}
+
+// The first of 1, 2, 3, 4, 5, 6, 7 that refuses two lists before they are read, or 0.
+pub(crate) fn lists_refusal(
+    shape: Shape,
+    table: &[u8],
+    source: usize,
+    destination: usize,
+    fresh: &[u8],
+    kept: &[u8],
+) -> usize
+    ensures { λ r. ⌜ r ≡ listsRefusal shape (now (table .entry)) source destination (now (fresh .entry)) (now (kept .entry)) ⌝ }
+{
+    let r = room_refusal(shape, table, source, destination);
+    if r != 0 {
+        return r;
+    }
+    if are_arrays(shape, fresh.len()) {
+        if are_arrays(shape, kept.len()) {
+            return 0;
+        }
+    }
+    Refusal::LIST
+}

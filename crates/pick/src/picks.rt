@@ -1,0 +1,82 @@
+// The route picked, and the companion question.
+ghost use mathlib.Core.Path.{_≡_};
+ghost use Rattle.verdict.specs.Checks.{roomRefusal};
+ghost use Rattle.pick.specs.Picks.{firstIn, pickAnswer, PickedPart};
+use crate::lengths::lists_refusal;
+use room::Refusal;
+use room::Shape;
+
+// The place of the first usable array of a list, or the number of its arrays. The room, its ends and
+// its table have been tested.
+fn first_usable(shape: Shape, table: &[u8], source: usize, destination: usize, list: &[u8]) -> usize
+    requires { ⌜ roomRefusal shape (now table) source destination ≡ 0 ⌝ }
+    ensures { λ r. ⌜ r ≡ firstIn shape (now (table .entry)) source destination (now (list .entry)) ⌝ }
+{
+    let count = list.len() / 8;
+    let mut i: usize = 0;
+    while i < count {
+        let at = 8 * i;
+        let end = at + 8;
+        let walked = path::walk(shape, table, source, destination, &list[at..end]);
+        let refusal = walked.refusal;
+        if refusal.number == 0 {
+            return i;
+        }
+        i += 1;
+    }
+    count
+}
+
+// The first usable route of the fresh list, else of the kept list: the eight bytes within the buffer
+// that holds them. Usable is what checking takes as a list of one. Empty on a refusal.
+pub fn pick_route<'a>(
+    shape: Shape,
+    table: &[u8],
+    source: usize,
+    destination: usize,
+    fresh: &'a [u8],
+    kept: &'a [u8],
+) -> &'a [u8]
+    ensures { λ r. ⌜ PickedPart shape (now (table .entry)) source destination (fresh .entry) (kept .entry) r ⌝ }
+{
+    if lists_refusal(shape, table, source, destination, fresh, kept) != 0 {
+        return &fresh[0..0];
+    }
+    let i = first_usable(shape, table, source, destination, fresh);
+    if i < fresh.len() / 8 {
+        let at = 8 * i;
+        let end = at + 8;
+        return &fresh[at..end];
+    }
+    let j = first_usable(shape, table, source, destination, kept);
+    if j < kept.len() / 8 {
+        let at = 8 * j;
+        let end = at + 8;
+        return &kept[at..end];
+    }
+    &fresh[0..0]
+}
+
+// Why picking gives no route: refusals 1 to 7, 16 where neither list has a usable route, or none.
+pub fn pick_refusal(
+    shape: Shape,
+    table: &[u8],
+    source: usize,
+    destination: usize,
+    fresh: &[u8],
+    kept: &[u8],
+) -> Refusal
+    ensures { λ r. ⌜ r ≡ pickAnswer shape (now (table .entry)) source destination (now (fresh .entry)) (now (kept .entry)) ⌝ }
+{
+    let r = lists_refusal(shape, table, source, destination, fresh, kept);
+    if r != 0 {
+        return Refusal::plain(r);
+    }
+    if first_usable(shape, table, source, destination, fresh) < fresh.len() / 8 {
+        return Refusal::none();
+    }
+    if first_usable(shape, table, source, destination, kept) < kept.len() / 8 {
+        return Refusal::none();
+    }
+    Refusal::plain(Refusal::NO_ROUTE)
+}

@@ -1,0 +1,4 @@
+pub mod StepLaws
+pub mod PackLaws
+pub mod DeliveryLaws
+pub mod Unique

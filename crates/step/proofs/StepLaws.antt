@@ -1,0 +1,297 @@
+-- Laws of one step: what each test tells, which refusals arise at the hop, and the step from the next server.
+use Prim.Native.Nat.{ℕ, zero, suc, _+_, _-_, _*_, _/_, _%_, _^_, _≤_, _<_}
+use mathlib.Core.Path.{_≡_, refl, sym, ap, _∙_}
+use mathlib.Core.Logic.{_≢_}
+use mathlib.Core.List.{List}
+use mathlib.Core.Bool.{Bool, true, false, not, cond, _&&_}
+use native.Mathlib.Omega.{arith}
+use native.Mathlib.Nat.{mod-add-div, mul-add, mul-comm, mul-assoc, mul-le-mul-left}
+use lib.ListN.{length, getD}
+use lib.Dec.{ltb, leb, eqb}
+use borrow.Author.Tests.{lt-ltb, le-ltb, le-leb, lt-leb, ltb-true, eq-eqb, ne-eqb, eqb-true, eqb-false}
+use Rattle.room.specs.declared.Shape.{Shape}
+use Rattle.room.specs.declared.Refusal.{Refusal}
+use Rattle.room.specs.declared.Number.{Number}
+use Rattle.room.specs.Shapes.{serversOf, bound, Valid, Server, Link, Value}
+use Rattle.room.specs.Addresses.{digit, withDigit}
+use Rattle.room.specs.Refusals.{none, plain, refusedAt, shapeRefusal, serverRefusal, pairRefusal, _or-else_, _unless_}
+use Rattle.room.specs.Answers.{answer, aNumber}
+use Rattle.room.proofs.DigitLaws.{pow-small}
+use Rattle.room.proofs.RefusalLaws.{or-else-zero, chain-stops, chain-goes, test-held, valid-none, server-none, pair-of, pair-none, answered}
+use Rattle.room.proofs.RoomLaws.{bound-le, digit-closed-at, with-closed-at}
+use Rattle.path.specs.declared.Hop.{Hop}
+use Rattle.path.specs.Walks.{hopTo, hopRefusal}
+use Rattle.path.specs.Answers.{noHop, hopAnswer}
+use Rattle.step.specs.declared.Step.{Step}
+use Rattle.step.specs.Steps.{macAt, portAt, flagAt, givenRefusal, byteRefusal, awayRefusal, stepRefusal, atHop, placed, stopped, noStep, delivery, forwarded, stepAnswer, nextAnswer}
+
+-- ---- both ends: 1 to 3, 4
+
+pub ends-shape : (s : Shape) (a d r : ℕ) → r ≡ shapeRefusal s → r ≢ 0 → r ≡ pairRefusal s a d
+unfolding pairRefusal serverRefusal
+ends-shape s a d r e h = chain-stops _ _ _ (chain-stops _ _ _ e h) h
+
+pub ends-here : {s : Shape} (a d : ℕ) → Valid s → serversOf s ≤ a → 4 ≡ pairRefusal s a d
+unfolding pairRefusal serverRefusal
+ends-here {s} a d v h =
+    chain-stops _ _ _ (chain-goes _ _ _ _ (valid-none v) refl (simp (le-ltb a (serversOf s) h))) (λ z. omega arith)
+
+pub ends-there : {s : Shape} {a : ℕ} (d : ℕ) → Server s a → serversOf s ≤ d → 4 ≡ pairRefusal s a d
+unfolding pairRefusal serverRefusal
+ends-there {s} {a} d v h =
+    chain-goes _ _ _ _ (server-none v) refl (chain-goes _ _ _ _ (valid-none (v .valid)) refl (simp (le-ltb d (serversOf s) h)))
+
+-- ---- one hop, with the power p of n at hand
+
+-- a number with one digit set: its own value at the place taken off, the new one put there
+pub record Moved (s : Shape) (a l v p : ℕ) : Type 0 where
+  pub own-le : a / p % s .n * p ≤ a
+  pub new-le : v * p ≤ 1073741824
+  pub whole : a - a / p % s .n * p + v * p ≡ withDigit s l v a
+
+pub moved : {s : Shape} {a l v : ℕ} → Value s a l v → (p : ℕ) → p ≡ s .n ^ l → Moved s a l v p
+moved {s} {a} {l} {v} h p e =
+    let n = s .n in
+    let q = a / p in
+    let x : p * q ≡ p * (q % n) + p * (n * (q / n)) = ap (λ (y : ℕ). p * y) (sym (mod-add-div q n)) ∙ mul-add p (q % n) (n * (q / n)) in
+    let y = mul-add p v (n * (q / n)) in
+    let w = with-closed-at h p e in
+    let z = mul-comm (q % n) p in
+    let u = mul-comm v p in
+    let t = mod-add-div a p in
+    let k : p ≤ 16777216 = rw e (pow-small n l (h .link .server .valid .ports) (omega (arith, h .link .level, h .link .server .valid .levels))) in
+    let f : v < 64 = omega (arith, h .value, bound-le (h .link .server .valid) l, h .link .server .valid .ports) in
+    record { own-le = omega arith; new-le = omega (arith, mul-le-mul-left v k); whole = omega arith }
+
+module _ {s : Shape} {a : ℕ} (h : Server s a) (b : ℕ) where
+  hop-number : (r : ℕ) → hopRefusal s a b ≡ suc r → noHop (suc r) ≡ hopAnswer s a b
+  unfolding hopAnswer _or-else_
+  hop-number r e = rw (← server-none h, e)
+
+  hop-found : (x : ℕ) → hopRefusal s a b ≡ 0 → x ≡ hopTo s a b → _≡_ {A = Hop} (record { number = 0; next = x }) (hopAnswer s a b)
+  unfolding hopAnswer _or-else_
+  hop-found x e g = rw (← server-none h, e, g)
+
+  pub hop-eight : s .k < b / 64 → noHop 8 ≡ hopAnswer s a b
+  unfolding hopRefusal _or-else_
+  hop-eight p = hop-number 7 (rw (lt-leb (b / 64) (s .k) p))
+
+  module _ (m : ℕ) (level : b / 64 ≤ s .k) (most : m ≡ bound s (b / 64)) where
+    pub hop-nine : m ≤ b % 64 → noHop 9 ≡ hopAnswer s a b
+    unfolding hopRefusal _or-else_
+    hop-nine q = let r : bound s (b / 64) ≤ b % 64 = omega arith in hop-number 8 (rw (le-leb (b / 64) (s .k) level, le-ltb (b % 64) (bound s (b / 64)) r))
+
+    module _ (q : b % 64 < m) (p : ℕ) (power : p ≡ s .n ^ (b / 64)) where
+      pub hop-value : Value s a (b / 64) (b % 64)
+      hop-value = record { link = record { server = h; level = level }; value = omega arith }
+
+      pub hop-ten : a / p % s .n ≡ b % 64 → noHop 10 ≡ hopAnswer s a b
+      unfolding hopRefusal _or-else_
+      hop-ten e =
+          hop-number 9
+          (rw (le-leb (b / 64) (s .k) level, lt-ltb (b % 64) (bound s (b / 64)) (hop-value .value), eq-eqb (digit s (b / 64) a) (b % 64) (sym (digit-closed-at (hop-value .link) p power) ∙ e)))
+
+      pub hop-goes : a / p % s .n ≢ b % 64 → _≡_ {A = Hop} (record { number = 0; next = a - a / p % s .n * p + b % 64 * p }) (hopAnswer s a b)
+      unfolding hopRefusal hopTo _or-else_
+      hop-goes e =
+          hop-found _
+          (rw (le-leb (b / 64) (s .k) level, lt-ltb (b % 64) (bound s (b / 64)) (hop-value .value), ne-eqb (digit s (b / 64) a) (b % 64) (λ f. e (digit-closed-at (hop-value .link) p power ∙ f))))
+          (moved hop-value p power .whole)
+
+-- for a caller: the number is that of the byte, and with none the hop leads where it says
+pub hop-answered : {s : Shape} {a : ℕ} (b : ℕ) (x : Hop) → Server s a → x ≡ hopAnswer s a b → x .number ≡ hopRefusal s a b
+unfolding hopAnswer _or-else_
+hop-answered {s} {a} b x h e = let g : x ≡ answer (hopRefusal s a b) noHop (record { number = 0; next = hopTo s a b }) = rw (← server-none h) at e in go (hopRefusal s a b) g
+  where
+    go : (q : ℕ) → x ≡ answer q noHop (record { number = 0; next = hopTo s a b }) → x .number ≡ q
+    go zero g = ap (λ (y : Hop). y .number) g
+    go (suc q) g = ap (λ (y : Hop). y .number) g
+
+pub hop-next : {s : Shape} {a : ℕ} (b : ℕ) (x : Hop) → Server s a → x ≡ hopAnswer s a b → x .number ≡ 0 → x .next ≡ hopTo s a b
+unfolding hopAnswer
+hop-next {s} {a} b x h e z = ap (λ (y : Hop). y .next) (answered (λ (y : Hop). y .number) noHop (λ r. refl) (serverRefusal s a or-else hopRefusal s a b) x _ e z .1)
+
+-- ---- what a step is given
+
+pub record Given (s : Shape) (a d : ℕ) (bs e : List ℕ) : Type 0 where
+  pub here : Server s a
+  pub there : Server s d
+  pub table : length e ≡ 2048
+  pub path : length bs ≡ 8
+
+pub given-of : (s : Shape) (a d : ℕ) (bs e : List ℕ) → givenRefusal s a d bs e ≡ 0 → Given s a d bs e
+unfolding givenRefusal
+given-of s a d bs e z =
+    let x = or-else-zero (pairRefusal s a d or-else 17 unless eqb (length e) 2048) (7 unless eqb (length bs) 8) z in
+    let y = or-else-zero (pairRefusal s a d) (17 unless eqb (length e) 2048) (x .0) in
+    let p = pair-of s a d (y .0) in
+    record { here = p .0; there = p .1; table = eqb-true (length e) 2048 (test-held _ 16 (y .1)); path = eqb-true (length bs) 8 (test-held _ 6 (x .1)) }
+
+pub given-none : {s : Shape} {a d : ℕ} {bs e : List ℕ} → Given s a d bs e → 0 ≡ givenRefusal s a d bs e
+unfolding givenRefusal
+given-none {s} {a} {d} {bs} {e} h =
+    chain-goes _ _ _ _ (chain-goes _ _ _ _ (pair-none (h .here) (h .there)) refl (rw (eq-eqb (length e) 2048 (h .table)))) refl (rw (eq-eqb (length bs) 8 (h .path)))
+
+-- ---- which refusals arise at the hop
+
+-- none of a chain does where none of its parts does
+pub chain-plain : (p q : ℕ) → atHop p ≡ false → atHop q ≡ false → atHop (p or-else q) ≡ false
+unfolding _or-else_
+chain-plain zero q e f = f
+chain-plain (suc p) q e f = e
+
+test-plain : (r : ℕ) (t : Bool) → atHop r ≡ false → atHop (r unless t) ≡ false
+unfolding atHop
+test-plain r true e = refl
+test-plain r false e = e
+
+pub given-plain : (s : Shape) (a d : ℕ) (bs e : List ℕ) → atHop (givenRefusal s a d bs e) ≡ false
+unfolding givenRefusal pairRefusal serverRefusal shapeRefusal atHop
+given-plain s a d bs e =
+    chain-plain (pairRefusal s a d or-else 17 unless eqb (length e) 2048) (7 unless eqb (length bs) 8)
+    (chain-plain (pairRefusal s a d) (17 unless eqb (length e) 2048)
+    (chain-plain (serverRefusal s a) (serverRefusal s d) (server a) (server d))
+    (test-plain 17 (eqb (length e) 2048) refl))
+    (test-plain 7 (eqb (length bs) 8) refl)
+  where
+    server : (x : ℕ) → atHop (serverRefusal s x) ≡ false
+    server x =
+        chain-plain (shapeRefusal s) (4 unless ltb x (serversOf s))
+        (chain-plain (1 unless (leb 2 (s .n) && leb (s .n) 64) or-else 2 unless leb (s .k) 3) (3 unless leb (serversOf s) 4096)
+        (chain-plain (1 unless (leb 2 (s .n) && leb (s .n) 64)) (2 unless leb (s .k) 3) (test-plain 1 (leb 2 (s .n) && leb (s .n) 64) refl) (test-plain 2 (leb (s .k) 3) refl))
+        (test-plain 3 (leb (serversOf s) 4096) refl))
+        (test-plain 4 (ltb x (serversOf s)) refl)
+
+pub hop-placed : (s : Shape) (a b : ℕ) → hopRefusal s a b ≢ 0 → atHop (hopRefusal s a b) ≡ true
+unfolding hopRefusal atHop _or-else_
+hop-placed s a b h = go (leb (b / 64) (s .k)) (ltb (b % 64) (bound s (b / 64))) (not (eqb (digit s (b / 64) a) (b % 64))) h
+  where
+    go : (t u v : Bool) → 8 unless t or-else 9 unless u or-else 10 unless v ≢ 0 → atHop (8 unless t or-else 9 unless u or-else 10 unless v) ≡ true
+    go true true true h = absurd (h refl)
+    go true true false h = refl
+    go true false v h = refl
+    go false u v h = refl
+
+pub placed-plain : (i r : ℕ) → atHop r ≡ false → placed i r ≡ plain r
+unfolding placed
+placed-plain i r e = rw e
+
+pub placed-at : (i r : ℕ) → atHop r ≡ true → placed i r ≡ refusedAt r 1 (i + 1)
+unfolding placed
+placed-at i r e = rw e
+
+pub placed-number : (i r : ℕ) → placed i r .number ≡ r
+unfolding placed
+placed-number i r = go (atHop r)
+  where
+    go : (t : Bool) → cond t (refusedAt r 1 (i + 1)) (plain r) .number ≡ r
+    go true = refl
+    go false = refl
+
+-- ---- the chain, way by way
+
+module _ (s : Shape) (a d i : ℕ) (bs e : List ℕ) where
+  stop-at : (q : ℕ) (x : Refusal) → stepRefusal s a d i bs e ≡ q → q ≢ 0 → x ≡ placed i q → stopped x ≡ nextAnswer s a d i bs e
+  unfolding nextAnswer
+  stop-at zero x f h g = absurd (h refl)
+  stop-at (suc q) x f h g = rw (f, g)
+
+  pub next-given : (g : ℕ) → g ≡ givenRefusal s a d bs e → g ≢ 0 → stopped (plain g) ≡ nextAnswer s a d i bs e
+  unfolding stepRefusal
+  next-given g f h = stop-at g (plain g) (sym (chain-stops _ _ _ f h)) h (sym (placed-plain i g (ap atHop f ∙ given-plain s a d bs e)))
+
+  module _ (given : 0 ≡ givenRefusal s a d bs e) where
+    pub next-here : a ≡ d → stopped none ≡ nextAnswer s a d i bs e
+    unfolding nextAnswer stepRefusal _or-else_
+    next-here h = rw (← given, eq-eqb a d h)
+
+    module _ (away : a ≢ d) where
+      chain : stepRefusal s a d i bs e ≡ awayRefusal s a i bs e
+      unfolding stepRefusal _or-else_
+      chain = rw (← given, ne-eqb a d away)
+
+      pub next-eighteen : 8 ≤ i → stopped (plain 18) ≡ nextAnswer s a d i bs e
+      unfolding awayRefusal _or-else_ atHop
+      next-eighteen h = stop-at 18 (plain 18) (chain ∙ rw (le-ltb i 8 h)) (λ z. omega arith) (sym (placed-plain i 18 refl))
+
+      module _ (index : i < 8) where
+        byte-chain : stepRefusal s a d i bs e ≡ byteRefusal s a e (getD bs i 0)
+        unfolding awayRefusal _or-else_
+        byte-chain = chain ∙ rw (lt-ltb i 8 index)
+
+        pub next-hop : (r : ℕ) → r ≡ hopRefusal s a (getD bs i 0) → r ≢ 0 → stopped (refusedAt r 1 (i + 1)) ≡ nextAnswer s a d i bs e
+        unfolding byteRefusal
+        next-hop r f h =
+            stop-at r (refusedAt r 1 (i + 1)) (byte-chain ∙ sym (chain-stops _ _ _ f h)) h
+            (sym (placed-at i r (ap atHop f ∙ hop-placed s a (getD bs i 0) (λ z. h (f ∙ z)))))
+
+        module _ (taken : hopRefusal s a (getD bs i 0) ≡ 0) where
+          pub next-closed : flagAt e (getD bs i 0) ≢ 1 → stopped (refusedAt 19 1 (i + 1)) ≡ nextAnswer s a d i bs e
+          unfolding byteRefusal _or-else_ atHop
+          next-closed h =
+              stop-at 19 (refusedAt 19 1 (i + 1)) (byte-chain ∙ rw (taken, ne-eqb (flagAt e (getD bs i 0)) 1 h)) (λ z. omega arith) (sym (placed-at i 19 refl))
+
+          pub next-goes : (x : ℕ) → flagAt e (getD bs i 0) ≡ 1 → x ≡ hopTo s a (getD bs i 0) → aNumber x ≡ nextAnswer s a d i bs e
+          unfolding nextAnswer byteRefusal _or-else_
+          next-goes x h g =
+              let z : stepRefusal s a d i bs e ≡ 0 = byte-chain ∙ rw (taken, eq-eqb (flagAt e (getD bs i 0)) 1 h) in
+              rw (z, ne-eqb a d away, g)
+
+-- ---- what no refusal tells
+
+-- a step that is not refused, away from the destination: it goes by this byte
+pub record Goes (s : Shape) (a d i : ℕ) (bs e : List ℕ) : Type 0 where
+  pub given : Given s a d bs e
+  pub index : i < 8
+  pub taken : hopRefusal s a (getD bs i 0) ≡ 0
+  pub flag : flagAt e (getD bs i 0) ≡ 1
+
+pub goes-of : (s : Shape) (a d i : ℕ) (bs e : List ℕ) → stepRefusal s a d i bs e ≡ 0 → a ≢ d → Goes s a d i bs e
+unfolding stepRefusal awayRefusal byteRefusal
+goes-of s a d i bs e z away =
+    let b = getD bs i 0 in
+    let x = or-else-zero (givenRefusal s a d bs e) (cond (eqb a d) 0 (awayRefusal s a i bs e)) z in
+    let y : awayRefusal s a i bs e ≡ 0 = rw (ne-eqb a d away) at (x .1) in
+    let w = or-else-zero (18 unless ltb i 8) (byteRefusal s a e b) y in
+    let v = or-else-zero (hopRefusal s a b) (19 unless eqb (flagAt e b) 1) (w .1) in
+    record { given = given-of s a d bs e (x .0); index = ltb-true i 8 (test-held _ 17 (w .0)); taken = v .0; flag = eqb-true (flagAt e b) 1 (test-held _ 18 (v .1)) }
+
+pub goes-none : {s : Shape} {a d i : ℕ} {bs e : List ℕ} → Goes s a d i bs e → a ≢ d → stepRefusal s a d i bs e ≡ 0
+unfolding byteRefusal _or-else_
+goes-none {s} {a} {d} {i} {bs} {e} h away =
+    byte-chain s a d i bs e (given-none (h .given)) away (h .index) ∙ rw (h .taken, eq-eqb (flagAt e (getD bs i 0)) 1 (h .flag))
+
+-- ---- the step from the next server
+
+module _ (s : Shape) (a d i : ℕ) (bs e : List ℕ) (x : Number) (found : x ≡ nextAnswer s a d i bs e) where
+  pub next-none : x .refusal .number ≡ 0 → (stepRefusal s a d i bs e ≡ 0) × (x ≡ aNumber (cond (eqb a d) 0 (hopTo s a (getD bs i 0))))
+  unfolding nextAnswer
+  next-none z =
+      answered (λ (y : Number). y .refusal .number) (λ r. stopped (placed i r)) (placed-number i) (stepRefusal s a d i bs e) x _ found z
+
+  pub step-refused : x .refusal .number ≢ 0 → noStep (x .refusal) ≡ stepAnswer s a d i bs e
+  unfolding nextAnswer stepAnswer
+  step-refused h = go (stepRefusal s a d i bs e) found
+    where
+      go : (q : ℕ) → x ≡ answer q (λ r. stopped (placed i r)) (aNumber (cond (eqb a d) 0 (hopTo s a (getD bs i 0)))) → noStep (x .refusal) ≡ answer q (λ r. noStep (placed i r)) (cond (eqb a d) delivery (forwarded s a i e (getD bs i 0)))
+      go zero f = absurd (h (ap (λ (y : Number). y .refusal .number) f))
+      go (suc q) f = ap (λ (y : Number). noStep (y .refusal)) f
+
+  module _ (z : x .refusal .number ≡ 0) where
+    pub step-here : a ≡ d → delivery ≡ stepAnswer s a d i bs e
+    unfolding stepAnswer
+    step-here h = rw (next-none z .0, eq-eqb a d h)
+
+    module _ (away : a ≢ d) where
+      pub step-facts : Goes s a d i bs e
+      step-facts = goes-of s a d i bs e (next-none z .0) away
+
+      pub step-next : x .value ≡ hopTo s a (getD bs i 0)
+      step-next = let f = ap (λ (y : Number). y .value) (next-none z .1) in f ∙ rw (ne-eqb a d away)
+
+      pub step-goes : forwarded s a i e (getD bs i 0) ≡ stepAnswer s a d i bs e
+      unfolding stepAnswer
+      step-goes = rw (next-none z .0, ne-eqb a d away)
+
+      pub step-made : (r : Refusal) (n : ℕ) (m : List ℕ) (p : ℕ) → r ≡ none → n ≡ x .value → m ≡ macAt e (getD bs i 0) → p ≡ portAt e (getD bs i 0) → _≡_ {A = Step} (record { refusal = r; delivered = false; next = n; index = i + 1; mac = m; port = p }) (stepAnswer s a d i bs e)
+      step-made r n m p f g h k = rw (f, g, h, k, step-next) step-goes

@@ -1,0 +1,46 @@
+// One forwarding step: where a packet goes next, by its path bytes and its server's neighbour table.
+use room::Refusal;
+// exports.rt: the step for the driver in C
+mod exports;
+// hops.rt: one hop, from a server that was tested
+mod hops;
+// next.rt: the next server
+mod next;
+// powers.rt: powers of n
+mod powers;
+// steps.rt: the step
+mod steps;
+// tests.rt: what is tested before a step answers
+mod tests;
+
+pub use exports::bcube_step;
+pub use exports::bcube_step_mac;
+pub use steps::step_once;
+
+// Where a packet goes next: the next server, the next hop index, and the MAC and OutPort as stored;
+// or delivered, and zeros; or a refusal, false and zeros.
+pub struct Step {
+    pub refusal: Refusal,
+    pub delivered: bool,
+    pub next: usize,
+    pub index: usize,
+    pub mac: [u8; 6],
+    pub port: u8,
+}
+
+impl Step {
+    // A neighbour table has this many bytes.
+    pub const TABLE_BYTES: usize = 2048;
+
+    // An entry of a neighbour table has this many bytes.
+    pub const ENTRY_BYTES: usize = 8;
+
+    // The OutPort stands at this byte of an entry, after the six bytes of the MAC.
+    pub const PORT: usize = 6;
+
+    // The StatusFlag stands at this byte of an entry.
+    pub const FLAG: usize = 7;
+
+    // The StatusFlag of an available neighbour; every other value says that it is not.
+    pub const AVAILABLE: u8 = 1;
+}
