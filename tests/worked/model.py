@@ -166,11 +166,11 @@ def pick(n, k, table, a, d, fresh, kept):
     for data in (fresh, kept):
         if len(data) % 8 or len(data) > 8 * (k + 1):
             raise Refused(7)
-    for name, data in (('fresh', fresh), ('kept', kept)):
-        for i, x in enumerate(arrays(data), 1):
+    for data in (fresh, kept):
+        for x in arrays(data):
             try:
                 check(n, k, table, a, d, x)
-                return f'{name} {i}'
+                return bytes(x).hex()
             except Refused:
                 pass
     raise Refused(16)
@@ -302,7 +302,7 @@ def shown(routes, n, k):
 
 
 def answer(name, n, k, words):
-    num = [int(w) for w in words if w.isdigit()] if not re.fullmatch('failed|mark|clear|read|reverse|check|pick|select|step', name) else []
+    num = [int(w) for w in words if w.isdigit()] if not re.fullmatch('failed|mark|clear|read|reverse|check|picked|select|step', name) else []
     if name == 'servers':
         test_shape(n, k)
         return n ** (k + 1)
@@ -356,7 +356,7 @@ def answer(name, n, k, words):
     if name == 'check':
         check(n, k, hexed(words[0]), int(words[1]), int(words[2]), hexed(words[3]))
         return 'accepted'
-    if name == 'pick':
+    if name == 'picked':
         return pick(n, k, hexed(words[0]), int(words[1]), int(words[2]), hexed(words[3]), hexed(words[4]))
     if name == 'build':
         return shown(build(n, k, num[0], num[1]), n, k)

@@ -3,12 +3,16 @@
 mod lists;
 // paths.rt: path bytes
 mod paths;
+// picks.rt: picking
+mod picks;
 // print.rt: lines of text and numbers
 mod print;
 // routes.rt: built routes
 mod routes;
 // rooms.rt: shapes, addresses, switches, neighbours
 mod rooms;
+// steps.rt: the forwarding step
+mod steps;
 // tables.rt: the failed-link table
 mod tables;
 
@@ -26,6 +30,8 @@ fn main() {
     lists::checks();
     lists::shared();
     lists::failed();
+    picks::picks();
     routes::built();
     routes::pairs();
+    steps::steps();
 }
