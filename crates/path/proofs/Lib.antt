@@ -1,5 +1,5 @@
-pub mod ListCode
-pub mod HopCode
+pub mod ListSteps
+pub mod HopSteps
 pub mod WalkLaws
 pub mod WriteLaws
 pub mod TurnLaws

@@ -1,22 +1,19 @@
 -- Laws of reversal: a list backwards, servers in turn backwards, and what a walk that arrives has met.
-use Prim.Native.Nat.{ℕ, zero, suc, _+_, _-_, _*_, _/_, _%_, _≤_, _<_}
+use Prim.Native.Nat.{ℕ, zero, suc, _+_, _-_, _/_, _≤_, _<_}
 use mathlib.Core.Path.{_≡_, refl, sym, ap, ap₂, _∙_}
-use mathlib.Core.Logic.{_≢_}
-use mathlib.Core.Bool.{Bool, true, false, not, cond, _&&_}
+use mathlib.Core.Bool.{Bool}
 use mathlib.Core.List.{List, [], _∷_, _++_, append-nil, reverse, reverse-append, reverse-cons}
-use native.Mathlib.Numerals.{add-one}
 use native.Mathlib.Omega.{arith}
 use native.Mathlib.Decide.{decLt, ℕ-discrete}
-use lib.Dec.{eqb}
 use lib.ListN.{length, getD, set, take, drop, replicate, length-set, length-append, length-reverse, List·getD-append}
 use lib.Seq.{take-suc, append-snoc, getD-at, take-append-seam, take-at}
 use borrow.Author.Tests.{eq-eqb, ne-eqb}
 use Rattle.room.specs.declared.Shape.{Shape}
 use Rattle.room.specs.Shapes.{Server, Value}
-use Rattle.room.specs.Addresses.{digit, differing, Neighbours}
-use Rattle.room.specs.Refusals.{plain, serverRefusal, _or-else_, _unless_}
+use Rattle.room.specs.Addresses.{differing, Neighbours}
+use Rattle.room.specs.Refusals.{plain, _or-else_, _unless_}
 use Rattle.room.specs.Answers.{answer}
-use Rattle.room.proofs.RefusalLaws.{or-else-zero, server-of, answer-refused, answer-given}
+use Rattle.room.proofs.RefusalLaws.{or-else-zero, server-of}
 use Rattle.room.proofs.RoomLaws.{neighbours-exactly, with-server, with-same, with-beside}
 use Rattle.links.specs.Table.{live}
 use Rattle.path.specs.declared.Walked.{Walked}
@@ -26,8 +23,8 @@ use Rattle.path.specs.Routes.{levelTo, switchAt, encode}
 use Rattle.path.specs.Inside.{Next, Chain}
 use Rattle.path.specs.Walks.{Walk, stopped, arrived, hopTo, hopRefusal, fault, ended, walkFrom, walk}
 use Rattle.path.specs.Answers.{arrayRefusal, noWalk, walked, walkAnswer, noWriting, aWriting, reversed, reverseAnswer}
-use Rattle.path.proofs.ListCode.{filled-is, rest-on, taken-on}
-use Rattle.path.proofs.HopCode.{hop-value, hop-changes}
+use Rattle.path.proofs.ListSteps.{filled-is, rest-on, taken-on}
+use Rattle.path.proofs.HopSteps.{hop-value, hop-changes}
 use Rattle.path.proofs.WalkLaws.{array-fine}
 
 -- ---- a list backwards, one place at a time

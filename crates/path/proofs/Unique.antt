@@ -3,6 +3,8 @@ use mathlib.Core.Path.{_∙_, sym}
 use Rattle.room.specs.Determined.{Determined}
 use Rattle.path.proofs.hops.hop_of.Reads as hop-of
 use Rattle.path.proofs.hops.hop_of.Kinds as hop-of-kinds
+use Rattle.path.proofs.repeats.is_among.Reads as is-among
+use Rattle.path.proofs.repeats.is_among.Kinds as is-among-kinds
 use Rattle.path.proofs.walks.ends_refusal.Reads as ends-refusal
 use Rattle.path.proofs.walks.ends_refusal.Kinds as ends-refusal-kinds
 use Rattle.path.proofs.walks.walk.Reads as walk
@@ -31,3 +33,6 @@ reverse-path-unique κs a x y s t e f = e ∙ sym f
 
 pub write-path-unique : Determined 1 write-path-kinds.ps write-path-kinds.r write-path.Post
 write-path-unique κs a x y s t e f = e ∙ sym f
+
+pub is-among-unique : Determined 1 is-among-kinds.ps is-among-kinds.r is-among.Post
+is-among-unique κs a x y s t e f = e ∙ sym f

@@ -1,18 +1,17 @@
 -- Laws of walking: one test, one hop, one byte at a time.
-use Prim.Native.Nat.{ℕ, zero, suc, _+_, _-_, _*_, _/_, _%_, _≤_, _<_}
+use Prim.Native.Nat.{ℕ, zero, suc, _+_, _-_, _/_, _≤_, _<_}
 use mathlib.Core.Path.{_≡_, refl, sym, ap, ap₂, _∙_}
-use mathlib.Core.Bool.{Bool, true, false, not, cond, _&&_}
+use mathlib.Core.Bool.{Bool, true, false, not, cond}
 use mathlib.Core.List.{List, [], _∷_, _++_}
-use native.Mathlib.Numerals.{add-one}
 use native.Mathlib.Omega.{arith}
-use lib.Dec.{ltb, leb, eqb}
+use lib.Dec.{eqb}
 use lib.ListN.{length, getD, set, take, drop, replicate, drop-of-length-le, length-set}
 use lib.Seq.{length-take-le}
 use borrow.Author.Tests.{eq-eqb, ne-eqb, eqb-true}
 use Rattle.room.specs.declared.Shape.{Shape}
 use Rattle.room.specs.declared.Refusal.{Refusal}
 use Rattle.room.specs.Shapes.{Server}
-use Rattle.room.specs.Refusals.{none, refusedAt, serverRefusal, pairRefusal, linkRefusal, _or-else_, _unless_}
+use Rattle.room.specs.Refusals.{none, serverRefusal, pairRefusal, linkRefusal, _or-else_, _unless_}
 use Rattle.room.specs.Answers.{answer}
 use Rattle.room.proofs.RefusalLaws.{answer-refused, answer-given, or-else-zero, answered, link-none, test-held}
 use Rattle.links.specs.Table.{live}
@@ -22,10 +21,10 @@ use Rattle.path.specs.declared.Walked.{Walked}
 use Rattle.path.specs.Lists.{isIn, filled}
 use Rattle.path.specs.Routes.{switchAt}
 use Rattle.path.specs.Walks.{Walk, stopped, arrived, hopTo, hopRefusal, fault, ended, walkFrom, walk}
-use Rattle.path.specs.Answers.{noHop, aHop, endsRefusal, arrayRefusal, noWalk, walked}
+use Rattle.path.specs.Answers.{noHop, aHop, endsRefusal, arrayRefusal, walked}
 use Rattle.path.specs.Inside.{hopFrom, noTry, adds, newly, tried}
-use Rattle.path.proofs.ListCode.{left, filled-is, rest-on, taken-on}
-use Rattle.path.proofs.HopCode.{answer-chain, hop-value, hop-server}
+use Rattle.path.proofs.ListSteps.{left, filled-is, rest-on, taken-on}
+use Rattle.path.proofs.HopSteps.{answer-chain, hop-value, hop-server}
 
 -- ---- tests that two numbers are the same, or not
 
@@ -155,32 +154,32 @@ module _ (s : Shape) (t : List ℕ) (d : ℕ) (path met used : List ℕ) (a i : 
   abbrev try : Tried
   try = tried s t (take (i + 1) met) (take i used) a b
 
-  pub walk-refused : (x : Tried) → x ≡ try → (x .number ≡ 0 → ⊥) → stopped (x .number) (i + 1) ≡ here
+  -- what stands in the definition for byte i
+  turn : here ≡ cond (eqb (fault s t (take (i + 1) met) (take i used) a b) 0) (cond (eqb (hopTo s a b) d) (ended (i + 1) (take (i + 1) met ++ (hopTo s a b ∷ [])) (take i used ++ (switchAt s (b / 64) a ∷ [])) (drop (i + 1) path)) (walkFrom s t d (i + 1) (take (i + 1) met ++ (hopTo s a b ∷ [])) (take i used ++ (switchAt s (b / 64) a ∷ [])) (hopTo s a b) (drop (i + 1) path))) (stopped (fault s t (take (i + 1) met) (take i used) a b) (i + 1))
   unfolding walkFrom
-  walk-refused x e n =
-      let q : i < length path = omega arith in
-      let r = tried-number s t (take (i + 1) met) (take i used) a b x e in
-      sym (rw (left path i q, ← r, ne-eqb (x .number) 0 n))
+  turn = let q : i < length path = omega arith in rw (left path i q)
 
-  pub walk-arrived : (x : Tried) → x ≡ try → x .number ≡ 0 → x .next ≡ d → ended (i + 1) (take (i + 1 + 1) (set met (i + 1) (x .next))) (take (i + 1) (set used i (x .switch))) (drop (i + 1) path) ≡ here
-  unfolding walkFrom
-  walk-arrived x e z g =
-      let q : i < length path = omega arith in
-      let r = tried-number s t (take (i + 1) met) (take i used) a b x e in
-      let n = tried-next s t (take (i + 1) met) (take i used) a b x e z in
-      let w = tried-switch s t (take (i + 1) met) (take i used) a b x e z in
-      rw (taken-on met (i + 1) (x .next) (omega arith), taken-on used i (x .switch) (omega arith))
-      (sym (rw (left path i q, ← r, eq-eqb (x .number) 0 z, ← n, ← w, eq-eqb (x .next) d g)))
+  module _ (x : Tried) (e : x ≡ try) where
+    pub walk-refused : (x .number ≡ 0 → ⊥) → stopped (x .number) (i + 1) ≡ here
+    walk-refused n =
+        let r = tried-number s t (take (i + 1) met) (take i used) a b x e in
+        sym (turn ∙ rw (← r, ne-eqb (x .number) 0 n))
 
-  pub walk-on : (x : Tried) → x ≡ try → x .number ≡ 0 → (x .next ≡ d → ⊥) → walkFrom s t d (i + 1) (take (i + 1 + 1) (set met (i + 1) (x .next))) (take (i + 1) (set used i (x .switch))) (x .next) (drop (i + 1) path) ≡ here
-  unfolding walkFrom
-  walk-on x e z g =
-      let q : i < length path = omega arith in
-      let r = tried-number s t (take (i + 1) met) (take i used) a b x e in
-      let n = tried-next s t (take (i + 1) met) (take i used) a b x e z in
-      let w = tried-switch s t (take (i + 1) met) (take i used) a b x e z in
-      rw (taken-on met (i + 1) (x .next) (omega arith), taken-on used i (x .switch) (omega arith))
-      (sym (rw (left path i q, ← r, eq-eqb (x .number) 0 z, ← n, ← w, ne-eqb (x .next) d g)))
+    pub walk-arrived : x .number ≡ 0 → x .next ≡ d → ended (i + 1) (take (i + 1 + 1) (set met (i + 1) (x .next))) (take (i + 1) (set used i (x .switch))) (drop (i + 1) path) ≡ here
+    walk-arrived z g =
+        let r = tried-number s t (take (i + 1) met) (take i used) a b x e in
+        let n = tried-next s t (take (i + 1) met) (take i used) a b x e z in
+        let w = tried-switch s t (take (i + 1) met) (take i used) a b x e z in
+        rw (taken-on met (i + 1) (x .next) (omega arith), taken-on used i (x .switch) (omega arith))
+        (sym (turn ∙ rw (← r, eq-eqb (x .number) 0 z, ← n, ← w, eq-eqb (x .next) d g)))
+
+    pub walk-on : x .number ≡ 0 → (x .next ≡ d → ⊥) → walkFrom s t d (i + 1) (take (i + 1 + 1) (set met (i + 1) (x .next))) (take (i + 1) (set used i (x .switch))) (x .next) (drop (i + 1) path) ≡ here
+    walk-on z g =
+        let r = tried-number s t (take (i + 1) met) (take i used) a b x e in
+        let n = tried-next s t (take (i + 1) met) (take i used) a b x e z in
+        let w = tried-switch s t (take (i + 1) met) (take i used) a b x e z in
+        rw (taken-on met (i + 1) (x .next) (omega arith), taken-on used i (x .switch) (omega arith))
+        (sym (turn ∙ rw (← r, eq-eqb (x .number) 0 z, ← n, ← w, ne-eqb (x .next) d g)))
 
 -- all eight bytes were walked: 13
 pub walk-end : (s : Shape) (t : List ℕ) (d : ℕ) (path met used : List ℕ) (a i : ℕ) → length path ≤ i → stopped 13 8 ≡ walkFrom s t d i met used a (drop i path)

@@ -1,14 +1,13 @@
 -- Laws of writing: the byte of one hop, servers in turn, and what is refused on the way.
-use Prim.Native.Nat.{ℕ, zero, suc, _+_, _-_, _*_, _/_, _%_, _≤_, _<_, suc-le-suc}
-use mathlib.Core.Path.{_≡_, refl, sym, ap, ap₂, _∙_}
-use mathlib.Core.Logic.{_≢_}
-use mathlib.Core.Bool.{Bool, true, false, not, cond, _&&_}
+use Prim.Native.Nat.{ℕ, zero, suc, _+_, _-_, _≤_, _<_}
+use mathlib.Core.Path.{_≡_, refl, sym, ap, _∙_}
+use mathlib.Core.Bool.{Bool, true, false, not, _&&_}
 use mathlib.Core.List.{List, [], _∷_, _++_, append-nil}
 use native.Mathlib.Numerals.{add-one}
 use native.Mathlib.Omega.{arith}
 use native.Mathlib.Decide.{ℕ-discrete}
 use native.Mathlib.Nat.{le-of-suc-le-suc}
-use lib.Dec.{ltb, leb, eqb}
+use lib.Dec.{leb, eqb}
 use lib.ListN.{length, getD, set, take, drop, replicate, drop-of-length-le, length-set, length-drop}
 use lib.Seq.{take-suc, append-snoc}
 use borrow.Author.Tests.{eq-eqb, ne-eqb, le-leb, lt-leb, leb-true}
@@ -16,23 +15,23 @@ use Rattle.room.specs.declared.Shape.{Shape}
 use Rattle.room.specs.declared.Refusal.{Refusal}
 use Rattle.room.specs.declared.Number.{Number}
 use Rattle.room.specs.declared.Between.{Between}
-use Rattle.room.specs.Shapes.{bound, Valid, Server, Link, Value}
+use Rattle.room.specs.Shapes.{Valid, Server, Link, Value}
 use Rattle.room.specs.Addresses.{digit, differing, Neighbours}
 use Rattle.room.specs.Refusals.{none, refusedAt, shapeRefusal, serverRefusal, linkRefusal, _or-else_, _unless_}
 use Rattle.room.specs.Answers.{answer, onlyLevel, betweenAnswer, digitAnswer}
-use Rattle.room.proofs.RefusalLaws.{answered, answer-refused, answer-given, or-else-zero, or-else-left, test-held, both-held, server-of, link-none}
+use Rattle.room.proofs.RefusalLaws.{answered, or-else-zero, or-else-left, test-held, both-held, server-of, link-none}
 use Rattle.room.proofs.AnswerLaws.{between-answered}
 use Rattle.room.proofs.RoomLaws.{digit-lt, bound-le, neighbours-exactly}
 use Rattle.path.specs.declared.Tried.{Tried}
 use Rattle.path.specs.declared.Writing.{Writing}
-use Rattle.path.specs.Lists.{isIn, inTurn, filled}
+use Rattle.path.specs.Lists.{inTurn, filled}
 use Rattle.path.specs.Routes.{levelTo, switchAt, switchTo, byteTo, encode}
 use Rattle.path.specs.Inside.{Next, Chain}
 use Rattle.path.specs.Walks.{single, writeFault, writeFrom}
 use Rattle.path.specs.Answers.{serversRefusal, writeRefusal, noWriting, aWriting, written, onTheWay}
 use Rattle.path.specs.Inside.{noTry, adds, newly, triedTo}
-use Rattle.path.proofs.ListCode.{left, filled-is, rest-on, taken-on}
-use Rattle.path.proofs.HopCode.{answer-chain, digit-found}
+use Rattle.path.proofs.ListSteps.{left, filled-is, rest-on, taken-on}
+use Rattle.path.proofs.HopSteps.{answer-chain, digit-found}
 
 -- ---- two servers in a row
 

@@ -1,7 +1,5 @@
 // The bytes of servers in turn.
 ghost use mathlib.Core.Path.{_≡_};
-ghost use Prim.Native.Nat.{_≤_};
-ghost use lib.ListN.{length};
 ghost use Rattle.room.specs.Refusals.{pairRefusal};
 ghost use Rattle.path.specs.Routes.{byteTo, encode};
 ghost use Rattle.path.specs.Inside.{Next, Chain};

@@ -1,12 +1,12 @@
 -- `path::hops::hop_from` meets its contract. Assumes nothing.
 use borrow.Author.Needs.{needs}
-use mathlib.Core.Path.{_≡_, sym, ap, _∙_}
+use mathlib.Core.Path.{sym, ap, _∙_}
 use Prim.Native.Nat.{ℕ}
 use Rattle.room.proofs.RefusalLaws.{server-of, answer-refused, answer-given}
 use Rattle.path.specs.Walks.{hopTo}
 use Rattle.path.specs.Answers.{noHop, aHop}
 use Rattle.path.specs.Inside.{hopFrom}
-use Rattle.path.proofs.HopCode.{neighbour-found, hop-value}
+use Rattle.path.proofs.HopSteps.{neighbour-found, hop-value}
 use Rattle.path.proofs.hops.hop_from.Statement.{statement}
 use Rattle.path.proofs.hops.hop_from.Tie as tie
 

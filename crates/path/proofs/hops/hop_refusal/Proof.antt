@@ -1,7 +1,7 @@
 -- `path::hops::hop_refusal` meets its contract. Assumes nothing.
 use borrow.Author.Needs.{needs}
 use Rattle.room.proofs.RefusalLaws.{server-of}
-use Rattle.path.proofs.HopCode.{bound-found, digit-found, position-refused, value-refused, change-refused, hop-taken}
+use Rattle.path.proofs.HopSteps.{bound-found, digit-found, position-refused, value-refused, change-refused, hop-taken}
 use Rattle.path.proofs.hops.hop_refusal.Statement.{statement}
 use Rattle.path.proofs.hops.hop_refusal.Tie as tie
 

@@ -1,6 +1,6 @@
 -- `path::readings::read_path` meets its contract. Assumes nothing.
 use borrow.Author.Needs.{needs}
-use mathlib.Core.Path.{_≡_, ap}
+use mathlib.Core.Path.{ap}
 use Rattle.path.specs.Answers.{reading, readAnswer}
 use Rattle.path.proofs.readings.read_path.Statement.{statement}
 use Rattle.path.proofs.readings.read_path.Tie as tie

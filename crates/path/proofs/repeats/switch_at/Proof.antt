@@ -3,7 +3,7 @@ use borrow.Author.Needs.{needs}
 use native.Mathlib.Omega.{arith}
 use Rattle.room.proofs.RefusalLaws.{link-of}
 use Rattle.path.specs.Routes.{switchAt}
-use Rattle.path.proofs.HopCode.{switch-found, switch-small}
+use Rattle.path.proofs.HopSteps.{switch-found, switch-small}
 use Rattle.path.proofs.repeats.switch_at.Statement.{statement}
 use Rattle.path.proofs.repeats.switch_at.Tie as tie
 

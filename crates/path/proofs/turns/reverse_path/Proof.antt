@@ -2,13 +2,13 @@
 use borrow.Author.Needs.{needs}
 use native.Mathlib.Omega.{arith}
 use mathlib.Core.Path.{_≡_, sym, ap, _∙_}
-use Prim.Native.Nat.{ℕ, _≤_}
+use Prim.Native.Nat.{ℕ}
 use mathlib.Core.List.{List}
 use lib.ListN.{length}
 use lib.Seq.{length-take-le}
 use Rattle.path.specs.Routes.{encode}
 use Rattle.path.specs.Inside.{Chain}
-use Rattle.path.specs.Answers.{noWriting, aWriting}
+use Rattle.path.specs.Answers.{aWriting}
 use Rattle.path.proofs.TurnLaws.{Met, reverse-refused, reverse-met, turned-is, chain-back}
 use Rattle.path.proofs.turns.reverse_path.Statement.{statement}
 use Rattle.path.proofs.turns.reverse_path.Tie as tie

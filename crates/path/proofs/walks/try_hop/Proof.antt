@@ -1,6 +1,5 @@
 -- `path::walks::try_hop` meets its contract. Assumes nothing.
 use borrow.Author.Needs.{needs}
-use native.Mathlib.Omega.{arith}
 use Rattle.room.proofs.RefusalLaws.{server-of}
 use Rattle.path.proofs.WalkLaws.{try-link, try-refused, try-failed, try-on}
 use Rattle.path.proofs.walks.try_hop.Statement.{statement}

@@ -1,6 +1,6 @@
 -- `path::walks::walk` meets its contract. Assumes nothing.
 use borrow.Author.Needs.{needs}
-use mathlib.Core.Path.{_≡_, sym, ap, _∙_}
+use mathlib.Core.Path.{sym, ap, _∙_}
 use Prim.Native.Nat.{ℕ}
 use Rattle.room.specs.Refusals.{plain}
 use Rattle.room.proofs.RefusalLaws.{answer-refused, answer-given}

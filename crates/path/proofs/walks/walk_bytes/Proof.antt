@@ -1,7 +1,7 @@
 -- `path::walks::walk_bytes` meets its contract. Assumes nothing.
 use borrow.Author.Needs.{needs}
 use native.Mathlib.Omega.{arith}
-use mathlib.Core.Path.{_≡_, sym, ap, _∙_}
+use mathlib.Core.Path.{sym, ap, _∙_}
 use Prim.Native.Nat.{_-_, _+_}
 use lib.Seq.{length-take-le}
 use Rattle.room.proofs.RefusalLaws.{server-of, server-none}

@@ -1,7 +1,7 @@
 -- `path::writings::on_the_way` meets its contract. Assumes nothing.
 use borrow.Author.Needs.{needs}
 use native.Mathlib.Omega.{arith}
-use mathlib.Core.Path.{_≡_, sym, ap, _∙_}
+use mathlib.Core.Path.{sym, _∙_}
 use Prim.Native.Nat.{_+_, _-_}
 use lib.ListN.{length}
 use lib.Seq.{length-take-le}

@@ -1,6 +1,6 @@
 -- `path::writings::write_path` meets its contract. Assumes nothing.
 use borrow.Author.Needs.{needs}
-use mathlib.Core.Path.{_≡_, sym, ap, _∙_}
+use mathlib.Core.Path.{sym, ap, _∙_}
 use Prim.Native.Nat.{ℕ}
 use Rattle.room.specs.declared.Refusal.{Refusal}
 use Rattle.room.specs.Refusals.{plain}

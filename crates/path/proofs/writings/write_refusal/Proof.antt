@@ -1,7 +1,8 @@
 -- `path::writings::write_refusal` meets its contract. Assumes nothing.
 use borrow.Author.Needs.{needs}
 use native.Mathlib.Omega.{arith}
-use mathlib.Core.Path.{_≡_, refl}
+use lib.ListN.{length}
+use mathlib.Core.Path.{refl}
 use Rattle.room.proofs.RefusalLaws.{chain-goes, chain-stops}
 use Rattle.path.specs.Answers.{writeRefusal}
 use Rattle.path.proofs.WalkLaws.{same-refused, apart-passed}
@@ -16,13 +17,13 @@ write-refusal-spec =
     (tie.spec
     (λ c κs. search needs)
     (λ c. chain-stops _ _ _ (chain-stops _ _ _ (search chain-stops) (c .if1 .taken)) (c .if1 .taken))
-    (λ c. let e = chain-goes _ _ _ _ (c .before .before .shape-refusal .ensures) (c .before .if1 .left) (few-refused _ (c .if2 .taken)) in chain-stops _ _ _ (chain-stops _ _ _ e (λ z. omega arith)) (λ z. omega arith))
-    (λ c. let e = chain-goes _ _ _ _ (c .before .before .before .shape-refusal .ensures) (c .before .before .if1 .left) (many-refused _ (c .before .if2 .left) (c .if3 .taken)) in chain-stops _ _ _ (chain-stops _ _ _ e (λ z. omega arith)) (λ z. omega arith))
+    (λ c. let e = chain-goes _ _ _ _ (c .before .before .shape-refusal .ensures) (c .before .if1 .left) (few-refused (length (c .before .before .before .before .args .servers .now)) (omega arith)) in chain-stops _ _ _ (chain-stops _ _ _ e (λ z. omega arith)) (λ z. omega arith))
+    (λ c. let e = chain-goes _ _ _ _ (c .before .before .before .shape-refusal .ensures) (c .before .before .if1 .left) (many-refused (length (c .before .before .before .before .before .args .servers .now)) (omega arith) (omega arith)) in chain-stops _ _ _ (chain-stops _ _ _ e (λ z. omega arith)) (λ z. omega arith))
     (λ c κs. search needs)
-    (λ c. let e = chain-goes _ _ _ _ (c .before .before .before .before .before .shape-refusal .ensures) (c .before .before .before .before .if1 .left) (count-passed _ (c .before .before .before .if2 .left) (c .before .before .if3 .left)) in chain-stops _ _ _ (chain-goes _ _ _ _ e refl (c .before .servers-refusal .ensures)) (c .if4 .taken))
+    (λ c. let e = chain-goes _ _ _ _ (c .before .before .before .before .before .shape-refusal .ensures) (c .before .before .before .before .if1 .left) (count-passed (length (c .before .before .before .before .before .before .before .args .servers .now)) (omega arith) (omega arith)) in chain-stops _ _ _ (chain-goes _ _ _ _ e refl (c .before .servers-refusal .ensures)) (c .if4 .taken))
     (λ c. search needs)
     (λ c. search needs)
     (λ c. search needs)
     (λ c. search needs)
-    (λ c. let e = chain-goes _ _ _ _ (c .before .before .before .before .before .before .before .before .shape-refusal .ensures) (c .before .before .before .before .before .before .before .if1 .left) (count-passed _ (c .before .before .before .before .before .before .if2 .left) (c .before .before .before .before .before .if3 .left)) in chain-goes _ _ _ _ (chain-goes _ _ _ _ e refl (c .before .before .before .before .servers-refusal .ensures)) (c .before .before .before .if4 .left) (same-refused _ _ _ (c .if5 .taken)))
-    (λ c. let e = chain-goes _ _ _ _ (c .before .before .before .before .before .before .before .before .shape-refusal .ensures) (c .before .before .before .before .before .before .before .if1 .left) (count-passed _ (c .before .before .before .before .before .before .if2 .left) (c .before .before .before .before .before .if3 .left)) in chain-goes _ _ _ _ (chain-goes _ _ _ _ e refl (c .before .before .before .before .servers-refusal .ensures)) (c .before .before .before .if4 .left) (apart-passed _ _ _ (c .if5 .left))))
+    (λ c. let e = chain-goes _ _ _ _ (c .before .before .before .before .before .before .before .before .shape-refusal .ensures) (c .before .before .before .before .before .before .before .if1 .left) (count-passed (length (c .before .before .before .before .before .before .before .before .before .before .args .servers .now)) (omega arith) (omega arith)) in chain-goes _ _ _ _ (chain-goes _ _ _ _ e refl (c .before .before .before .before .servers-refusal .ensures)) (c .before .before .before .if4 .left) (same-refused _ _ _ (c .if5 .taken)))
+    (λ c. let e = chain-goes _ _ _ _ (c .before .before .before .before .before .before .before .before .shape-refusal .ensures) (c .before .before .before .before .before .before .before .if1 .left) (count-passed (length (c .before .before .before .before .before .before .before .before .before .before .args .servers .now)) (omega arith) (omega arith)) in chain-goes _ _ _ _ (chain-goes _ _ _ _ e refl (c .before .before .before .before .servers-refusal .ensures)) (c .before .before .before .if4 .left) (apart-passed _ _ _ (c .if5 .left))))

@@ -1,11 +1,9 @@
 -- Laws of one hop: which test refuses it, and what it is where none does.
-use Prim.Native.Nat.{ℕ, zero, suc, _+_, _*_, _/_, _%_, _^_, _≤_, _<_}
+use Prim.Native.Nat.{ℕ, zero, suc, _/_, _%_, _≤_, _<_}
 use mathlib.Core.Path.{_≡_, refl, sym, ap, _∙_}
-use mathlib.Core.Bool.{Bool, true, false, not, _&&_}
-use mathlib.Core.List.{List}
+use mathlib.Core.Bool.{Bool, not}
 use native.Mathlib.Omega.{arith}
-use native.Mathlib.Nat.{div-le-self, zero-div}
-use lib.ListN.{length, getD, List·getD-eq-default}
+use native.Mathlib.Nat.{div-le-self}
 use lib.Dec.{ltb, leb, eqb}
 use borrow.Author.Tests.{lt-ltb, le-ltb, le-leb, lt-leb, eq-eqb, ne-eqb, ltb-true, leb-true, eqb-false, not-true}
 use Rattle.room.specs.declared.Shape.{Shape}
@@ -13,13 +11,11 @@ use Rattle.room.specs.declared.Number.{Number}
 use Rattle.room.specs.declared.Switch.{Switch}
 use Rattle.room.specs.Shapes.{bound, serversOf, Valid, Server, Link, Value}
 use Rattle.room.specs.Addresses.{digit, switchOf, switchesAt, withDigit}
-use Rattle.room.specs.Refusals.{serverRefusal, _or-else_, _unless_}
-use Rattle.room.specs.Answers.{answer, aNumber, boundAnswer, digitAnswer, neighbourAnswer, switchAnswer}
+use Rattle.room.specs.Refusals.{_or-else_, _unless_}
+use Rattle.room.specs.Answers.{answer, boundAnswer, digitAnswer, neighbourAnswer, switchAnswer}
 use Rattle.room.proofs.RefusalLaws.{or-else-zero, test-held}
 use Rattle.room.proofs.AnswerLaws.{bound-answered, digit-answered, neighbour-answered, switch-answered}
-use Rattle.room.proofs.RoomLaws.{with-server, switch-lt, switches-power, servers-power}
-use Rattle.links.specs.Table.{bit, failed, live}
-use Rattle.path.specs.Routes.{switchAt}
+use Rattle.room.proofs.RoomLaws.{with-server, switch-lt}
 use Rattle.path.specs.Walks.{hopTo, hopRefusal}
 
 -- ---- what the calls of the room found
@@ -98,27 +94,3 @@ switches-few s l = div-le-self (serversOf s) (bound s l)
 
 pub switch-small : {s : Shape} {a l : ℕ} → Link s a l → switchOf s l a < 4096
 switch-small {s} {a} {l} h = omega (arith, switch-lt h, switches-few s l, h .server .valid .small)
-
--- ---- live links
-
--- past the table's end no link is failed
-pub failed-past : (t : List ℕ) (a l : ℕ) → length t ≤ a → false ≡ failed t a l
-unfolding failed bit
-failed-past t a l h = rw (List·getD-eq-default t 0 h, zero-div (2 ^ l))
-
-pub failed-at : (t : List ℕ) (a l w : ℕ) → w ≡ 2 ^ l → eqb (getD t a 0 / w % 2) 1 ≡ failed t a l
-unfolding failed bit
-failed-at t a l w e = ap (λ (x : ℕ). eqb (getD t a 0 / x % 2) 1) e
-
-module _ (t : List ℕ) (l a b : ℕ) where
-  pub sender-failed : (x : Bool) → x ≡ failed t a l → x ≡ true → false ≡ live t l a b
-  unfolding live
-  sender-failed x e h = rw (← e, h)
-
-  pub receiver-failed : (x y : Bool) → x ≡ failed t a l → x ≡ false → y ≡ failed t b l → y ≡ true → false ≡ live t l a b
-  unfolding live
-  receiver-failed x y e h f g = rw (← e, h, ← f, g)
-
-  pub both-live : (x y : Bool) → x ≡ failed t a l → x ≡ false → y ≡ failed t b l → y ≡ false → true ≡ live t l a b
-  unfolding live
-  both-live x y e h f g = rw (← e, h, ← f, g)

@@ -6,7 +6,7 @@ use mathlib.Core.List.{List, [], _∷_, _++_}
 use native.Mathlib.Numerals.{add-one}
 use native.Mathlib.Omega.{arith}
 use borrow.Author.Tests.{eq-eqb, ne-eqb}
-use lib.ListN.{length, getD, set, take, drop, replicate, drop-of-length-le, length-set, take-append-drop}
+use lib.ListN.{length, getD, set, take, drop, replicate, drop-of-length-le, take-append-drop}
 use lib.Seq.{drop-cons, drop-drop, drop-set-lt, take-suc-set, length-take-le}
 use Rattle.path.specs.Lists.{isIn, filled}
 
