@@ -2,16 +2,14 @@
 use Prim.Native.Nat.{ℕ, _-_, _<_, _≤_}
 use native.Mathlib.Omega.{arith}
 use native.Mathlib.Decide.{ℕ-discrete}
-use mathlib.Core.Path.{_≡_, refl, sym, ap, _∙_}
+use mathlib.Core.Path.{_≡_, sym, ap, _∙_}
 use mathlib.Core.Logic.{_⊎_, inl, inr, ⊎-elim, _↔_}
 use mathlib.Core.List.{List}
 use lib.ListN.{length}
 use Rattle.room.specs.declared.Shape.{Shape}
-use Rattle.room.specs.declared.Refusal.{Refusal}
 use Rattle.room.specs.Refusals.{plain}
 use Rattle.path.specs.Routes.{encode, RouteTo}
 use Rattle.finder.specs.declared.Found.{Found}
-use Rattle.finder.specs.Alternates.{Alternate}
 use Rattle.finder.specs.Answers.{findRefusal, notFound, Given, Finding}
 use Rattle.finder.proofs.Order.{split}
 

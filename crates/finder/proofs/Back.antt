@@ -2,15 +2,15 @@
 use Prim.Native.Nat.{ℕ, zero, suc, _+_, _-_, _*_, _/_, _%_, _<_, _≤_}
 use native.Mathlib.Omega.{arith}
 use native.Mathlib.Numerals.{add-one}
-use mathlib.Core.Path.{_≡_, refl, sym, ap, _∙_, subst}
+use mathlib.Core.Path.{_≡_, refl, sym, ap, _∙_}
 use mathlib.Core.Logic.{⊎-elim}
 use mathlib.Core.List.{List, [], _∷_, _++_, append-nil, append-assoc, map, map-append}
-use lib.ListN.{length, getD, take, replicate, length-append, length-take}
+use lib.ListN.{length, getD, take, replicate, length-append}
 use lib.Seq.{take-take, length-take-le}
 use Rattle.finder.specs.Hops.{turned}
 use Rattle.finder.specs.State.{trail}
 use Rattle.finder.specs.Kept.{keyed}
-use Rattle.finder.specs.Trace.{Reached, Traced}
+use Rattle.finder.specs.Trace.{Reached}
 use Rattle.finder.proofs.Trail.{trail-step, trail-zero}
 use Rattle.finder.proofs.Order.{split}
 

@@ -1,30 +1,27 @@
 -- From the tables, where the scan ends, to the answer.
-use Prim.Native.Nat.{ℕ, zero, suc, _+_, _-_, _*_, _<_, _≤_}
+use Prim.Native.Nat.{ℕ, _+_, _-_, _*_, _<_, _≤_}
 use native.Mathlib.Omega.{arith}
 use mathlib.Core.Path.{_≡_, refl, sym, ap, ap₂, _∙_, subst}
-use mathlib.Core.Logic.{_≢_, _⊎_, inl, inr, ⊎-elim}
-use mathlib.Core.Bool.{Bool, true, false, not}
+use mathlib.Core.Logic.{_≢_, _⊎_, ⊎-elim}
 use mathlib.Core.List.{List, [], _∷_, _++_, map}
 use lib.Dec.{eqb}
 use lib.ListN.{length, getD, take, drop, replicate, length-map, length-drop, length-replicate, getD-replicate, take-append-drop}
 use lib.Seq.{ext-getD, getD-drop}
 use borrow.Author.Tests.{eqb-false, not-true}
 use Rattle.room.specs.declared.Shape.{Shape}
-use Rattle.room.specs.declared.Refusal.{Refusal}
-use Rattle.room.specs.Shapes.{serversOf, Valid, Server}
-use Rattle.room.specs.Refusals.{none, shapeRefusal, pairRefusal, _or-else_, _unless_}
+use Rattle.room.specs.Shapes.{Server}
+use Rattle.room.specs.Refusals.{none, shapeRefusal, pairRefusal, _or-else_}
 use Rattle.room.proofs.RefusalLaws.{or-else-zero, test-held, pair-of, valid-none, chain-goes}
 use Rattle.links.specs.Table.{tableRefusal, roomTableRefusal}
 use Rattle.path.specs.Lists.{inTurn, filled}
-use Rattle.path.specs.Routes.{byteTo, encode, RouteTo}
+use Rattle.path.specs.Routes.{byteTo, encode}
 use Rattle.path.specs.Answers.{endsRefusal}
 use Rattle.finder.specs.declared.Found.{Found}
-use Rattle.finder.specs.Alternates.{bytesOf, Alternate}
-use Rattle.finder.specs.Answers.{findRefusal, notFound, found, Given, Finding}
+use Rattle.finder.specs.Answers.{findRefusal, notFound, found, Finding}
 use Rattle.finder.specs.Walks.{Walk, Least}
 use Rattle.finder.specs.Hops.{turned, stepOf, Ok}
 use Rattle.finder.specs.State.{trail}
-use Rattle.finder.specs.Kept.{Kept, placed, keyed}
+use Rattle.finder.specs.Kept.{placed, keyed}
 use Rattle.finder.specs.Trace.{Links, Reached, Traced}
 use Rattle.finder.proofs.Order.{split}
 use Rattle.finder.proofs.Theory.{found-least, none-leads}

@@ -1,22 +1,20 @@
 -- The hops of the search in the room: levels from k down, values from 0 up.
 use Prim.Native.Nat.{ℕ, _+_, _-_, _*_, _/_, _%_, _<_, _≤_}
 use native.Mathlib.Omega.{arith}
-use mathlib.Core.Path.{_≡_, refl, sym, ap, _∙_, subst}
-use mathlib.Core.Logic.{_≢_}
+use mathlib.Core.Path.{_≡_, refl, sym, ap, _∙_}
 use mathlib.Core.Bool.{Bool, true, false}
 use mathlib.Core.List.{List}
 use lib.ListN.{getD, set}
 use lib.Seq.{getD-set-other}
 use Rattle.room.specs.declared.Shape.{Shape}
-use Rattle.room.specs.Shapes.{serversOf, bound, Valid, Server, Link, Value}
+use Rattle.room.specs.Shapes.{serversOf, bound, Valid, Server, Value}
 use Rattle.room.specs.Addresses.{withDigit}
 use Rattle.room.proofs.RoomLaws.{bound-le, with-server}
-use Rattle.links.specs.Table.{live, failed}
-use Rattle.links.proofs.TableLaws.{live-exactly}
+use Rattle.links.specs.Table.{live}
 use Rattle.finder.specs.Hops.{stepOf, Ok}
 use Rattle.finder.specs.Kept.{Kept}
 use Rattle.finder.specs.Scan.{Trying, Tried}
-use Rattle.finder.proofs.Tables.{pass, add, recast}
+use Rattle.finder.proofs.Tables.{pass, add}
 
 abbrev none : ℕ
 none = 4294967295

@@ -1,26 +1,26 @@
 -- The least walk is the alternate, and the alternate the least walk; where no route is, no walk of eight hops or fewer is.
-use Prim.Native.Nat.{ℕ, zero, suc, _+_, _-_, _*_, _/_, _%_, _<_, _≤_}
+use Prim.Native.Nat.{ℕ, zero, suc, _+_, _-_, _*_, _/_, _<_, _≤_}
 use native.Mathlib.Omega.{arith}
-use mathlib.Core.Path.{_≡_, refl, sym, ap, ap₂, _∙_, subst}
+use mathlib.Core.Path.{_≡_, refl, sym, ap, ap₂, _∙_}
 use mathlib.Core.Logic.{_≢_, _⊎_, inl, inr, ⊎-elim}
-use mathlib.Core.Bool.{true, false}
+use mathlib.Core.Bool.{false}
 use mathlib.Core.List.{List, [], _∷_, _++_, map}
-use lib.ListN.{length, getD, take, drop, length-append, length-take, length-drop, length-map}
+use lib.ListN.{length, getD, take, drop, length-append, length-drop}
 use lib.Seq.{length-take-le}
 use Rattle.room.specs.declared.Shape.{Shape}
-use Rattle.room.specs.Shapes.{Valid, Server, Link}
-use Rattle.room.specs.Addresses.{digit, switchOf, Beside, Neighbours}
+use Rattle.room.specs.Shapes.{Server, Link}
+use Rattle.room.specs.Addresses.{digit, switchOf, Beside}
 use Rattle.room.proofs.RoomLaws.{same-switch, switch-same}
-use Rattle.links.specs.Table.{live, failed}
+use Rattle.links.specs.Table.{failed}
 use Rattle.links.proofs.TableLaws.{live-exactly}
 use Rattle.path.specs.Lists.{Once, inTurn}
-use Rattle.path.specs.Routes.{levelTo, switchTo, switchAt, switchesOf, byteTo, Route, RouteTo}
+use Rattle.path.specs.Routes.{switchTo, switchAt, switchesOf, RouteTo}
 use Rattle.finder.specs.Alternates.{bytesOf, Sooner, HopByHop, Before, Alternate}
 use Rattle.finder.specs.Walks.{Walk, Lex, Shortlex, Least}
 use Rattle.finder.specs.Hops.{turned, stepOf, Ok}
 use Rattle.finder.proofs.Order.{split, least-unique}
 use Rattle.finder.proofs.Repeats.{Twice, repeats, turn-long, turn-at}
-use Rattle.finder.proofs.Walking.{switch-small, beside-step, beside-ok, hop-server, hop-neighbours, hop-level, hop-switch, met, met-long, met-first, met-last, met-bytes, part-to, part-from, hop-at, met-server, walk-append, labelsOf, labels-long, route-walk}
+use Rattle.finder.proofs.Walking.{switch-small, beside-step, beside-ok, hop-neighbours, hop-level, hop-switch, met, met-long, met-first, met-last, met-bytes, part-to, part-from, hop-at, met-server, walk-append, labelsOf, labels-long, route-walk}
 
 -- one number, one level and one switch
 same-at : (s : Shape) (l m a b : ℕ) → Link s a l → Link s b m → switchAt s l a ≡ switchAt s m b → (l ≡ m) × (switchOf s l a ≡ switchOf s l b)

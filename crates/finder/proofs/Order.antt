@@ -1,12 +1,12 @@
 -- The order of walks as the order of one number: a walk's labels are its digits, each one more, to the base 256. Labels are below 256.
-use Prim.Native.Nat.{ℕ, zero, suc, _+_, _*_, _<_, _≤_}
+use Prim.Native.Nat.{ℕ, _+_, _*_, _<_, _≤_}
 use native.Mathlib.Omega.{arith}
 use native.Mathlib.Decide.{decLt}
-use mathlib.Core.Path.{_≡_, refl, ap, ap₂}
+use mathlib.Core.Path.{_≡_, refl, ap₂}
 use mathlib.Core.Logic.{_⊎_, inl, inr, ⊎-elim}
 use mathlib.Core.List.{List, [], _∷_, _++_}
 use lib.ListN.{length}
-use Rattle.finder.specs.Walks.{Walk, Lex, Shortlex, Least}
+use Rattle.finder.specs.Walks.{Lex, Shortlex, Least}
 
 unfoldable pub rank : ℕ → List ℕ → ℕ
 rank r [] = r

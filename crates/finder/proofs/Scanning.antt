@@ -1,21 +1,21 @@
 -- What holds at each turn of the three loops of the scan, and how one follows from another.
-use Prim.Native.Nat.{ℕ, zero, suc, _+_, _-_, _*_, _/_, _%_, _^_, _<_, _≤_}
+use Prim.Native.Nat.{ℕ, suc, _+_, _-_, _*_, _/_, _^_, _<_, _≤_}
 use native.Mathlib.Omega.{arith}
 use native.Mathlib.Nat.{div-eq-of-lt}
 use native.Mathlib.Numerals.{add-one}
 use native.Mathlib.Decide.{ℕ-discrete}
 use mathlib.Core.Path.{_≡_, refl, sym, ap, _∙_, subst}
-use mathlib.Core.Logic.{_≢_, _⊎_, inl, inr, ⊎-elim}
-use mathlib.Core.Bool.{true, false}
+use mathlib.Core.Logic.{_≢_, inl, inr, ⊎-elim}
+use mathlib.Core.Bool.{false}
 use mathlib.Core.List.{List, [], _∷_}
-use lib.ListN.{length, getD, set, replicate, length-set, length-replicate}
+use lib.ListN.{getD, set, replicate, length-set, length-replicate}
 use lib.Seq.{getD-set-other}
 use Rattle.room.specs.declared.Shape.{Shape}
 use Rattle.room.specs.Shapes.{serversOf, bound, Valid, Server, Link, Value}
-use Rattle.room.specs.Addresses.{digit, withDigit, switchOf, Beside}
+use Rattle.room.specs.Addresses.{digit, switchOf, Beside}
 use Rattle.room.proofs.DigitLaws.{rest-div'}
-use Rattle.room.proofs.RoomLaws.{servers-le, bound-le, digit-lt, with-server, with-switch, switch-same}
-use Rattle.links.specs.Table.{failed, live}
+use Rattle.room.proofs.RoomLaws.{servers-le, bound-le, digit-lt, with-server, switch-same}
+use Rattle.links.specs.Table.{failed}
 use Rattle.links.proofs.TableLaws.{live-exactly}
 use Rattle.finder.specs.declared.Side.{Side}
 use Rattle.finder.specs.Hops.{stepOf, Ok}
@@ -27,7 +27,7 @@ use Rattle.finder.proofs.Back.{zeros}
 use Rattle.finder.proofs.Hops.{Kept-in, absurd-bool, next-level, past-level, next-server}
 use Rattle.finder.proofs.Walking.{beside-step, beside-ok, hop-server, step-switch}
 use Rattle.finder.proofs.Sides.{weight-at, switch-half}
-use Rattle.finder.proofs.Finish.{Ready, ready, Ended}
+use Rattle.finder.proofs.Finish.{ready, Ended}
 
 -- ---- marks
 

@@ -1,17 +1,17 @@
 -- The servers at a switch, as the program computes them: the first, and the others by a stride.
-use Prim.Native.Nat.{ℕ, zero, suc, _+_, _-_, _*_, _/_, _%_, _^_, _<_, _≤_}
+use Prim.Native.Nat.{ℕ, zero, suc, _+_, _*_, _/_, _%_, _^_, _<_, _≤_}
 use native.Mathlib.Omega.{arith}
-use native.Mathlib.Nat.{pow-zero, one-mul, zero-add, mul-add, mul-comm, mod-add-div, div-le-self, div-mul-le-self, mul-le-mul-left}
-use mathlib.Core.Path.{_≡_, refl, sym, ap, ap₂, _∙_}
+use native.Mathlib.Nat.{pow-zero, one-mul, mul-add, mul-comm, mod-add-div, div-le-self, div-mul-le-self, mul-le-mul-left}
+use mathlib.Core.Path.{_≡_, refl, sym, ap, _∙_}
 use mathlib.Core.Logic.{_≢_, _⊎_, inl, inr}
 use mathlib.Core.Bool.{Bool, true, false}
 use mathlib.Core.List.{List, [], _∷_}
-use lib.ListN.{length, getD}
+use lib.ListN.{getD}
 use Rattle.room.specs.declared.Shape.{Shape}
 use Rattle.room.specs.declared.Number.{Number}
-use Rattle.room.specs.Shapes.{serversOf, bound, Valid, Server, Link, Value}
+use Rattle.room.specs.Shapes.{serversOf, bound, Link, Value}
 use Rattle.room.specs.Addresses.{withDigit, switchOf, switchesAt}
-use Rattle.room.specs.Answers.{aNumber, boundAnswer}
+use Rattle.room.specs.Answers.{boundAnswer}
 use Rattle.room.proofs.DigitLaws.{next-power, pow-small}
 use Rattle.room.proofs.RoomLaws.{bound-two, with-server, with-closed-at, switch-closed-at, switch-lt, weight-pos}
 use Rattle.room.proofs.AnswerLaws.{bound-answered}

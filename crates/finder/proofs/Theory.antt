@@ -2,10 +2,9 @@
 use Prim.Native.Nat.{ℕ, zero, suc, _+_, _*_, _/_, _%_, _<_, _≤_}
 use native.Mathlib.Omega.{arith}
 use mathlib.Core.Path.{_≡_, refl, sym, ap, _∙_, subst}
-use mathlib.Core.Logic.{_⊎_, inl, inr, ⊎-elim}
+use mathlib.Core.Logic.{⊎-elim}
 use mathlib.Core.List.{List, [], _∷_, _++_}
-use lib.ListN.{length}
-use Rattle.finder.specs.Walks.{Walk, Lex, Shortlex, Least}
+use Rattle.finder.specs.Walks.{Walk, Least}
 use Rattle.finder.specs.State.{State, trail}
 use Rattle.finder.proofs.Trail.{trail-step}
 use Rattle.finder.proofs.Order.{rank, rank-grows, rank-snoc, rank-shortlex, Low, split}

@@ -2,14 +2,14 @@
 use Prim.Native.Nat.{ℕ, zero, suc, _+_, _-_, _*_, _/_, _%_, _<_, _≤_}
 use native.Mathlib.Omega.{arith}
 use native.Mathlib.Nat.{div-le-self}
-use mathlib.Core.Path.{_≡_, refl, sym, ap, ap₂, _∙_, subst}
-use mathlib.Core.Logic.{_≢_, _⊎_, inl, inr, ⊎-elim}
+use mathlib.Core.Path.{_≡_, refl, sym, ap, ap₂, _∙_}
+use mathlib.Core.Logic.{_≢_}
 use mathlib.Core.Bool.{true, false}
 use mathlib.Core.List.{List, [], _∷_, _++_, map}
-use lib.ListN.{length, getD, take, drop, length-append, length-map}
+use lib.ListN.{length, getD, take, drop, length-map}
 use Rattle.room.specs.declared.Shape.{Shape}
-use Rattle.room.specs.Shapes.{serversOf, bound, Valid, Server, Link, Value}
-use Rattle.room.specs.Addresses.{digit, withDigit, switchOf, switchesAt, differing, Beside, Neighbours}
+use Rattle.room.specs.Shapes.{serversOf, bound, Server, Link, Value}
+use Rattle.room.specs.Addresses.{digit, withDigit, switchOf, switchesAt, Beside, Neighbours}
 use Rattle.room.proofs.RoomLaws.{bound-le, digit-lt, with-server, with-same, with-own, with-beside, with-switch, beside-with, switch-lt, neighbours-exactly}
 use Rattle.links.specs.Table.{live, failed}
 use Rattle.links.proofs.TableLaws.{live-exactly}

@@ -1,5 +1,5 @@
 -- What the search keeps in its two tables. `back` has a key for each server found and 4294967295 for the others; `queue` has the servers in the order in which they were found.
-use Prim.Native.Nat.{ℕ, zero, suc, _+_, _*_, _<_, _≤_}
+use Prim.Native.Nat.{ℕ, suc, _<_, _≤_}
 use mathlib.Core.Path.{_≡_}
 use mathlib.Core.Bool.{Bool, true, false}
 use mathlib.Core.List.{List, [], _∷_}

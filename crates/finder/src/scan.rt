@@ -3,7 +3,7 @@
 ghost use mathlib.Core.Path.{_≡_};
 ghost use Prim.Native.Nat.{ℕ, _^_, _<_, _≤_};
 ghost use mathlib.Core.List.{List, [], _∷_};
-ghost use lib.ListN.{length, getD};
+ghost use lib.ListN.{length};
 ghost use Rattle.room.specs.declared.Shape.{Shape as AShape};
 ghost use Rattle.room.specs.Shapes.{serversOf};
 ghost use Rattle.finder.specs.Hops.{stepOf, Ok};

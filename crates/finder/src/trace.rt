@@ -1,6 +1,6 @@
 // The way back from the destination, in the tables of the scan.
 ghost use mathlib.Core.Path.{_≡_};
-ghost use mathlib.Core.List.{List, _∷_, map};
+ghost use mathlib.Core.List.{_∷_, map};
 ghost use lib.ListN.{take};
 ghost use Rattle.room.specs.Refusals.{none};
 ghost use Rattle.finder.specs.Hops.{turned};

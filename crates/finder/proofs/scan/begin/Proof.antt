@@ -1,5 +1,4 @@
 -- `finder::scan::begin` meets its contract. Assumes nothing.
-use native.Mathlib.Omega.{arith}
 use borrow.Author.Needs.{needs}
 use denote.Ref.{now}
 use Rattle.room.specs.Shapes.{serversOf}

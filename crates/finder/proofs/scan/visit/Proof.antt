@@ -1,7 +1,5 @@
 -- `finder::scan::visit` meets its contract. Assumes nothing.
-use native.Mathlib.Omega.{arith}
 use borrow.Author.Needs.{needs}
-use mathlib.Core.Path.{refl}
 use Rattle.finder.proofs.Tables.{vacant}
 use Rattle.finder.proofs.Hops.{tried-seen, tried-shut, tried-new}
 use Rattle.finder.proofs.scan.visit.Statement.{statement}

@@ -1,5 +1,5 @@
 -- `finder::trace::retrace` meets its contract. Assumes nothing.
-use Prim.Native.Nat.{ℕ, _+_, _-_, _*_, _/_, _%_, _<_, _≤_}
+use Prim.Native.Nat.{ℕ, _+_, _-_, _*_, _/_, _%_, _≤_}
 use native.Mathlib.Omega.{arith}
 use borrow.Author.Needs.{needs}
 use mathlib.Core.Path.{_≡_, refl, sym, ap, _∙_}
@@ -7,7 +7,7 @@ use mathlib.Core.List.{List}
 use lib.ListN.{length, getD}
 use lib.Seq.{length-take-le}
 use denote.Ref.{now}
-use Rattle.finder.specs.Trace.{Reached, Traced}
+use Rattle.finder.specs.Trace.{Reached}
 use Rattle.finder.proofs.Back.{Along, Read, along-start, in-tables, more, along-step, along-end, zeros, rest-front, long-front, turned-at}
 use Rattle.finder.proofs.trace.retrace.Statement.{statement}
 use Rattle.finder.proofs.trace.retrace.Tie as tie
