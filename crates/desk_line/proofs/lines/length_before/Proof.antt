@@ -1,0 +1,30 @@
+-- `desk_line::lines::length_before` meets its contract. Assumes nothing.
+use native.Mathlib.Omega.{arith}
+use borrow.Author.Needs.{needs}
+use mathlib.Core.Path.{_≡_, refl}
+use Prim.Native.Nat.{_≤_, _+_, _-_}
+use lib.ListN.{length, drop}
+use Rattle.desk_line.specs.Lines.{before}
+use Rattle.desk_line.proofs.LineLaws.{before-here, before-on, before-end}
+use Rattle.desk_line.proofs.lines.length_before.Statement.{statement}
+use Rattle.desk_line.proofs.lines.length_before.Tie as tie
+
+abbrev Inv-loop : tie.InvT-loop
+Inv-loop text stop i₀ i = (i ≤ length text) × (i + length (before stop (drop i text)) ≡ length (before stop text))
+
+abbrev μ-loop : tie.MeasureT-loop
+μ-loop text stop i₀ i = length text - i
+
+pub length-before-spec : {M : Type 1} → statement M
+length-before-spec =
+    tie.close
+    (tie.spec
+    Inv-loop
+    μ-loop
+    (λ c. omega arith)
+    (λ c. omega arith)
+    (λ c. let a = c .before .before .before .before .args in let g = c .before .before .before .loop in omega (arith, before-here (a .stop) (a .text .now) (g .i) (omega arith) (omega arith)))
+    (λ c. omega arith)
+    (λ c. omega arith)
+    (λ c. let a = c .before .before .before .before .args in let g = c .before .before .before .loop in (omega arith, omega (arith, before-on (a .stop) (a .text .now) (g .i) (omega arith) (omega arith))))
+    (λ c. let a = c .before .before .args in let g = c .before .loop in omega (arith, before-end (a .stop) (a .text .now) (g .i) (omega arith))))

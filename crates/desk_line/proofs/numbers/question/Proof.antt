@@ -1,0 +1,20 @@
+-- `desk_line::numbers::question` meets its contract. Assumes nothing.
+use borrow.Author.Needs.{needs}
+use borrow.Author.Tests.{not-true, not-false}
+use Rattle.desk_line.proofs.NumberLaws.{asked-one, asked-two, asked-three, asked-four, asked-all}
+use Rattle.desk_line.proofs.numbers.question.Statement.{statement}
+use Rattle.desk_line.proofs.numbers.question.Tie as tie
+
+pub question-spec : {M : Type 1} → statement M
+question-spec =
+    tie.close
+    (tie.spec
+    (λ c κs. search needs)
+    (λ c. search (asked-one, not-true))
+    (λ c κs. search needs)
+    (λ c. search (asked-two, not-true))
+    (λ c κs. search needs)
+    (λ c. search (asked-three, not-true))
+    (λ c κs. search needs)
+    (λ c. search (asked-four, not-true))
+    (λ c. search (asked-all, not-false)))

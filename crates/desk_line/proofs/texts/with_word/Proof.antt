@@ -1,0 +1,31 @@
+-- `desk_line::texts::with_word` meets its contract. Assumes nothing.
+use native.Mathlib.Omega.{arith}
+use borrow.Author.Needs.{needs}
+use mathlib.Core.Path.{_≡_}
+use Prim.Native.Nat.{_≤_, _-_}
+use mathlib.Core.List.{_++_}
+use lib.ListN.{length, take}
+use Rattle.desk_line.specs.Texts.{textOf, shown}
+use Rattle.desk_line.proofs.TextLaws.{word-start, word-step, word-end, word-room}
+use Rattle.desk_line.proofs.texts.with_word.Statement.{statement}
+use Rattle.desk_line.proofs.texts.with_word.Tie as tie
+
+abbrev Inv-loop : tie.InvT-loop
+Inv-loop word text i₀ longer i = (i ≤ length word) × (longer ≡ textOf (shown text ++ take i word))
+
+abbrev μ-loop : tie.MeasureT-loop
+μ-loop word text i₀ longer i = length word - i
+
+pub with-word-spec : {M : Type 1} → statement M
+with-word-spec =
+    tie.close
+    (tie.spec
+    Inv-loop
+    μ-loop
+    (λ c. (omega arith, word-start (c .before .pre)))
+    (λ c. omega arith)
+    (λ c κs. let a = c .before .before .before .before .args in let g = c .before .before .loop in word-room (a .word .now) (g .i) (omega arith) (c .before .before .before .before .pre) (g .inv .1))
+    (λ c. omega arith)
+    (λ c. omega arith)
+    (λ c. let a = c .before .before .before .before .before .args in let g = c .before .before .before .loop in (omega arith, word-step (shown (a .text)) (a .word .now) (g .i) (omega arith) (g .inv .1) (c .with-byte .ensures)))
+    (λ c. let a = c .before .before .before .args in let g = c .before .loop in word-end (shown (a .text)) (a .word .now) (g .i) (omega arith) (g .inv .1)))
