@@ -1,9 +1,8 @@
 -- Delivery: on a route over live links, stepping gives at each hop its next server, and after exactly its hops a delivery.
-use Prim.Native.Nat.{ℕ, zero, suc, _+_, _-_, _/_, _≤_, _<_}
-use mathlib.Core.Path.{_≡_, refl, sym, ap, _∙_, subst}
-use mathlib.Core.Logic.{_≢_}
+use Prim.Native.Nat.{ℕ, zero, suc, _+_, _-_, _<_}
+use mathlib.Core.Path.{_≡_, sym, ap, _∙_, subst}
 use mathlib.Core.List.{List}
-use mathlib.Core.Bool.{true, false}
+use mathlib.Core.Bool.{false}
 use native.Mathlib.Omega.{arith}
 use native.Mathlib.Numerals.{add-one}
 use native.Mathlib.Nat.{add-zero, zero-add}
@@ -14,18 +13,17 @@ use Rattle.room.specs.Shapes.{Server}
 use Rattle.room.specs.Refusals.{none, _or-else_}
 use Rattle.links.specs.Table.{live}
 use Rattle.path.specs.declared.Walked.{Walked}
-use Rattle.path.specs.Lists.{inTurn, filled}
-use Rattle.path.specs.Routes.{levelTo, byteTo, encode, RouteTo}
+use Rattle.path.specs.Lists.{inTurn}
+use Rattle.path.specs.Routes.{byteTo, encode, Encodes}
 use Rattle.path.specs.Walks.{hopTo, hopRefusal}
 use Rattle.path.specs.Answers.{walkAnswer}
 use Rattle.path.proofs.ListLaws.{length-turn, turn-at, filled-at}
 use Rattle.path.proofs.HopLaws.{byte-small, byte-taken, byte-level, byte-hop}
 use Rattle.path.proofs.ReverseLaws.{dest-server, first-arrival}
 use Rattle.path.proofs.CodecLaws.{encode-long, walk-given, walk-exactly}
-use Rattle.path.specs.Routes.{Encodes}
 use Rattle.step.specs.declared.Step.{Step}
-use Rattle.step.specs.Steps.{macAt, portAt, flagAt, stepRefusal, delivery, forwarded, stepAnswer}
-use Rattle.step.specs.Delivery.{Agrees, Tables, stepAfter}
+use Rattle.step.specs.Steps.{macAt, portAt, flagAt, stepRefusal, delivery, stepAnswer}
+use Rattle.step.specs.Delivery.{Tables, stepAfter}
 use Rattle.step.proofs.StepLaws.{Given, given-none, Goes, goes-none}
 
 module _ {s : Shape} {t : List ℕ} {a d : ℕ} {bs vs : List ℕ} {tables : ℕ → List ℕ} (route : Encodes s t a d bs vs) (agreed : Tables s t tables) where

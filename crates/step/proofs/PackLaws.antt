@@ -12,16 +12,16 @@ use borrow.Author.Tests.{eq-eqb, ne-eqb, le-ltb}
 use Rattle.room.specs.declared.Shape.{Shape}
 use Rattle.room.specs.declared.Refusal.{Refusal}
 use Rattle.room.specs.declared.Number.{Number}
-use Rattle.room.specs.Shapes.{serversOf, bound, Server}
+use Rattle.room.specs.Shapes.{serversOf, bound}
 use Rattle.room.specs.Addresses.{digit}
-use Rattle.room.specs.Refusals.{none, plain, refusedAt, shapeRefusal, serverRefusal, pairRefusal, _or-else_, _unless_}
+use Rattle.room.specs.Refusals.{plain, refusedAt, shapeRefusal, serverRefusal, pairRefusal, _or-else_, _unless_}
 use Rattle.room.specs.Answers.{answer, aNumber}
 use Rattle.path.specs.Walks.{hopTo, hopRefusal}
 use Rattle.path.proofs.HopLaws.{hop-server}
 use Rattle.step.specs.declared.Step.{Step}
 use Rattle.step.specs.Steps.{entry, macAt, portAt, flagAt, givenRefusal, byteRefusal, awayRefusal, stepRefusal, atHop, placed, stopped, noStep, delivery, forwarded, stepAnswer, nextAnswer}
 use Rattle.step.specs.Packed.{flagOf, packed, bytesNumber, macNumber, unpacked}
-use Rattle.step.proofs.StepLaws.{chain-plain, given-plain, placed-plain, placed-number, Goes, goes-of, step-refused, step-here, step-facts, step-goes, step-next}
+use Rattle.step.proofs.StepLaws.{chain-plain, given-plain, placed-plain, placed-number, goes-of, step-refused, step-here, step-facts, step-goes, step-next}
 
 -- a list of bytes
 pub record Bytes (xs : List ℕ) : Type 0 where

@@ -5,14 +5,14 @@ use mathlib.Core.Logic.{_≢_}
 use mathlib.Core.List.{List}
 use mathlib.Core.Bool.{Bool, true, false, not, cond, _&&_}
 use native.Mathlib.Omega.{arith}
-use native.Mathlib.Nat.{mod-add-div, mul-add, mul-comm, mul-assoc, mul-le-mul-left}
+use native.Mathlib.Nat.{mod-add-div, mul-add, mul-comm, mul-le-mul-left}
 use lib.ListN.{length, getD}
 use lib.Dec.{ltb, leb, eqb}
-use borrow.Author.Tests.{lt-ltb, le-ltb, le-leb, lt-leb, ltb-true, eq-eqb, ne-eqb, eqb-true, eqb-false}
+use borrow.Author.Tests.{lt-ltb, le-ltb, le-leb, lt-leb, ltb-true, eq-eqb, ne-eqb, eqb-true}
 use Rattle.room.specs.declared.Shape.{Shape}
 use Rattle.room.specs.declared.Refusal.{Refusal}
 use Rattle.room.specs.declared.Number.{Number}
-use Rattle.room.specs.Shapes.{serversOf, bound, Valid, Server, Link, Value}
+use Rattle.room.specs.Shapes.{serversOf, bound, Valid, Server, Value}
 use Rattle.room.specs.Addresses.{digit, withDigit}
 use Rattle.room.specs.Refusals.{none, plain, refusedAt, shapeRefusal, serverRefusal, pairRefusal, _or-else_, _unless_}
 use Rattle.room.specs.Answers.{answer, aNumber}
@@ -236,6 +236,14 @@ module _ (s : Shape) (a d i : ℕ) (bs e : List ℕ) where
           next-goes x h g =
               let z : stepRefusal s a d i bs e ≡ 0 = byte-chain ∙ rw (taken, eq-eqb (flagAt e (getD bs i 0)) 1 h) in
               rw (z, ne-eqb a d away, g)
+
+-- as the program has them: what it found, and by which tests it came there
+module _ (s : Shape) (a d i : ℕ) (bs e : List ℕ) (g : ℕ) (r : Refusal) (x : Number) (found : g ≡ givenRefusal s a d bs e) (passed : g ≡ 0) (made : x ≡ stopped r) where
+  pub arrives : a ≡ d → r ≡ none → x ≡ nextAnswer s a d i bs e
+  arrives h f = made ∙ ap stopped f ∙ next-here s a d i bs e (sym passed ∙ found) h
+
+  pub too-far : a ≢ d → 8 ≤ i → r ≡ plain 18 → x ≡ nextAnswer s a d i bs e
+  too-far away h f = made ∙ ap stopped f ∙ next-eighteen s a d i bs e (sym passed ∙ found) away h
 
 -- ---- what no refusal tells
 

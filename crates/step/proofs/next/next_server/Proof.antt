@@ -3,10 +3,9 @@ use native.Mathlib.Omega.{arith}
 use borrow.Author.Needs.{needs}
 use mathlib.Core.Path.{_≡_, sym, ap, _∙_}
 use Rattle.room.specs.declared.Refusal.{Refusal}
-use Rattle.room.specs.declared.Number.{Number}
 use Rattle.room.proofs.RefusalLaws.{server-none}
 use Rattle.step.specs.Steps.{entry, flagAt, stopped}
-use Rattle.step.proofs.StepLaws.{given-of, hop-answered, hop-next, next-given, next-here, next-eighteen, next-hop, next-closed, next-goes}
+use Rattle.step.proofs.StepLaws.{given-of, hop-answered, hop-next, next-given, arrives, too-far, next-hop, next-closed, next-goes}
 use Rattle.step.proofs.next.next_server.Statement.{statement}
 use Rattle.step.proofs.next.next_server.Tie as tie
 
@@ -21,10 +20,10 @@ next-server-spec =
     (λ c. c .stop .ensures ∙ ap stopped (c .before .plain .ensures) ∙ next-given _ _ _ _ _ _ _ (c .before .before .before .given-refusal .ensures) (c .before .before .if1 .taken))
     (λ c κs. search needs)
     (λ c κs. search needs)
-    (λ c. c .stop2 .ensures ∙ ap stopped (c .before .none .ensures) ∙ next-here _ _ _ _ _ _ (sym (c .before .before .before .if1 .left) ∙ c .before .before .before .before .given-refusal .ensures) (c .before .before .if2 .taken))
+    (λ c. search arrives)
     (λ c κs. search needs)
     (λ c κs. search needs)
-    (λ c. c .stop3 .ensures ∙ ap stopped (c .before .plain2 .ensures) ∙ next-eighteen _ _ _ _ _ _ (sym (c .before .before .before .before .if1 .left) ∙ c .before .before .before .before .before .given-refusal .ensures) (c .before .before .before .if2 .left) (c .before .before .if3 .taken))
+    (λ c. search too-far)
     (λ c. let g = given-of _ _ _ _ _ (sym (c .before .before .before .before .given-refusal .ensures) ∙ c .before .before .before .if1 .left) in omega arith)
     (λ c κs. let g = given-of _ _ _ _ _ (sym (c .before .before .before .before .given-refusal .ensures) ∙ c .before .before .before .if1 .left) in sym (server-none (g .here)))
     (λ c. search needs)
@@ -41,5 +40,3 @@ next-server-spec =
     (λ c. let g = given-of _ _ _ _ _ (sym (c .before .before .before .before .before .before .before .before .before .before .before .given-refusal .ensures) ∙ c .before .before .before .before .before .before .before .before .before .before .if1 .left) in c .stop5 .ensures ∙ ap stopped (c .before .at2 .ensures) ∙ next-closed _ _ _ _ _ _ (sym (c .before .before .before .before .before .before .before .before .before .before .if1 .left) ∙ c .before .before .before .before .before .before .before .before .before .before .before .given-refusal .ensures) (c .before .before .before .before .before .before .before .before .before .if2 .left) (c .before .before .before .before .before .before .before .before .if3 .left) (sym (hop-answered _ _ (g .here) (c .before .before .before .before .before .before .hop-from .ensures)) ∙ c .before .before .before .before .if4 .left) (c .before .before .if5 .taken))
     (λ c κs. search needs)
     (λ c. let g = given-of _ _ _ _ _ (sym (c .before .before .before .before .before .before .before .before .before .before .given-refusal .ensures) ∙ c .before .before .before .before .before .before .before .before .before .if1 .left) in let v = c .before .before .before .before .before .hop-from .result .next in ap (λ (r : Refusal). record { refusal = r; value = v }) (c .none2 .ensures) ∙ next-goes _ _ _ _ _ _ (sym (c .before .before .before .before .before .before .before .before .before .if1 .left) ∙ c .before .before .before .before .before .before .before .before .before .before .given-refusal .ensures) (c .before .before .before .before .before .before .before .before .if2 .left) (c .before .before .before .before .before .before .before .if3 .left) (sym (hop-answered _ _ (g .here) (c .before .before .before .before .before .hop-from .ensures)) ∙ c .before .before .before .if4 .left) v (c .before .if5 .left) (hop-next _ _ (g .here) (c .before .before .before .before .before .hop-from .ensures) (c .before .before .before .if4 .left))))
-
--- t

@@ -1,10 +1,10 @@
 -- `step::tests::ends_refusal` meets its contract. Assumes nothing.
 use native.Mathlib.Omega.{arith}
 use borrow.Author.Needs.{needs}
-use mathlib.Core.Path.{_≡_, sym, _∙_}
+use mathlib.Core.Path.{_≡_}
 use Rattle.room.proofs.RefusalLaws.{few-ports, many-ports, many-levels, many-servers, pair-none}
 use Rattle.room.proofs.RoomLaws.{servers-power}
-use Rattle.room.specs.Shapes.{serversOf, Valid}
+use Rattle.room.specs.Shapes.{Valid}
 use Rattle.step.proofs.StepLaws.{ends-shape, ends-here, ends-there}
 use Rattle.step.proofs.tests.ends_refusal.Statement.{statement}
 use Rattle.step.proofs.tests.ends_refusal.Tie as tie

@@ -2,7 +2,6 @@
 use native.Mathlib.Omega.{arith}
 use borrow.Author.Needs.{needs}
 use mathlib.Core.Path.{refl}
-use lib.ListN.{length}
 use borrow.Author.Tests.{eq-eqb, ne-eqb}
 use Rattle.room.proofs.RefusalLaws.{chain-stops, chain-goes}
 use Rattle.step.specs.Steps.{givenRefusal}
