@@ -1,0 +1,366 @@
+-- What selection promises: all that it writes is accepted; 16 exactly when there is no route; a built route without a failed link
+-- stays in its slot; with no built route broken the answer is what building answers.
+use Prim.Native.Nat.{ℕ, zero, suc, _+_, _-_, _*_, _≤_, _<_, suc-le-suc, zero-le}
+use mathlib.Core.Path.{_≡_, refl, sym, ap, ap₂, _∙_, subst}
+use mathlib.Core.Logic.{_≢_, _↔_}
+use mathlib.Core.Bool.{Bool, true, false, not, cond, _&&_}
+use mathlib.Core.List.{List, [], _∷_, _++_, map, append-nil, append-assoc}
+use native.Mathlib.Omega.{arith}
+use native.Mathlib.Nat.{le-of-suc-le-suc}
+use native.Mathlib.Decide.{ℕ-discrete}
+use lib.Dec.{ltb, leb, eqb}
+use lib.ListN.{length, getD, take, replicate, length-append, length-map}
+use lib.Seq.{append-snoc, take-at, getD-append-seam}
+use Rattle.room.specs.declared.Shape.{Shape}
+use Rattle.room.specs.declared.Refusal.{Refusal}
+use Rattle.room.specs.Shapes.{serversOf}
+use Rattle.room.specs.Refusals.{none, plain, _or-else_, _unless_, shapeRefusal, serverRefusal, pairRefusal}
+use Rattle.room.proofs.RefusalLaws.{or-else-zero, answer-none}
+use Rattle.links.specs.Table.{live, bitsFit, tableRefusal}
+use Rattle.links.proofs.TableLaws.{live-zeros}
+use Rattle.path.specs.Lists.{filled}
+use Rattle.path.specs.Routes.{encode, RouteTo, Parallel}
+use Rattle.path.specs.Answers.{endsRefusal}
+use Rattle.path.proofs.CodecLaws.{Ends, ends-of, encode-long}
+use Rattle.verdict.specs.Checks.{roomRefusal, checkAnswer}
+use Rattle.verdict.specs.Accepted.{encodeAll, Accepted}
+use Rattle.verdict.proofs.AcceptLaws.{encoded-long, of-accepted}
+use Rattle.build.specs.declared.RouteSet.{RouteSet}
+use Rattle.build.specs.declared.Building.{Building}
+use Rattle.build.specs.Built.{downFrom, builtRoute, builtBytes, builtArrays}
+use Rattle.build.specs.Sets.{arrayAt, joined, setOf}
+use Rattle.build.specs.Answers.{buildAnswer, noBuilding, aBuilding}
+use Rattle.build.proofs.BuiltLaws.{built-encode}
+use Rattle.select.specs.declared.Selection.{Selection}
+use Rattle.select.specs.Avoided.{avoided, Avoids}
+use Rattle.select.specs.Selection.{Unbroken, Replaces, Slot, kept, replaced, nothing, Selects, selectRefusal, noSelection, selection, Chosen, Selecting}
+use Rattle.select.specs.Inside.{Settled}
+use Rattle.select.proofs.SlotLaws.{settled-none, slots-settled, lower}
+use Rattle.select.proofs.LayLaws.{set-count, route-array}
+
+-- ---- where nothing is refused
+
+pub select-ends : (s : Shape) (t : List ℕ) (a d : ℕ) → selectRefusal s t a d ≡ 0 → Ends s a d
+unfolding selectRefusal
+select-ends s t a d e = ends-of s a d (or-else-zero (endsRefusal s a d) (tableRefusal s t) e .0)
+
+pub select-table : (s : Shape) (t : List ℕ) (a d : ℕ) → selectRefusal s t a d ≡ 0 → tableRefusal s t ≡ 0
+unfolding selectRefusal
+select-table s t a d e = or-else-zero (endsRefusal s a d) (tableRefusal s t) e .1
+
+select-ends-zero : (s : Shape) (t : List ℕ) (a d : ℕ) → selectRefusal s t a d ≡ 0 → endsRefusal s a d ≡ 0
+unfolding selectRefusal
+select-ends-zero s t a d e = or-else-zero (endsRefusal s a d) (tableRefusal s t) e .0
+
+select-room : (s : Shape) (t : List ℕ) (a d : ℕ) → selectRefusal s t a d ≡ 0 → roomRefusal s t a d ≡ 0
+unfolding selectRefusal roomRefusal
+select-room s t a d e = e
+
+-- the routes that were chosen, every two parallel
+pub chosen-settled : {s : Shape} {t : List ℕ} {a d : ℕ} {r : Selection} → Ends s a d → (c : Chosen s t a d r) → Settled s t a d 0 (c .routes)
+chosen-settled {s} {t} {a} {d} ends c = slots-settled t ends (suc (s .k)) (settled-none s t a d) (c .slots)
+
+-- ---- what is written
+
+pub joined-encoded : (s : Shape) (vss : List (List ℕ)) → joined (map (encode s) vss) ≡ encodeAll s vss
+unfolding joined encodeAll
+joined-encoded s [] = refl
+joined-encoded s (vs ∷ vss) = ap (λ (x : List ℕ). encode s vs ++ x) (joined-encoded s vss)
+
+-- the bytes of a set up to its count
+abbrev pub held : RouteSet → List ℕ
+held r = take (8 * r .count) (r .bytes)
+
+pub set-held : (s : Shape) (vss : List (List ℕ)) → ((i : ℕ) → i < length vss → length (getD vss i []) ≤ 9) → held (setOf (map (encode s) vss)) ≡ encodeAll s vss
+unfolding setOf filled
+set-held s vss few =
+    take-at (joined (map (encode s) vss)) (replicate (32 - length (joined (map (encode s) vss))) 0) (8 * length (map (encode s) vss))
+    (ap length (joined-encoded s vss) ∙ encoded-long s vss few ∙ ap (λ (m : ℕ). 8 * m) (sym (length-map vss (encode s))))
+    ∙ joined-encoded s vss
+
+-- ---- all that selection writes is accepted by checking
+
+-- the answer with no refusal: its routes, at least one
+pub record Gives (s : Shape) (t : List ℕ) (a d : ℕ) (r : Selection) : Type 0 where
+  pub routes : List (List ℕ)
+  pub some : 1 ≤ length routes
+  pub settled : Settled s t a d 0 routes
+  pub written : r .routes ≡ setOf (map (encode s) routes)
+  pub slots : Selects s t a d (suc (s .k)) [] routes
+
+given-by : {s : Shape} {t : List ℕ} {a d : ℕ} {r : Selection} (routes : List (List ℕ)) → Selects s t a d (suc (s .k)) [] routes → r ≡ selection s routes → Settled s t a d 0 routes → r .refusal .number ≡ 0 → Gives s t a d r
+given-by [] c e h n = let z : _≡_ {A = ℕ} 16 0 = sym (ap (λ (x : Selection). x .refusal .number) e) ∙ n in let w : ⊥ = omega arith in absurd w
+given-by (vs ∷ vss) c e h n =
+    record { routes = vs ∷ vss; some = suc-le-suc zero-le; settled = h; written = ap (λ (x : Selection). x .routes) e; slots = c }
+
+no-refusal : {s : Shape} {t : List ℕ} {a d : ℕ} {r : Selection} → Selecting s t a d r → r .refusal .number ≡ 0 → selectRefusal s t a d ≡ 0
+no-refusal {s} {t} {a} {d} {r} h n =
+    elim (ℕ-discrete (selectRefusal s t a d) 0) [
+      | yes e ↦ e
+      | no e ↦ absurd (e (sym (ap (λ (x : Selection). x .refusal .number) (h .refused e)) ∙ n))
+    ]
+
+pub gives : {s : Shape} {t : List ℕ} {a d : ℕ} {r : Selection} → Selecting s t a d r → r .refusal .number ≡ 0 → Gives s t a d r
+gives {s} {t} {a} {d} {r} h n =
+    let e = no-refusal h n in
+    let c = h .given e in
+    given-by (c .routes) (c .slots) (c .answer) (chosen-settled (select-ends s t a d e) c) n
+
+pub gives-accepted : {s : Shape} {t : List ℕ} {a d : ℕ} {r : Selection} → Gives s t a d r → Accepted s t a d (held (r .routes))
+gives-accepted {s} {t} {a} {d} {r} g =
+    record {
+      routes = g .routes;
+      some = g .some;
+      most = omega (arith, g .settled .few);
+      bytes = ap held (g .written) ∙ set-held s (g .routes) (λ i p. g .settled .each i p .route .few);
+      each = g .settled .each;
+      apart = g .settled .apart;
+    }
+
+-- on every shape, table and pair: what selection writes is 1 to k + 1 routes over live links, every two parallel
+pub selection-accepted : (s : Shape) (t : List ℕ) (a d : ℕ) (r : Selection) → Selecting s t a d r → r .refusal .number ≡ 0 → Accepted s t a d (held (r .routes))
+selection-accepted s t a d r h n = gives-accepted (gives h n)
+
+-- and checking accepts it
+pub selection-checked : (s : Shape) (t : List ℕ) (a d : ℕ) (r : Selection) → Selecting s t a d r → r .refusal .number ≡ 0 → checkAnswer s t a d (held (r .routes)) ≡ none
+selection-checked s t a d r h n =
+    of-accepted s t a d (held (r .routes)) (select-room s t a d (no-refusal h n)) (selection-accepted s t a d r h n)
+
+-- ---- 16 exactly when there is no route at all
+
+-- settled routes stay, and what comes after them are the later slots' routes
+pub record After (m : ℕ) (settled routes : List (List ℕ)) : Type 0 where
+  pub rest : List (List ℕ)
+  pub whole : routes ≡ settled ++ rest
+  pub few : length rest ≤ m
+
+slot-few : {s : Shape} {t : List ℕ} {a d i : ℕ} {settled given : List (List ℕ)} → Slot s t a d i settled given → length given ≤ 1
+slot-few (kept u) = suc-le-suc zero-le
+slot-few (replaced b r) = suc-le-suc zero-le
+slot-few (nothing b r) = zero-le
+
+pub slots-after : (s : Shape) (t : List ℕ) (a d : ℕ) (m : ℕ) {settled routes : List (List ℕ)} → Selects s t a d m settled routes → After m settled routes
+slots-after s t a d zero {settled} e = record { rest = []; whole = sym e ∙ sym (append-nil settled); few = zero-le }
+slots-after s t a d (suc i) {settled} c =
+    let h = slots-after s t a d i (c .2) in
+    record {
+      rest = c .0 ++ h .rest;
+      whole = h .whole ∙ append-assoc settled (c .0) (h .rest);
+      few = omega (arith, length-append (c .0) (h .rest), slot-few (c .1), h .few);
+    }
+
+-- one slot of a selection: what it gives, with what the higher slots and the lower slots give
+pub record At (s : Shape) (t : List ℕ) (a d m i : ℕ) (settled routes : List (List ℕ)) : Type 0 where
+  pub higher : List (List ℕ)
+  pub given : List (List ℕ)
+  pub lowers : List (List ℕ)
+  pub slot : Slot s t a d i (settled ++ higher) given
+  pub whole : routes ≡ settled ++ higher ++ given ++ lowers
+  pub few-higher : length higher + suc i ≤ m
+  pub few-lower : length lowers ≤ i
+
+pub slots-at : (s : Shape) (t : List ℕ) (a d : ℕ) (m : ℕ) {settled routes : List (List ℕ)} (i : ℕ) → i < m → Selects s t a d m settled routes → At s t a d m i settled routes
+slots-at s t a d zero i p c = let z : ⊥ = omega arith in absurd z
+slots-at s t a d (suc m) {settled} {routes} i p c =
+    elim (ℕ-discrete i m) [
+      | yes e ↦ here e
+      | no e ↦ let h = slots-at s t a d m i (omega arith) (c .2) in
+          let f : length (c .0 ++ h .higher) + suc i ≤ suc m = omega (arith, length-append (c .0) (h .higher), slot-few (c .1), h .few-higher) in
+          let r : settled ++ c .0 ++ h .higher ≡ settled ++ (c .0 ++ h .higher) = append-assoc settled (c .0) (h .higher) in
+          record {
+            higher = c .0 ++ h .higher;
+            given = h .given;
+            lowers = h .lowers;
+            slot = subst (λ (x : List (List ℕ)). Slot s t a d i x (h .given)) r (h .slot);
+            whole = h .whole ∙ ap (λ (x : List (List ℕ)). x ++ h .given ++ h .lowers) r;
+            few-higher = f;
+            few-lower = h .few-lower;
+          }
+    ]
+  where
+    here : i ≡ m → At s t a d (suc m) i settled routes
+    here e =
+        let h = slots-after s t a d m (c .2) in
+        let q : settled ++ [] ≡ settled = append-nil settled in
+        record {
+          higher = [];
+          given = c .0;
+          lowers = h .rest;
+          slot = subst (λ (j : ℕ). Slot s t a d j (settled ++ []) (c .0)) (sym e) (subst (λ (x : List (List ℕ)). Slot s t a d m x (c .0)) (sym q) (c .1));
+          whole = h .whole ∙ ap (λ (x : List (List ℕ)). x ++ c .0 ++ h .rest) (sym q);
+          few-higher = omega arith;
+          few-lower = omega (arith, h .few);
+        }
+
+-- slot 0 avoids nothing where nothing is settled
+none-avoided : (s : Shape) (a d : ℕ) (vs : List ℕ) → Avoids s (avoided s a d 0 []) vs
+unfolding avoided
+none-avoided s a d vs = record { each = λ i p. absurd (let z : ⊥ = omega arith in z) }
+
+-- where no route comes out, slot 0 found nothing
+first-none : (s : Shape) (t : List ℕ) (a d : ℕ) → At s t a d (suc (s .k)) 0 [] [] → (vs : List ℕ) → RouteTo s t a d vs → ⊥
+first-none s t a d h = go (h .higher) (h .given) (h .lowers) (h .slot) (h .whole)
+  where
+    go : (higher given lowers : List (List ℕ)) → Slot s t a d 0 ([] ++ higher) given → [] ≡ [] ++ higher ++ given ++ lowers → (vs : List ℕ) → RouteTo s t a d vs → ⊥
+    go [] [] lowers (nothing b r) e vs v = r vs v (none-avoided s a d vs)
+    go [] (x ∷ given) lowers h e vs v = let z : ⊥ = omega (arith, ap length e) in absurd z
+    go (x ∷ higher) given lowers h e vs v = let z : ⊥ = omega (arith, ap length e) in absurd z
+
+-- the refusals before 16
+or-else-le : (m p q : ℕ) → p ≤ m → q ≤ m → (p or-else q) ≤ m
+unfolding _or-else_
+or-else-le m zero q h k = k
+or-else-le m (suc p) q h k = h
+
+unless-le : (m r : ℕ) (b : Bool) → r ≤ m → (r unless b) ≤ m
+unless-le m r true h = zero-le
+unless-le m r false h = h
+
+shape-le : (s : Shape) → shapeRefusal s ≤ 6
+unfolding shapeRefusal
+shape-le s =
+    or-else-le 6 (1 unless (leb 2 (s .n) && leb (s .n) 64) or-else 2 unless leb (s .k) 3) (3 unless leb (serversOf s) 4096)
+    (or-else-le 6 (1 unless (leb 2 (s .n) && leb (s .n) 64)) (2 unless leb (s .k) 3) (unless-le 6 1 (leb 2 (s .n) && leb (s .n) 64) (omega arith)) (unless-le 6 2 (leb (s .k) 3) (omega arith)))
+    (unless-le 6 3 (leb (serversOf s) 4096) (omega arith))
+
+server-le : (s : Shape) (a : ℕ) → serverRefusal s a ≤ 6
+unfolding serverRefusal
+server-le s a = or-else-le 6 (shapeRefusal s) (4 unless ltb a (serversOf s)) (shape-le s) (unless-le 6 4 (ltb a (serversOf s)) (omega arith))
+
+ends-le : (s : Shape) (a d : ℕ) → endsRefusal s a d ≤ 6
+unfolding endsRefusal pairRefusal
+ends-le s a d =
+    or-else-le 6 (serverRefusal s a or-else serverRefusal s d) (5 unless not (eqb a d)) (or-else-le 6 (serverRefusal s a) (serverRefusal s d) (server-le s a) (server-le s d))
+    (unless-le 6 5 (not (eqb a d)) (omega arith))
+
+pub select-le : (s : Shape) (t : List ℕ) (a d : ℕ) → selectRefusal s t a d ≤ 6
+unfolding selectRefusal tableRefusal
+select-le s t a d =
+    or-else-le 6 (endsRefusal s a d) (6 unless (eqb (length t) (serversOf s) && bitsFit (s .k) t)) (ends-le s a d)
+    (unless-le 6 6 (eqb (length t) (serversOf s) && bitsFit (s .k) t) (omega arith))
+
+-- 16 only where nothing else is refused
+pub sixteen-only : (s : Shape) (t : List ℕ) (a d : ℕ) (r : Selection) → Selecting s t a d r → r .refusal .number ≡ 16 → selectRefusal s t a d ≡ 0
+sixteen-only s t a d r h n =
+    elim (ℕ-discrete (selectRefusal s t a d) 0) [
+      | yes e ↦ e
+      | no e ↦ let z : ⊥ = omega (arith, ap (λ (x : Selection). x .refusal .number) (h .refused e), select-le s t a d, n) in absurd z
+    ]
+
+none-sixteen : (s : Shape) (routes : List (List ℕ)) → selection s routes .refusal .number ≡ 16 → routes ≡ []
+none-sixteen s [] e = refl
+none-sixteen s (vs ∷ vss) e = let z : ⊥ = omega arith in absurd z
+
+-- where nothing else is refused: 16 exactly when no route at all, of eight hops or fewer, crosses only live links
+pub sixteen-exactly : (s : Shape) (t : List ℕ) (a d : ℕ) (r : Selection) → selectRefusal s t a d ≡ 0 → Selecting s t a d r → (r .refusal .number ≡ 16) ↔ ((vs : List ℕ) → RouteTo s t a d vs → ⊥)
+sixteen-exactly s t a d r e h = (there, back (c .routes) (c .answer) (chosen-settled (select-ends s t a d e) c))
+  where
+    c : Chosen s t a d r
+    c = h .given e
+
+    there : r .refusal .number ≡ 16 → (vs : List ℕ) → RouteTo s t a d vs → ⊥
+    there n =
+        let q : c .routes ≡ [] = none-sixteen s (c .routes) (sym (ap (λ (x : Selection). x .refusal .number) (c .answer)) ∙ n) in
+        first-none s t a d (slots-at s t a d (suc (s .k)) 0 (suc-le-suc zero-le) (subst (Selects s t a d (suc (s .k)) []) q (c .slots)))
+
+    back : (routes : List (List ℕ)) → r ≡ selection s routes → Settled s t a d 0 routes → ((vs : List ℕ) → RouteTo s t a d vs → ⊥) → r .refusal .number ≡ 16
+    back [] q k f = ap (λ (x : Selection). x .refusal .number) q
+    back (vs ∷ vss) q k f = absurd (f vs (k .each 0 (suc-le-suc zero-le)))
+
+-- ---- a built route without a failed link stays in its slot
+
+unbroken-kept : {s : Shape} {t : List ℕ} {a d i : ℕ} {settled given : List (List ℕ)} → Unbroken s t (builtRoute s i a d) → Slot s t a d i settled given → given ≡ builtRoute s i a d ∷ []
+unbroken-kept u (kept v) = refl
+unbroken-kept u (replaced b r) = absurd (b u)
+unbroken-kept u (nothing b r) = absurd (b u)
+
+-- it stands among the routes chosen, after those of higher slots alone and before those of lower slots alone
+pub record Stays (s : Shape) (a d i : ℕ) (routes : List (List ℕ)) : Type 0 where
+  pub higher : List (List ℕ)
+  pub lowers : List (List ℕ)
+  pub whole : routes ≡ higher ++ (builtRoute s i a d ∷ lowers)
+  pub few-higher : length higher + i ≤ s .k
+  pub few-lower : length lowers ≤ i
+
+pub built-stays : (s : Shape) (t : List ℕ) (a d : ℕ) (routes : List (List ℕ)) → Selects s t a d (suc (s .k)) [] routes → (i : ℕ) → i ≤ s .k → Unbroken s t (builtRoute s i a d) → Stays s a d i routes
+built-stays s t a d routes c i p u =
+    let h = slots-at s t a d (suc (s .k)) i (suc-le-suc p) c in
+    record {
+      higher = h .higher;
+      lowers = h .lowers;
+      whole = h .whole ∙ ap (λ (x : List (List ℕ)). h .higher ++ x ++ h .lowers) (unbroken-kept u (h .slot)) ∙ append-snoc (h .higher) (builtRoute s i a d) (h .lowers);
+      few-higher = omega (arith, h .few-higher);
+      few-lower = h .few-lower;
+    }
+
+-- where its array stands in the answer: at most as many routes before it as there are higher slots, and after it as lower slots
+pub record KeptAt (s : Shape) (a d i : ℕ) (r : Selection) : Type 0 where
+  pub place : ℕ
+  pub inside : place < r .routes .count
+  pub few-higher : place + i ≤ s .k
+  pub few-lower : r .routes .count ≤ place + suc i
+  pub there : arrayAt place (r .routes) ≡ builtBytes s i a d
+
+pub built-kept : (s : Shape) (t : List ℕ) (a d : ℕ) (r : Selection) → selectRefusal s t a d ≡ 0 → Selecting s t a d r → (i : ℕ) → i ≤ s .k → Unbroken s t (builtRoute s i a d) → (r .refusal ≡ none) × KeptAt s a d i r
+built-kept s t a d r e h i p u = go (c .routes) (c .answer) (built-stays s t a d (c .routes) (c .slots) i p u) (chosen-settled ends c)
+  where
+    c : Chosen s t a d r
+    c = h .given e
+
+    ends : Ends s a d
+    ends = select-ends s t a d e
+
+    go : (routes : List (List ℕ)) → r ≡ selection s routes → Stays s a d i routes → Settled s t a d 0 routes → (r .refusal ≡ none) × KeptAt s a d i r
+    go [] q k f = let z : ⊥ = omega (arith, length-append (k .higher) (builtRoute s i a d ∷ k .lowers), ap length (k .whole)) in absurd z
+    go (vs ∷ vss) q k f =
+        let w : r .routes ≡ setOf (map (encode s) (vs ∷ vss)) = ap (λ (x : Selection). x .routes) q in
+        let n : r .routes .count ≡ length (vs ∷ vss) = ap (λ (x : RouteSet). x .count) w ∙ set-count s (vs ∷ vss) in
+        let m = length-append (k .higher) (builtRoute s i a d ∷ k .lowers) in
+        let l = ap length (k .whole) in (
+          ap (λ (x : Selection). x .refusal) q,
+          record {
+            place = length (k .higher);
+            inside = omega arith;
+            few-higher = k .few-higher;
+            few-lower = omega (arith, k .few-lower);
+            there =
+                ap (arrayAt (length (k .higher))) w
+                ∙ route-array s (vs ∷ vss) (λ j y. f .each j y .route .few) (length (k .higher)) (omega arith)
+                ∙ ap (encode s) (ap (λ (x : List (List ℕ)). getD x (length (k .higher)) []) (k .whole) ∙ getD-append-seam (k .higher) (builtRoute s i a d) (k .lowers) [])
+                ∙ built-encode s a d (ends .source) (ends .dest) (ends .differ) i p;
+          },
+        )
+
+-- ---- with no built route broken, selection answers what building answers
+
+all-unbroken : (s : Shape) (t : List ℕ) (a d : ℕ) (m : ℕ) (settled routes : List (List ℕ)) → ((i : ℕ) → i < m → Unbroken s t (builtRoute s i a d)) → Selects s t a d m settled routes → routes ≡ settled ++ lower s a d m
+all-unbroken s t a d zero settled routes u e = sym e ∙ sym (append-nil settled)
+all-unbroken s t a d (suc i) settled routes u c =
+    all-unbroken s t a d i (settled ++ c .0) routes (λ j p. u j (omega arith)) (c .2)
+    ∙ ap (λ (x : List (List ℕ)). settled ++ x ++ lower s a d i) (unbroken-kept (u i (omega arith)) (c .1))
+    ∙ append-snoc settled (builtRoute s i a d) (lower s a d i)
+
+encode-lower : {s : Shape} {a d : ℕ} → Ends s a d → (m : ℕ) → m ≤ suc (s .k) → map (encode s) (lower s a d m) ≡ map (λ (i : ℕ). builtBytes s i a d) (downFrom m)
+encode-lower h zero p = refl
+encode-lower {s} {a} {d} h (suc i) p =
+    ap₂ (λ (x : List ℕ) (y : List (List ℕ)). x ∷ y) (built-encode s a d (h .source) (h .dest) (h .differ) i (le-of-suc-le-suc p)) (encode-lower h i (omega arith))
+
+pub unbroken-built : (s : Shape) (t : List ℕ) (a d : ℕ) (r : Selection) → selectRefusal s t a d ≡ 0 → Selecting s t a d r → ((i : ℕ) → i ≤ s .k → Unbroken s t (builtRoute s i a d)) → (r .refusal ≡ buildAnswer s a d .refusal) × (r .routes ≡ buildAnswer s a d .routes)
+unfolding buildAnswer builtArrays
+unbroken-built s t a d r e h u =
+    let c = h .given e in
+    let ends = select-ends s t a d e in
+    let b : endsRefusal s a d ≡ 0 = or-zero in
+    let n = answer-none (endsRefusal s a d) noBuilding (aBuilding (setOf (builtArrays s a d))) (sym b) in
+    let q : c .routes ≡ lower s a d (suc (s .k)) = all-unbroken s t a d (suc (s .k)) [] (c .routes) (λ i p. u i (le-of-suc-le-suc p)) (c .slots) in
+    let w : r ≡ selection s (lower s a d (suc (s .k))) = c .answer ∙ ap (selection s) q in (
+      ap (λ (x : Selection). x .refusal) w ∙ ap (λ (x : Building). x .refusal) (sym n),
+      ap (λ (x : Selection). x .routes) w ∙ ap setOf (encode-lower ends (suc (s .k)) (omega arith)) ∙ ap (λ (x : Building). x .routes) (sym n),
+    )
+  where
+    or-zero : endsRefusal s a d ≡ 0
+    or-zero = select-ends-zero s t a d e
+
+-- and so with no failed link
+pub no-failed-built : (s : Shape) (m : ℕ) (a d : ℕ) (r : Selection) → selectRefusal s (replicate m 0) a d ≡ 0 → Selecting s (replicate m 0) a d r → (r .refusal ≡ buildAnswer s a d .refusal) × (r .routes ≡ buildAnswer s a d .routes)
+no-failed-built s m a d r e h = unbroken-built s (replicate m 0) a d r e h (λ i p. record { alive = λ j q. live-zeros m _ _ _ })

@@ -1,0 +1,3 @@
+pub mod Avoided
+pub mod Selection
+pub mod Inside
