@@ -32,3 +32,7 @@ joined (x ∷ xs) = x ++ joined xs
 -- the set of these arrays in their order, with zeros past them
 unfoldable pub setOf : List (List ℕ) → RouteSet
 setOf xs = record { bytes = filled 32 (joined xs); count = length xs }
+
+-- the arrays that a set holds, one after another
+abbrev pub held : RouteSet → List ℕ
+held r = take (8 * r .count) (r .bytes)

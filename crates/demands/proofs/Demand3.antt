@@ -20,7 +20,10 @@ use Rattle.verdict.proofs.AcceptLaws.{accept-exactly, of-accepted}
 use Rattle.build.specs.Built.{downFrom, builtRoute, builtBytes, builtRoutes, builtArrays}
 use Rattle.build.specs.Sets.{joined}
 use Rattle.build.proofs.BuiltLaws.{built-route, built-encode, built-parallel}
-use Rattle.demands.specs.Demand3.{AcceptedExactly, Healthy, BuiltAccepted}
+use Rattle.select.proofs.SelectLaws.{selection-checked}
+use Rattle.step.specs.declared.Step.{Step}
+use Rattle.step.proofs.DeliveryLaws.{each-hop, then-delivered}
+use Rattle.demands.specs.Demand3.{AcceptedExactly, Healthy, BuiltAccepted, SelectionAccepted, Delivery}
 
 pub accepted-exactly : AcceptedExactly
 accepted-exactly = accept-exactly
@@ -87,3 +90,15 @@ unfolding roomRefusal
 built-accepted s t a d e h =
     of-accepted s t a d (joined (builtArrays s a d)) (sym (chain-goes _ _ _ _ refl e (sym (h .table))))
     (built-list s t a d (ends-of s a d e) h)
+
+pub selection-accepted : SelectionAccepted
+selection-accepted = selection-checked
+
+pub delivery : Delivery
+delivery s t a d bs vs tables e h =
+    record {
+      next = λ i p. ap (λ (x : Step). x .next) (each-hop e h i p);
+      index = λ i p. ap (λ (x : Step). x .index) (each-hop e h i p);
+      under-way = λ i p. ap (λ (x : Step). x .delivered) (each-hop e h i p);
+      delivered = ap (λ (x : Step). x .delivered) (then-delivered e h);
+    }

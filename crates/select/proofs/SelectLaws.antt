@@ -28,7 +28,7 @@ use Rattle.verdict.proofs.AcceptLaws.{encoded-long, of-accepted}
 use Rattle.build.specs.declared.RouteSet.{RouteSet}
 use Rattle.build.specs.declared.Building.{Building}
 use Rattle.build.specs.Built.{downFrom, builtRoute, builtBytes, builtArrays}
-use Rattle.build.specs.Sets.{arrayAt, joined, setOf}
+use Rattle.build.specs.Sets.{arrayAt, joined, setOf, held}
 use Rattle.build.specs.Answers.{buildAnswer, noBuilding, aBuilding}
 use Rattle.build.proofs.BuiltLaws.{built-encode}
 use Rattle.select.specs.declared.Selection.{Selection}
@@ -66,10 +66,6 @@ pub joined-encoded : (s : Shape) (vss : List (List ℕ)) → joined (map (encode
 unfolding joined encodeAll
 joined-encoded s [] = refl
 joined-encoded s (vs ∷ vss) = ap (λ (x : List ℕ). encode s vs ++ x) (joined-encoded s vss)
-
--- the bytes of a set up to its count
-abbrev pub held : RouteSet → List ℕ
-held r = take (8 * r .count) (r .bytes)
 
 pub set-held : (s : Shape) (vss : List (List ℕ)) → ((i : ℕ) → i < length vss → length (getD vss i []) ≤ 9) → held (setOf (map (encode s) vss)) ≡ encodeAll s vss
 unfolding setOf filled

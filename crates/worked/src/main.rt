@@ -11,6 +11,8 @@ mod print;
 mod routes;
 // rooms.rt: shapes, addresses, switches, neighbours
 mod rooms;
+// selections.rt: selection
+mod selections;
 // steps.rt: the forwarding step
 mod steps;
 // tables.rt: the failed-link table
@@ -33,5 +35,7 @@ fn main() {
     picks::picks();
     routes::built();
     routes::pairs();
+    selections::sixteen();
+    selections::far();
     steps::steps();
 }

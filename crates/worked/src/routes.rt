@@ -4,7 +4,7 @@ use build::RouteSet;
 use room::Shape;
 
 // The arrays of a set, each with a space before it.
-fn arrays(set: RouteSet) {
+pub(crate) fn arrays(set: RouteSet) {
     let bytes = set.bytes;
     let count = set.count;
     let mut i: usize = 0;
