@@ -1,26 +1,26 @@
 -- The routes over a table into which other routes are laid are the routes over the table that avoid those.
-use Prim.Native.Nat.{ℕ, zero, suc, _+_, _-_, _*_, _≤_, _<_, suc-le-suc, zero-le}
+use Prim.Native.Nat.{ℕ, zero, suc, _+_, _-_, _*_, _<_, suc-le-suc, zero-le}
 use mathlib.Core.Path.{_≡_, refl, sym, ap, _∙_, subst}
-use mathlib.Core.Logic.{_≢_, _↔_}
+use mathlib.Core.Logic.{_↔_}
 use mathlib.Core.Bool.{Bool, true, false, _||_}
-use mathlib.Core.List.{List, [], _∷_, _++_}
+use mathlib.Core.List.{List, [], _∷_}
 use native.Mathlib.Omega.{arith}
 use native.Mathlib.Nat.{le-of-suc-le-suc}
-use native.Mathlib.Decide.{ℕ-discrete, decLt}
+use native.Mathlib.Decide.{decLt}
 use lib.ListN.{length, getD}
 use Rattle.room.specs.declared.Shape.{Shape}
 use Rattle.room.specs.Shapes.{Server, Link}
-use Rattle.room.specs.Addresses.{Neighbours, switchOf}
+use Rattle.room.specs.Addresses.{Neighbours}
 use Rattle.room.proofs.RoomLaws.{same-switch}
-use Rattle.links.specs.Table.{failed, live, TableOf}
+use Rattle.links.specs.Table.{failed, live}
 use Rattle.links.proofs.TableLaws.{live-exactly}
-use Rattle.path.specs.Lists.{isIn, middle, inTurn, Apart}
-use Rattle.path.specs.Routes.{switchAt, levelTo, switchTo, switchesOf, Route, RouteTo, Parallel}
+use Rattle.path.specs.Lists.{isIn, middle}
+use Rattle.path.specs.Routes.{switchAt, levelTo, switchTo, switchesOf, Route, RouteTo}
 use Rattle.path.proofs.ListLaws.{Missing, in-missing, missing-in, length-turn, turn-at, length-middle, middle-at}
 use Rattle.finder.specs.Alternates.{Alternate}
 use Rattle.select.specs.Avoided.{Avoids}
 use Rattle.select.specs.Selection.{Replaces}
-use Rattle.select.specs.Inside.{takes, taken, Marks, Laid}
+use Rattle.select.specs.Inside.{takes, taken, Laid}
 
 -- ---- tests that fail
 

@@ -1,6 +1,6 @@
 -- Arrays of a route set, read and laid into a table.
 use Prim.Native.Nat.{ℕ, zero, suc, _+_, _-_, _*_, _≤_, _<_, suc-le-suc, zero-le}
-use mathlib.Core.Path.{_≡_, refl, sym, ap, ap₂, _∙_, subst}
+use mathlib.Core.Path.{_≡_, refl, sym, ap, _∙_, subst}
 use mathlib.Core.Bool.{Bool, _||_}
 use mathlib.Core.List.{List, [], _∷_, _++_, map}
 use native.Mathlib.Omega.{arith}
@@ -9,7 +9,6 @@ use lib.Seq.{getD-take, getD-drop, length-take-le}
 use Rattle.room.specs.declared.Shape.{Shape}
 use Rattle.links.specs.Table.{TableOf}
 use Rattle.path.specs.declared.Reading.{Reading}
-use Rattle.path.specs.Lists.{filled}
 use Rattle.path.specs.Routes.{Route, RouteTo, Encodes, encode}
 use Rattle.path.specs.Answers.{readAnswer}
 use Rattle.path.proofs.ListLaws.{take-filled, length-filled}

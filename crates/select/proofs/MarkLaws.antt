@@ -1,27 +1,26 @@
 -- Marking link after link: what stands marked after each.
-use Prim.Native.Nat.{ℕ, zero, suc, _+_, _-_, _*_, _/_, _%_, _^_, _≤_, _<_}
+use Prim.Native.Nat.{ℕ, suc, _+_, _-_, _*_, _/_, _%_, _^_, _≤_, _<_}
 use mathlib.Core.Path.{_≡_, refl, sym, ap, ap₂, _∙_, subst}
-use mathlib.Core.Logic.{_≢_, _⊎_, inl, inr, ⊎-elim}
-use mathlib.Core.Bool.{Bool, true, false, not, cond, _&&_, _||_}
+use mathlib.Core.Logic.{_⊎_, inl, inr, ⊎-elim}
+use mathlib.Core.Bool.{Bool, true, false, not, _&&_, _||_}
 use mathlib.Core.List.{List, [], _∷_, _++_}
 use native.Mathlib.Omega.{arith}
 use native.Mathlib.Numerals.{add-one}
-use native.Mathlib.Nat.{div-le-self}
 use native.Mathlib.Decide.{ℕ-discrete, decLt}
-use lib.Dec.{ltb, leb, eqb}
+use lib.Dec.{ltb, eqb}
 use lib.ListN.{length, getD, set, take, drop}
 use lib.Seq.{take-suc, take-all, set-getD}
-use borrow.Author.Tests.{eq-eqb, ne-eqb, eqb-true, eqb-false, lt-ltb, le-ltb}
+use borrow.Author.Tests.{eq-eqb, ne-eqb, lt-ltb, le-ltb}
 use Rattle.room.specs.declared.Shape.{Shape}
 use Rattle.room.specs.Shapes.{bound, Server, Link, Value}
 use Rattle.room.specs.declared.Number.{Number}
 use Rattle.room.specs.declared.Between.{Between}
-use Rattle.room.specs.Addresses.{digit, withDigit, switchOf, Beside}
+use Rattle.room.specs.Addresses.{digit, withDigit, switchOf}
 use Rattle.room.specs.Answers.{onlyLevel, boundAnswer, neighbourAnswer, betweenAnswer}
 use Rattle.room.proofs.AnswerLaws.{bound-answered, neighbour-answered, between-answered}
 use Rattle.room.proofs.RoomLaws.{digit-lt, with-server, with-same, with-switch, beside-with, switch-same, neighbours-exactly}
-use Rattle.links.specs.Table.{bit, failed, raised, marked, TableOf}
-use Rattle.links.proofs.BitLaws.{either, raised-set, raised-clear}
+use Rattle.links.specs.Table.{bit, failed, marked, TableOf}
+use Rattle.links.proofs.BitLaws.{raised-set, raised-clear}
 use Rattle.links.proofs.TableLaws.{marked-own, marked-other, marked-table}
 use Rattle.links.proofs.LinkLaws.{bit-by, raise-fits}
 use Rattle.path.specs.Lists.{isIn, middle}

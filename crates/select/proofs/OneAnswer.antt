@@ -1,20 +1,19 @@
 -- There is one answer: of two routes one comes before the other, so each slot gives one thing, and the slots one after another too.
-use Prim.Native.Nat.{ℕ, zero, suc, _+_, _-_, _/_, _%_, _<_}
+use Prim.Native.Nat.{ℕ, zero, suc, _+_, _-_, _/_, _%_}
 use mathlib.Core.Path.{_≡_, refl, sym, ap, ap₂, _∙_, subst}
-use mathlib.Core.Logic.{_≢_, _⊎_, inl, inr, ⊎-elim}
+use mathlib.Core.Logic.{_⊎_, inl, inr, ⊎-elim}
 use mathlib.Core.List.{List, [], _∷_, _++_}
 use native.Mathlib.Omega.{arith}
 use native.Mathlib.Decide.{ℕ-discrete, decLt}
-use lib.ListN.{length, getD}
+use lib.ListN.{length}
 use Rattle.room.specs.declared.Shape.{Shape}
-use Rattle.path.specs.Lists.{inTurn, filled}
-use Rattle.path.specs.Routes.{byteTo, encode, RouteTo, Encodes}
+use Rattle.path.specs.Lists.{filled}
+use Rattle.path.specs.Routes.{byteTo, encode, RouteTo}
 use Rattle.path.proofs.ListLaws.{length-turn}
 use Rattle.path.proofs.CodecLaws.{encodes-unique}
 use Rattle.finder.specs.Alternates.{bytesOf, Sooner, HopByHop, Before}
 use Rattle.select.specs.declared.Selection.{Selection}
-use Rattle.select.specs.Avoided.{avoided, Avoids}
-use Rattle.select.specs.Selection.{Unbroken, Replaces, Slot, kept, replaced, nothing, Selects, selectRefusal, noSelection, selection, Chosen, Selecting}
+use Rattle.select.specs.Selection.{Replaces, Slot, kept, replaced, nothing, Selects, selectRefusal, selection, Selecting}
 
 -- ---- of two routes one comes before the other
 

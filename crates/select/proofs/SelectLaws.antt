@@ -2,8 +2,8 @@
 -- stays in its slot; with no built route broken the answer is what building answers.
 use Prim.Native.Nat.{ℕ, zero, suc, _+_, _-_, _*_, _≤_, _<_, suc-le-suc, zero-le}
 use mathlib.Core.Path.{_≡_, refl, sym, ap, ap₂, _∙_, subst}
-use mathlib.Core.Logic.{_≢_, _↔_}
-use mathlib.Core.Bool.{Bool, true, false, not, cond, _&&_}
+use mathlib.Core.Logic.{_↔_}
+use mathlib.Core.Bool.{Bool, true, false, not, _&&_}
 use mathlib.Core.List.{List, [], _∷_, _++_, map, append-nil, append-assoc}
 use native.Mathlib.Omega.{arith}
 use native.Mathlib.Nat.{le-of-suc-le-suc}
@@ -12,16 +12,15 @@ use lib.Dec.{ltb, leb, eqb}
 use lib.ListN.{length, getD, take, replicate, length-append, length-map}
 use lib.Seq.{append-snoc, take-at, getD-append-seam}
 use Rattle.room.specs.declared.Shape.{Shape}
-use Rattle.room.specs.declared.Refusal.{Refusal}
 use Rattle.room.specs.Shapes.{serversOf}
-use Rattle.room.specs.Refusals.{none, plain, _or-else_, _unless_, shapeRefusal, serverRefusal, pairRefusal}
+use Rattle.room.specs.Refusals.{none, _or-else_, _unless_, shapeRefusal, serverRefusal, pairRefusal}
 use Rattle.room.proofs.RefusalLaws.{or-else-zero, answer-none}
 use Rattle.links.specs.Table.{live, bitsFit, tableRefusal}
 use Rattle.links.proofs.TableLaws.{live-zeros}
 use Rattle.path.specs.Lists.{filled}
-use Rattle.path.specs.Routes.{encode, RouteTo, Parallel}
+use Rattle.path.specs.Routes.{encode, RouteTo}
 use Rattle.path.specs.Answers.{endsRefusal}
-use Rattle.path.proofs.CodecLaws.{Ends, ends-of, encode-long}
+use Rattle.path.proofs.CodecLaws.{Ends, ends-of}
 use Rattle.verdict.specs.Checks.{roomRefusal, checkAnswer}
 use Rattle.verdict.specs.Accepted.{encodeAll, Accepted}
 use Rattle.verdict.proofs.AcceptLaws.{encoded-long, of-accepted}
@@ -33,7 +32,7 @@ use Rattle.build.specs.Answers.{buildAnswer, noBuilding, aBuilding}
 use Rattle.build.proofs.BuiltLaws.{built-encode}
 use Rattle.select.specs.declared.Selection.{Selection}
 use Rattle.select.specs.Avoided.{avoided, Avoids}
-use Rattle.select.specs.Selection.{Unbroken, Replaces, Slot, kept, replaced, nothing, Selects, selectRefusal, noSelection, selection, Chosen, Selecting}
+use Rattle.select.specs.Selection.{Unbroken, Slot, kept, replaced, nothing, Selects, selectRefusal, selection, Chosen, Selecting}
 use Rattle.select.specs.Inside.{Settled}
 use Rattle.select.proofs.SlotLaws.{settled-none, slots-settled, lower}
 use Rattle.select.proofs.LayLaws.{set-count, route-array}

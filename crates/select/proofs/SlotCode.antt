@@ -1,25 +1,23 @@
 -- How the program goes from slot to slot: what a set holds, the search around what is laid, and the slots one after another.
-use Prim.Native.Nat.{ℕ, zero, suc, _+_, _-_, _≤_, _<_, suc-le-suc, zero-le}
+use Prim.Native.Nat.{ℕ, zero, suc, _+_, _-_, _≤_, _<_, zero-le}
 use mathlib.Core.Path.{_≡_, refl, sym, ap, ap₂, _∙_, subst}
-use mathlib.Core.Logic.{_≢_}
 use mathlib.Core.List.{List, [], _∷_, _++_, map, append-nil}
 use native.Mathlib.Omega.{arith}
 use native.Mathlib.Numerals.{add-one}
-use native.Mathlib.Nat.{le-of-suc-le-suc}
 use native.Mathlib.Decide.{ℕ-discrete}
-use lib.ListN.{length, getD, take, drop, set, replicate, length-map, length-append, length-drop, length-replicate, drop-of-length-le}
+use lib.ListN.{length, getD, take, drop, set, replicate, length-replicate, drop-of-length-le}
 use lib.Seq.{take-suc, take-suc-set, take-all, drop-cons, length-take-le}
 use Rattle.room.specs.declared.Shape.{Shape}
 use Rattle.room.specs.declared.Refusal.{Refusal}
-use Rattle.room.specs.Refusals.{none, _or-else_}
+use Rattle.room.specs.Refusals.{none}
 use Rattle.room.proofs.RefusalLaws.{chain-goes, answer-none}
 use Rattle.links.specs.Table.{tableRefusal, TableOf}
 use Rattle.links.proofs.TableLaws.{table-of, table-none}
 use Rattle.path.specs.declared.Walked.{Walked}
-use Rattle.path.specs.Routes.{Route, RouteTo, Encodes, encode}
+use Rattle.path.specs.Routes.{RouteTo, encode}
 use Rattle.path.specs.Answers.{endsRefusal, readAnswer, walkAnswer}
 use Rattle.path.proofs.ReverseLaws.{route-to-plain}
-use Rattle.path.proofs.CodecLaws.{Ends, ends-none, encodes-unique, encode-long, walk-exactly}
+use Rattle.path.proofs.CodecLaws.{Ends, ends-none, encodes-unique, walk-exactly}
 use Rattle.build.specs.declared.RouteSet.{RouteSet}
 use Rattle.build.specs.declared.Building.{Building}
 use Rattle.build.specs.Answers.{buildAnswer, noBuilding, aBuilding}
@@ -28,11 +26,10 @@ use Rattle.build.specs.Sets.{emptySet, added, arrayAt, setOf}
 use Rattle.build.proofs.SetLaws.{gathered, gathered-set}
 use Rattle.build.proofs.ArrayLaws.{arrays-encode, routes-count, routes-at}
 use Rattle.finder.specs.declared.Found.{Found}
-use Rattle.finder.specs.Alternates.{Alternate}
-use Rattle.finder.specs.Answers.{findRefusal, found, Given, Finding}
+use Rattle.finder.specs.Answers.{findRefusal, Finding}
 use Rattle.select.specs.declared.Selection.{Selection}
-use Rattle.select.specs.Avoided.{avoided, Avoids}
-use Rattle.select.specs.Selection.{Unbroken, Replaces, Slot, kept, replaced, nothing, Selects, selectRefusal, noSelection, selection, Chosen, Selecting}
+use Rattle.select.specs.Avoided.{avoided}
+use Rattle.select.specs.Selection.{Unbroken, kept, replaced, nothing, Selects, selectRefusal, noSelection, selection, Chosen, Selecting}
 use Rattle.select.specs.Inside.{Laid, readOf, routesAt, Settled, Stands, Slotted, Around, SlotDone, SlotsDone}
 use Rattle.select.proofs.AvoidLaws.{Routes, laid-from, alternate-exactly}
 use Rattle.select.proofs.SlotLaws.{lower, unbroken-route, settled-none, built-to, slot-settled, avoided-routes}

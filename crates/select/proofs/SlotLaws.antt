@@ -1,22 +1,20 @@
 -- The slots of a selection: what they avoid, and what stands settled after each.
-use Prim.Native.Nat.{ℕ, zero, suc, _+_, _-_, _≤_, _<_, suc-le-suc, zero-le}
+use Prim.Native.Nat.{ℕ, zero, suc, _+_, _-_, _≤_, _<_}
 use mathlib.Core.Path.{_≡_, refl, sym, ap, _∙_, subst}
-use mathlib.Core.Logic.{_≢_}
-use mathlib.Core.Bool.{true}
-use mathlib.Core.List.{List, [], _∷_, _++_, map, append-nil, append-assoc}
+use mathlib.Core.List.{List, [], _∷_, _++_, map, append-nil}
 use native.Mathlib.Omega.{arith}
 use native.Mathlib.Nat.{le-of-suc-le-suc}
 use native.Mathlib.Decide.{ℕ-discrete, decLt}
 use lib.ListN.{length, getD, length-append, length-map, List·getD-append}
-use lib.Seq.{getD-append-seam, getD-append-add, append-snoc}
+use lib.Seq.{getD-append-seam, getD-append-add}
 use Rattle.room.specs.declared.Shape.{Shape}
-use Rattle.path.specs.Routes.{Route, RouteTo, Parallel}
+use Rattle.path.specs.Routes.{RouteTo, Parallel}
 use Rattle.path.proofs.ReverseLaws.{parallel-sym, route-to-plain}
 use Rattle.path.proofs.CodecLaws.{Ends}
 use Rattle.build.specs.Built.{downFrom, builtRoute}
 use Rattle.build.proofs.BuiltLaws.{built-route, built-parallel}
 use Rattle.select.specs.Avoided.{avoided, Avoids}
-use Rattle.select.specs.Selection.{Unbroken, Replaces, Slot, kept, replaced, nothing, Selects}
+use Rattle.select.specs.Selection.{Unbroken, Slot, kept, replaced, nothing, Selects}
 use Rattle.select.specs.Inside.{Settled}
 use Rattle.select.proofs.AvoidLaws.{Routes}
 

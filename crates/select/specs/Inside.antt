@@ -14,7 +14,7 @@ use Rattle.build.specs.declared.RouteSet.{RouteSet}
 use Rattle.build.specs.Built.{builtRoute, builtArrays}
 use Rattle.build.specs.Sets.{arrayAt, setOf}
 use Rattle.finder.specs.declared.Found.{Found}
-use Rattle.select.specs.Avoided.{avoided, Avoids}
+use Rattle.select.specs.Avoided.{Avoids}
 use Rattle.select.specs.Selection.{Replaces, Slot, Selects, selectRefusal}
 
 -- ---- links marked in a copy of the failed-link table, to keep the search away from routes

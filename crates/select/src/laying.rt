@@ -1,7 +1,6 @@
 // The arrays of a route set, laid into a copy of the failed-link table.
 ghost use mathlib.Core.Path.{_≡_};
 ghost use Prim.Native.Nat.{ℕ, _-_, _≤_, _<_};
-ghost use lib.ListN.{length};
 ghost use Rattle.links.specs.Table.{TableOf};
 ghost use Rattle.path.specs.Answers.{readAnswer};
 ghost use Rattle.build.specs.Sets.{arrayAt};

@@ -1,5 +1,4 @@
 -- `select::marks::mark_server` meets its contract. Assumes nothing.
-use borrow.Author.Needs.{needs}
 use native.Mathlib.Omega.{arith}
 use Prim.Native.Nat.{suc, _≤_, _-_}
 use Rattle.select.specs.Inside.{Marks}

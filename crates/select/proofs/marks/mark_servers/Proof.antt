@@ -1,7 +1,6 @@
 -- `select::marks::mark_servers` meets its contract. Assumes nothing.
-use borrow.Author.Needs.{needs}
 use native.Mathlib.Omega.{arith}
-use Prim.Native.Nat.{ℕ, _≤_, _-_}
+use Prim.Native.Nat.{_≤_, _-_}
 use mathlib.Core.Path.{refl}
 use lib.ListN.{length}
 use Rattle.select.specs.Inside.{Marks}

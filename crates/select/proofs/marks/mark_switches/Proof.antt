@@ -1,8 +1,7 @@
 -- `select::marks::mark_switches` meets its contract. Assumes nothing.
 use borrow.Author.Needs.{needs}
 use native.Mathlib.Omega.{arith}
-use Prim.Native.Nat.{ℕ, _+_, _≤_, _-_}
-use mathlib.Core.Path.{refl}
+use Prim.Native.Nat.{_+_, _≤_, _-_}
 use lib.ListN.{length}
 use Rattle.path.specs.Routes.{switchAt, switchesOf}
 use Rattle.select.specs.Inside.{Marks}

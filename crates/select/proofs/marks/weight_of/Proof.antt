@@ -1,6 +1,4 @@
 -- `select::marks::weight_of` meets its contract. Assumes nothing.
-use Prim.Native.Nat.{ℕ, _^_}
-use mathlib.Core.Path.{ap}
 use native.Mathlib.Omega.{arith}
 use Rattle.select.proofs.MarkLaws.{weight-eight}
 use Rattle.select.proofs.marks.weight_of.Statement.{statement}

@@ -3,7 +3,6 @@ use borrow.Author.Needs.{needs}
 use mathlib.Core.Path.{ap₂}
 use Rattle.room.specs.declared.Refusal.{Refusal}
 use Rattle.build.specs.declared.RouteSet.{RouteSet}
-use Rattle.select.specs.declared.Selection.{Selection}
 use Rattle.select.proofs.selecting.no_selection.Statement.{statement}
 use Rattle.select.proofs.selecting.no_selection.Tie as tie
 

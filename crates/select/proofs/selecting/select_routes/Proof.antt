@@ -1,6 +1,5 @@
 -- `select::selecting::select_routes` meets its contract. Assumes nothing.
 use borrow.Author.Needs.{needs}
-use native.Mathlib.Omega.{arith}
 use mathlib.Core.Path.{sym, _∙_}
 use Rattle.select.proofs.SlotCode.{built-answered, selecting-refused, selecting-none, selecting-given}
 use Rattle.select.proofs.selecting.select_routes.Statement.{statement}

@@ -1,7 +1,6 @@
 -- `select::slots::settle_slots` meets its contract. Assumes nothing.
 use borrow.Author.Needs.{needs}
 use native.Mathlib.Omega.{arith}
-use Prim.Native.Nat.{_+_, _≤_}
 use Rattle.select.proofs.SlotCode.{GoingOn, going-start, going-slotted, going-more, going-done}
 use Rattle.select.proofs.SelectLaws.{select-ends}
 use Rattle.select.proofs.slots.settle_slots.Statement.{statement}
