@@ -1,0 +1,118 @@
+/* search check: compares both searches, hops and bytes, on the questions of every case and on many random
+ * tables; prints how many.
+ * search WHICH CASE TIMES: asks every question of a case TIMES times by one of the searches (proved, textbook
+ * or none), and prints how many calls that were, the sum of what they answered, and the time they took. */
+#define _POSIX_C_SOURCE 199309L
+#include "textbook.h"
+
+#include <inttypes.h>
+#include <stdio.h>
+#include <stdlib.h>
+#include <string.h>
+#include <time.h>
+
+/* the proved search, of libdriver.a: the refusal's number plus 256 times the hops; and the path bytes */
+uint64_t bcube_find(FIND_ARGUMENTS);
+uint64_t bcube_find_bytes(FIND_ARGUMENTS);
+
+typedef uint64_t a_find(FIND_ARGUMENTS);
+
+static const struct {
+    const char *name;
+    a_find *find;
+} which[] = {{"none", no_find}, {"proved", bcube_find}, {"textbook", textbook_find}};
+
+/* In the worst cases all links of the destination are failed, so that every other server is met. */
+static const struct {
+    const char *name;
+    uint32_t n, k;
+    int worst;
+} cases[] = {{"8,3-worst", 8, 3, 1}, {"8,3-typical", 8, 3, 0}, {"16,2-worst", 16, 2, 1}, {"64,1-worst", 64, 1, 1}};
+
+enum { SERVERS = 4096, QUESTIONS = 16, FAILED = 8, RANDOM = 2000 };
+static struct {
+    uint32_t source, destination;
+    uint8_t table[SERVERS];
+} question[QUESTIONS];
+
+static uint64_t seed = 1;
+
+static uint32_t below(uint32_t most) {
+    seed = seed * 6364136223846793005u + 1442695040888963407u;
+    return (uint32_t)(seed >> 33) % most;
+}
+
+/* a pair of servers and a table with this many random links failed, or with all of the destination's */
+static void make_question(int i, uint32_t k, uint32_t servers, uint32_t failed, int worst) {
+    memset(question[i].table, 0, SERVERS);
+    question[i].source = below(servers);
+    do question[i].destination = below(servers);
+    while (question[i].destination == question[i].source);
+    for (uint32_t f = 0; f < failed; f++) question[i].table[below(servers)] |= (uint8_t)(1 << below(k + 1));
+    if (worst) question[i].table[question[i].destination] = (uint8_t)((2 << k) - 1);
+}
+
+static uint32_t servers_of(uint32_t n, uint32_t k) {
+    uint32_t servers = n;
+    for (uint32_t i = 0; i < k; i++) servers *= n;
+    return servers;
+}
+
+static int make_case(size_t c) {
+    int questions = cases[c].worst ? 1 : QUESTIONS;
+    for (int i = 0; i < questions; i++)
+        make_question(i, cases[c].k, servers_of(cases[c].n, cases[c].k), cases[c].worst ? 0 : FAILED, cases[c].worst);
+    return questions;
+}
+
+static void compare(int i, uint32_t n, uint32_t k) {
+    uint32_t a = question[i].source, d = question[i].destination;
+    const uint8_t *table = question[i].table;
+    size_t servers = servers_of(n, k);
+    uint64_t hops = bcube_find(n, k, a, d, table, servers), bytes = bcube_find_bytes(n, k, a, d, table, servers);
+    if (hops == textbook_find(n, k, a, d, table, servers) && bytes == textbook_find_bytes(n, k, a, d, table, servers)) return;
+    printf("the searches differ in room (%" PRIu32 ",%" PRIu32 ") from %" PRIu32 " to %" PRIu32 "\n", n, k, a, d);
+    exit(1);
+}
+
+static int check(void) {
+    static const uint32_t rooms[][2] = {{2, 0}, {2, 3}, {3, 2}, {4, 3}, {5, 1}, {8, 3}, {16, 2}, {64, 1}, {64, 0}};
+    int compared = 0, lengths[9] = {0};
+    for (size_t c = 0; c < sizeof cases / sizeof *cases; c++)
+        for (int i = 0, made = make_case(c); i < made; i++, compared++) compare(i, cases[c].n, cases[c].k);
+    for (int r = 0; r < RANDOM; r++, compared++) {
+        uint32_t n = rooms[r % 9][0], k = rooms[r % 9][1], servers = servers_of(n, k);
+        make_question(0, k, servers, below(2 * servers * (k + 1)), 0);
+        compare(0, n, k);
+        lengths[bcube_find(n, k, question[0].source, question[0].destination, question[0].table, servers) >> 8]++;
+    }
+    printf("both searches answer alike on %d tables; random ones, by hops from 0 (no route) to 8:", compared);
+    for (int h = 0; h <= 8; h++) printf(" %d", lengths[h]);
+    printf("\n");
+    return 0;
+}
+
+int main(int count, char **words) {
+    if (count == 2 && strcmp(words[1], "check") == 0) return check();
+    if (count != 4) return 2;
+    a_find *volatile find = NULL;
+    for (size_t i = 0; i < sizeof which / sizeof *which; i++)
+        if (strcmp(which[i].name, words[1]) == 0) find = which[i].find;
+    size_t c = 0;
+    while (c < sizeof cases / sizeof *cases && strcmp(cases[c].name, words[2]) != 0) c++;
+    if (!find || c == sizeof cases / sizeof *cases) return 2;
+    int made = make_case(c);
+    uint32_t n = cases[c].n, k = cases[c].k;
+    size_t servers = servers_of(n, k);
+    unsigned long times = strtoul(words[3], NULL, 10);
+    uint64_t sum = 0;
+    struct timespec from, to;
+    clock_gettime(CLOCK_MONOTONIC, &from);
+    for (unsigned long t = 0; t < times; t++)
+        for (int i = 0; i < made; i++)
+            sum += find(n, k, question[i].source, question[i].destination, question[i].table, servers);
+    clock_gettime(CLOCK_MONOTONIC, &to);
+    double ns = 1e9 * (double)(to.tv_sec - from.tv_sec) + (double)(to.tv_nsec - from.tv_nsec);
+    printf("calls %lu sum %" PRIx64 " ns %.0f\n", times * (unsigned long)made, sum, ns);
+    return 0;
+}
