@@ -1,4 +1,4 @@
--- A walked array that arrived, as the program keeps it.
+-- A walked array that arrived, as the program keeps it. No public contract cites this file.
 use Prim.Native.Nat.{ℕ, _≤_, _<_}
 use mathlib.Core.Path.{_≡_}
 use mathlib.Core.List.{List, []}
