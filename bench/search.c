@@ -22,14 +22,18 @@ static const struct {
     a_find *find;
 } which[] = {{"none", no_find}, {"proved", bcube_find}, {"textbook", textbook_find}};
 
-/* In the worst cases all links of the destination are failed, so that every other server is met. */
+enum { SERVERS = 4096, QUESTIONS = 16, FAILED = 8, HALF = 11357, RANDOM = 2000 };
+
+/* In the worst cases all links of the destination are failed, so that every other server is met. HALF random
+ * links, drawn with repetition, are about half of all 16,384. */
 static const struct {
     const char *name;
     uint32_t n, k;
     int worst;
-} cases[] = {{"8,3-worst", 8, 3, 1}, {"8,3-typical", 8, 3, 0}, {"16,2-worst", 16, 2, 1}, {"64,1-worst", 64, 1, 1}};
+    uint32_t failed;
+} cases[] = {{"8,3-worst", 8, 3, 1, 0}, {"16,2-worst", 16, 2, 1, 0}, {"64,1-worst", 64, 1, 1, 0},
+             {"8,3-typical", 8, 3, 0, FAILED}, {"8,3-half", 8, 3, 1, HALF}};
 
-enum { SERVERS = 4096, QUESTIONS = 16, FAILED = 8, RANDOM = 2000 };
 static struct {
     uint32_t source, destination;
     uint8_t table[SERVERS];
@@ -61,7 +65,7 @@ static uint32_t servers_of(uint32_t n, uint32_t k) {
 static int make_case(size_t c) {
     int questions = cases[c].worst ? 1 : QUESTIONS;
     for (int i = 0; i < questions; i++)
-        make_question(i, cases[c].k, servers_of(cases[c].n, cases[c].k), cases[c].worst ? 0 : FAILED, cases[c].worst);
+        make_question(i, cases[c].k, servers_of(cases[c].n, cases[c].k), cases[c].failed, cases[c].worst);
     return questions;
 }
 

@@ -1,23 +1,19 @@
 -- Demand 3, proved.
-use Prim.Native.Nat.{ℕ, zero, suc, _-_, _≤_, _<_, suc-le-suc, zero-le}
+use Prim.Native.Nat.{ℕ, zero, suc, _-_, _<_}
 use mathlib.Core.Path.{_≡_, refl, sym, ap, ap₂, _∙_}
-use mathlib.Core.Logic.{_≢_}
-use mathlib.Core.Bool.{Bool, true, false, not, _&&_}
-use mathlib.Core.List.{List, [], _∷_, _++_, map}
+use mathlib.Core.List.{List, [], _++_, map}
 use native.Mathlib.Omega.{arith}
 use native.Mathlib.Nat.{le-of-suc-le-suc, le-refl}
 use lib.ListN.{length, getD}
 use Rattle.room.specs.declared.Shape.{Shape}
-use Rattle.room.specs.Refusals.{none}
 use Rattle.room.proofs.RefusalLaws.{chain-goes}
-use Rattle.links.specs.Table.{failed, live, tableRefusal}
-use Rattle.path.specs.Routes.{Route, RouteTo, Parallel, encode}
-use Rattle.path.specs.Answers.{endsRefusal}
+use Rattle.links.specs.Table.{live}
+use Rattle.path.specs.Routes.{RouteTo, Parallel, encode}
 use Rattle.path.proofs.CodecLaws.{Ends, ends-of}
-use Rattle.verdict.specs.Checks.{roomRefusal, checkAnswer}
+use Rattle.verdict.specs.Checks.{roomRefusal}
 use Rattle.verdict.specs.Accepted.{encodeAll, Accepted}
 use Rattle.verdict.proofs.AcceptLaws.{accept-exactly, of-accepted}
-use Rattle.build.specs.Built.{downFrom, builtRoute, builtBytes, builtRoutes, builtArrays}
+use Rattle.build.specs.Built.{downFrom, builtRoute, builtBytes, builtArrays}
 use Rattle.build.specs.Sets.{joined}
 use Rattle.build.proofs.BuiltLaws.{built-route, built-encode, built-parallel}
 use Rattle.select.proofs.SelectLaws.{selection-checked}

@@ -1,2 +1,11 @@
+pub mod Refusing
+pub mod Numbers
+pub mod Stops
+pub mod Demand1
+pub mod Places
+pub mod Hops
 pub mod Demand2
 pub mod Demand3
+pub mod ShortRoutes
+pub mod ProvedTable
+pub mod Uniqueness

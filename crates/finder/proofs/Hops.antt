@@ -10,7 +10,8 @@ use Rattle.room.specs.declared.Shape.{Shape}
 use Rattle.room.specs.Shapes.{serversOf, bound, Valid, Server, Value}
 use Rattle.room.specs.Addresses.{withDigit}
 use Rattle.room.proofs.RoomLaws.{bound-le, with-server}
-use Rattle.links.specs.Table.{live}
+use Rattle.links.specs.Table.{failed, live}
+use Rattle.links.proofs.TableLaws.{live-exactly, live-receiver}
 use Rattle.finder.specs.Hops.{stepOf, Ok}
 use Rattle.finder.specs.Kept.{Kept}
 use Rattle.finder.specs.Scan.{Trying, Tried}
@@ -21,6 +22,14 @@ none = 4294967295
 
 pub absurd-bool : {X : Type 0} → true ≡ false → X
 absurd-bool e = let q : _≡_ {A = ℕ} 0 1 = cc in absurd (omega arith)
+
+-- a link on both sides of a hop that is not live is failed
+pub link-shut : (t : List ℕ) (l u : ℕ) → live t l u u ≡ false → failed t u l ≡ true
+link-shut t l u z = by (failed t u l) refl
+  where
+    by : (q : Bool) → failed t u l ≡ q → failed t u l ≡ true
+    by true q = q
+    by false q = absurd-bool (sym (live-exactly t l u u .1 (q, q)) ∙ z)
 
 -- what the search keeps, in a room
 abbrev pub Kept-in : Shape → List ℕ → ℕ → List ℕ → List ℕ → ℕ → ℕ → Type 0
@@ -103,18 +112,20 @@ module _ {s : Shape} {root : ℕ} {t back queue : List ℕ} {n a level v : ℕ} 
 
 -- and so where it is tried
 module _ {s : Shape} {t back queue : List ℕ} {head tail l v w : ℕ} (h : Trying s t back queue head tail l v w) where
-  pub tried-seen : (getD back w 0 ≡ none → ⊥) → Tried s t queue back queue head tail tail l v
-  tried-seen d = record { grows = omega arith; same = λ i p. refl; kept = seen (h .kept) (h .valid) (h .place) (h .level) (h .value) w (h .leads) d }
+  pub tried-shut : (f : Bool) → f ≡ live t l w w → f ≡ false → Tried s t queue back queue head tail tail l v
+  tried-shut f e z =
+      record {
+        grows = omega arith;
+        same = λ i p. refl;
+        kept = shut (h .kept) (h .valid) (h .place) (h .level) (h .value) w (h .leads) (live-receiver t l (getD queue head 0) w (link-shut t l w (sym e ∙ z)));
+      }
 
-  pub tried-shut : (f : Bool) → f ≡ live t l (getD queue head 0) w → f ≡ false → Tried s t queue back queue head tail tail l v
-  tried-shut f e z = record { grows = omega arith; same = λ i p. refl; kept = shut (h .kept) (h .valid) (h .place) (h .level) (h .value) w (h .leads) (sym e ∙ z) }
-
-  pub tried-new : getD back w 0 ≡ none → (f : Bool) → f ≡ live t l (getD queue head 0) w → f ≡ true → Tried s t queue (set back w (head * 256 + ((s .k - l) * 64 + v))) (set queue tail w) head tail (tail + 1) l v
-  tried-new free f e z =
+  pub tried-new : (f : Bool) → f ≡ live t l w w → f ≡ true → Tried s t queue (set back w (head * 256 + ((s .k - l) * 64 + v))) (set queue tail w) head tail (tail + 1) l v
+  tried-new f e z =
       record {
         grows = omega arith;
         same = λ i p. getD-set-other queue tail i w 0 (omega arith);
-        kept = new (h .kept) (h .valid) (h .place) (h .level) (h .value) w (h .leads) (sym e ∙ z) free;
+        kept = new (h .kept) (h .valid) (h .place) (h .level) (h .value) w (h .leads) (live-exactly t l (getD queue head 0) w .1 (h .alive, live-exactly t l w w .0 (sym e ∙ z) .1)) (h .new);
       }
 
 -- past the last value of a level, and past the last level, nothing is allowed

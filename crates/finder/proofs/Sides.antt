@@ -1,25 +1,24 @@
 -- The servers at a switch, as the program computes them: the first, and the others by a stride.
 use Prim.Native.Nat.{ℕ, zero, suc, _+_, _*_, _/_, _%_, _^_, _<_, _≤_}
 use native.Mathlib.Omega.{arith}
-use native.Mathlib.Nat.{pow-zero, one-mul, mul-add, mul-comm, mod-add-div, div-le-self, div-mul-le-self, mul-le-mul-left}
-use mathlib.Core.Path.{_≡_, refl, sym, ap, _∙_}
+use native.Mathlib.Nat.{pow-zero, one-mul, mul-add, mul-comm, mod-add-div, div-le-self}
+use mathlib.Core.Path.{_≡_, sym, ap, _∙_}
 use mathlib.Core.Logic.{_≢_, _⊎_, inl, inr}
 use mathlib.Core.Bool.{Bool, true, false}
 use mathlib.Core.List.{List, [], _∷_}
-use lib.ListN.{getD}
+use lib.ListN.{length, getD}
 use Rattle.room.specs.declared.Shape.{Shape}
 use Rattle.room.specs.declared.Number.{Number}
-use Rattle.room.specs.Shapes.{serversOf, bound, Link, Value}
-use Rattle.room.specs.Addresses.{withDigit, switchOf, switchesAt}
+use Rattle.room.specs.Shapes.{bound, Link}
+use Rattle.room.specs.Addresses.{withDigit}
 use Rattle.room.specs.Answers.{boundAnswer}
 use Rattle.room.proofs.DigitLaws.{next-power, pow-small}
-use Rattle.room.proofs.RoomLaws.{bound-two, with-server, with-closed-at, switch-closed-at, switch-lt, weight-pos}
+use Rattle.room.proofs.RoomLaws.{bound-two, with-server, with-closed-at, weight-pos}
 use Rattle.room.proofs.AnswerLaws.{bound-answered}
 use Rattle.links.specs.Table.{failed, live}
 use Rattle.links.proofs.TableLaws.{live-exactly}
-use Rattle.finder.specs.declared.Side.{Side}
 use Rattle.finder.specs.Scan.{markAt, Siding, Sided}
-use Rattle.finder.proofs.Hops.{absurd-bool}
+use Rattle.finder.proofs.Hops.{link-shut}
 
 -- ---- the weights of digits
 
@@ -47,94 +46,72 @@ weight-at n (suc (suc (suc (suc l)))) ws h e = absurd (omega arith)
 
 -- ---- one switch
 
--- each switch joins two servers or more
-pub switch-half : {s : Shape} {u l : ℕ} → Link s u l → switchOf s l u < 2048
-unfolding switchesAt
-switch-half {s} {u} {l} h =
-    let b : 2 ≤ bound s l = bound-two (h .server .valid) l in
-    let q = serversOf s / bound s l in
-    omega (arith, switch-lt h, h .server .valid .small, div-mul-le-self (serversOf s) (bound s l), mul-le-mul-left q b)
-
 module _ {s : Shape} {u l : ℕ} (h : Link s u l) (p : ℕ) (e : p ≡ s .n ^ l) where
-  reach-high : (v : ℕ) → v < bound s l → u % p + p * (s .n * (u / p / s .n)) + v * p ≡ withDigit s l v u
-  reach-high v b = omega (arith, mul-add p v (s .n * (u / p / s .n)), mul-comm p v) ∙ with-closed-at (record { link = h; value = b }) p e
+  reach-base : (v : ℕ) → v < bound s l → u % p + p * (s .n * (u / p / s .n)) + v * p ≡ withDigit s l v u
+  reach-base v b = omega (arith, mul-add p v (s .n * (u / p / s .n)), mul-comm p v) ∙ with-closed-at (record { link = h; value = b }) p e
 
-module _ {s : Shape} {marks : List ℕ} {u l p h : ℕ} (g : Siding s marks u l p h) where
-  abbrev first : ℕ
-  first = u % p + p * (s .n * h)
+  reach-bound : (v : ℕ) → v < bound s l → u % p + p * (bound s l * (u / p / bound s l)) + v * p ≡ withDigit s l v u
+  unfolding bound
+  reach-bound v b = reach-base v b
 
-  reach : (v : ℕ) → v < bound s l → first + v * p ≡ withDigit s l v u
-  reach v b = ap (λ (x : ℕ). u % p + p * (s .n * x) + v * p) (g .high) ∙ reach-high (g .link) p (g .stride) v b
-
-  switch : u % p + p * h ≡ switchOf s l u
-  switch = ap (λ (x : ℕ). u % p + p * x) (g .high) ∙ switch-closed-at (g .link) p (g .stride)
-
-  at-mark : l * 2048 + (u % p + p * h) ≡ markAt s l u
-  unfolding markAt
-  at-mark = ap (λ (x : ℕ). l * 2048 + x) switch
-
-  -- what the program computes stays small
-  pub record Small : Type 0 where
-    pub positive : 0 < p
-    pub inner : s .n * h ≤ 4096
-    pub outer : p * (s .n * h) ≤ 4096
-    pub whole : first ≤ 4096
-    pub level : l ≤ 3
-    pub lower : p * h ≤ 4096
-    pub switch : u % p + p * h < 2048
-    pub place : l * 2048 + (u % p + p * h) < 8192
-
-  pub small : Small
-  small =
-      let v : Value s u l 0 = record { link = g .link; value = omega (arith, bound-two (g .link .server .valid) l) } in
-      let b = with-server v .below in
-      let q = g .link .server .valid .small in
-      let f : first + 0 * p ≡ withDigit s l 0 u = reach 0 (v .value) in
-      let w : u % p + p * h < 2048 = omega (arith, switch, switch-half (g .link)) in
+module _ {s : Shape} {marks : List ℕ} {u l p : ℕ} (g : Siding s marks u l p) where
+  -- the mark has a place
+  pub inside : (l ≤ 3) × (u < 4096) × (u * 4 + l < length marks)
+  inside =
       let k : l ≤ 3 = omega (arith, g .link .level, g .link .server .valid .levels) in
-      let i : s .n * h ≡ s .n * (u / p / s .n) = ap (λ (x : ℕ). s .n * x) (g .high) in
-      record {
-        positive = weight-pos (g .link .server .valid) l p (g .stride);
-        inner = omega (arith, i, mod-add-div (u / p) (s .n), div-le-self u p, g .link .server .below);
-        outer = omega arith;
-        whole = omega arith;
-        level = k;
-        lower = omega arith;
-        switch = w;
-        place = omega arith;
-      }
+      let m : u < 4096 = omega (arith, g .link .server .below, g .link .server .valid .small) in
+      (k, m, omega (arith, g .long))
 
-  -- the side with so many to try
-  abbrev made : ℕ → Side
-  made c = record { first = first; stride = p; count = c; mark = l * 2048 + (u % p + p * h); upper = u / p }
+  short : p ≤ 16777216
+  short = omega (arith, g .stride, pow-small (s .n) l (g .link .server .valid .ports) (omega (arith, inside .0)))
 
-  sided : (t : List ℕ) (c : ℕ) → c ≤ bound s l → (0 < c → (c ≡ bound s l) × (failed t u l ≡ false)) → (c ≡ 0 → (failed t u l ≡ true) ⊎ (getD marks (markAt s l u) 0 ≢ 0)) → Sided s t marks u l (made c)
-  sided t c most all none =
-      record {
-        reach = reach;
-        mark = at-mark;
-        inside = small .place;
-        upper = ap (λ (x : ℕ). u / x) (g .stride);
-        most = most;
-        all = all;
-        none = none;
-      }
+  -- with so many values for the digit
+  module _ (x : Number) (q : x ≡ boundAnswer s l) where
+    values : x .value ≡ bound s l
+    values = ap (λ (y : Number). y .value) (bound-answered (g .link .server .valid) (g .link .level) x q)
 
-  pub sided-live : (t : List ℕ) (f : Bool) → f ≡ live t l u u → f ≡ true → (x : Number) → x ≡ boundAnswer s l → Sided s t marks u l (made (x .value))
-  sided-live t f i z x q =
-      let v = g .link .server .valid in
-      let c : x .value ≡ bound s l = ap (λ (y : Number). y .value) (bound-answered v (g .link .level) x q) in
-      sided t (x .value) (omega arith) (λ m. (c, live-exactly t l u u .0 (sym i ∙ z) .0)) (λ m. absurd (omega (arith, bound-two v l)))
+    abbrev first : ℕ
+    first = u % p + p * (x .value * (u / p / x .value))
 
-  sided-none : (t : List ℕ) → (failed t u l ≡ true) ⊎ (getD marks (markAt s l u) 0 ≢ 0) → Sided s t marks u l (made 0)
-  sided-none t why = sided t 0 (omega arith) (λ m. absurd (omega arith)) (λ m. why)
+    reach : (v : ℕ) → v < x .value → first + v * p ≡ withDigit s l v u
+    reach v b = ap (λ (y : ℕ). u % p + p * (y * (u / p / y)) + v * p) values ∙ reach-bound (g .link) p (g .stride) v (omega (arith, values))
 
-  pub sided-dead : (t : List ℕ) (f : Bool) → f ≡ live t l u u → f ≡ false → Sided s t marks u l (made 0)
-  sided-dead t f i z = sided-none t (inl (by (failed t u l) refl))
-    where
-      by : (q : Bool) → failed t u l ≡ q → failed t u l ≡ true
-      by true q = q
-      by false q = absurd-bool (sym (live-exactly t l u u .1 (q, q)) ∙ sym i ∙ z)
+    -- what the program computes stays small
+    pub record Small : Type 0 where
+      pub positive : 0 < p
+      pub some : 0 < x .value
+      pub inner : x .value * (u / p / x .value) ≤ 4096
+      pub whole : first ≤ 4096
 
-  pub sided-marked : (t : List ℕ) → (getD marks (l * 2048 + (u % p + p * h)) 0 ≡ 0 → ⊥) → Sided s t marks u l (made 0)
-  sided-marked t ne = sided-none t (inr (λ q. ne (ap (λ (i : ℕ). getD marks i 0) at-mark ∙ q)))
+    pub small : Small
+    small =
+        let v = g .link .server .valid in
+        let b : 2 ≤ x .value = omega (arith, values, bound-two v l) in
+        let w = with-server {v = 0} (record { link = g .link; value = omega (arith, values) }) .below in
+        record {
+          positive = weight-pos v l p (g .stride);
+          some = omega arith;
+          inner = omega (arith, mod-add-div (u / p) (x .value), div-le-self u p, inside .1);
+          whole = omega (arith, reach 0 (omega arith), v .small);
+        }
+
+    pub sided-live : (t : List ℕ) (f : Bool) → f ≡ live t l u u → f ≡ true → Sided s t marks u l (record { first = first; stride = p; count = x .value })
+    sided-live t f i z =
+        record {
+          reach = reach;
+          short = short;
+          most = omega (arith, values);
+          all = λ m. (values, live-exactly t l u u .0 (sym i ∙ z) .0);
+          none = λ m. absurd (omega (arith, small .some));
+        }
+
+  -- nothing to try
+  sided-none : (t : List ℕ) → (failed t u l ≡ true) ⊎ (getD marks (markAt l u) 0 ≢ 0) → Sided s t marks u l (record { first = 0; stride = p; count = 0 })
+  sided-none t why =
+      record { reach = λ v b. absurd (omega arith); short = short; most = omega arith; all = λ m. absurd (omega arith); none = λ m. why }
+
+  pub sided-dead : (t : List ℕ) (f : Bool) → f ≡ live t l u u → f ≡ false → Sided s t marks u l (record { first = 0; stride = p; count = 0 })
+  sided-dead t f i z = sided-none t (inl (link-shut t l u (sym i ∙ z)))
+
+  pub sided-marked : (t : List ℕ) → (getD marks (u * 4 + l) 0 ≡ 0 → ⊥) → Sided s t marks u l (record { first = 0; stride = p; count = 0 })
+  sided-marked t ne = sided-none t (inr ne)

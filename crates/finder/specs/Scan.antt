@@ -1,5 +1,5 @@
 -- What the parts of the scan are given and give.
-use Prim.Native.Nat.{ℕ, _+_, _-_, _*_, _/_, _^_, _<_, _≤_}
+use Prim.Native.Nat.{ℕ, _+_, _-_, _*_, _^_, _<_, _≤_}
 use mathlib.Core.Path.{_≡_}
 use mathlib.Core.Logic.{_≢_, _⊎_}
 use mathlib.Core.Bool.{true, false}
@@ -13,34 +13,36 @@ use Rattle.finder.specs.declared.Side.{Side}
 use Rattle.finder.specs.Hops.{stepOf, Ok}
 use Rattle.finder.specs.Kept.{Kept}
 
--- where the mark of a switch stands: 2,048 places for each level
-unfoldable pub markAt : Shape → ℕ → ℕ → ℕ
-markAt s l u = l * 2048 + switchOf s l u
+-- where the mark of server u at level l stands: four places for each server
+abbrev pub markAt : ℕ → ℕ → ℕ
+markAt l u = u * 4 + l
 
--- a marked switch has been scanned: each server at it whose link there is live is among the n that are found
+-- the switch of server u at level l has been scanned: each server at it whose link there is live is among the n that are found
+pub record Scanned (s : Shape) (t queue : List ℕ) (n l u : ℕ) : Type 0 where
+  pub met : (w : ℕ) → Server s w → switchOf s l w ≡ switchOf s l u → failed t w l ≡ false → (i : ℕ) × (i < n) × (getD queue i 0 ≡ w)
+
+-- where a server is marked at a level, its switch there has been scanned
 pub record Swept (s : Shape) (t marks queue : List ℕ) (n : ℕ) : Type 0 where
-  pub long : length marks ≡ 8192
-  pub met : (l u : ℕ) → l ≤ s .k → Server s u → getD marks (markAt s l u) 0 ≢ 0 → failed t u l ≡ false → (i : ℕ) × (i < n) × (getD queue i 0 ≡ u)
+  pub long : length marks ≡ 16384
+  pub scanned : (l u : ℕ) → l ≤ s .k → Server s u → getD marks (markAt l u) 0 ≢ 0 → Scanned s t queue n l u
 
 -- what the servers at the switch of server u at level l are computed from
-pub record Siding (s : Shape) (marks : List ℕ) (u l p h : ℕ) : Type 0 where
+pub record Siding (s : Shape) (marks : List ℕ) (u l p : ℕ) : Type 0 where
   pub link : Link s u l
   pub stride : p ≡ s .n ^ l
-  pub high : h ≡ u / p / s .n
-  pub long : length marks ≡ 8192
+  pub long : length marks ≡ 16384
 
 -- the servers at the switch of server u at level l, and how many of them to try: all, or none where the link of u is failed or
--- the switch is marked
+-- u is marked
 pub record Sided (s : Shape) (t marks : List ℕ) (u l : ℕ) (side : Side) : Type 0 where
-  pub reach : (v : ℕ) → v < bound s l → side .first + v * side .stride ≡ withDigit s l v u
-  pub mark : side .mark ≡ markAt s l u
-  pub inside : side .mark < 8192
-  pub upper : side .upper ≡ u / s .n ^ l
+  pub reach : (v : ℕ) → v < side .count → side .first + v * side .stride ≡ withDigit s l v u
+  pub short : side .stride ≤ 16777216
   pub most : side .count ≤ bound s l
   pub all : 0 < side .count → (side .count ≡ bound s l) × (failed t u l ≡ false)
-  pub none : side .count ≡ 0 → (failed t u l ≡ true) ⊎ (getD marks (markAt s l u) 0 ≢ 0)
+  pub none : side .count ≡ 0 → (failed t u l ≡ true) ⊎ (getD marks (markAt l u) 0 ≢ 0)
 
--- the next hop to try: from the server at the place `head`, at a level, with the value v, to server w
+-- the next hop to try: from the server at the place `head`, whose link is live, at a level, with the value v, to server w, which
+-- is not found yet
 pub record Trying (s : Shape) (t back queue : List ℕ) (head tail l v w : ℕ) : Type 0 where
   pub valid : Valid s
   pub place : head < tail
@@ -49,7 +51,8 @@ pub record Trying (s : Shape) (t back queue : List ℕ) (head tail l v w : ℕ) 
   pub small : v < 64
   pub leads : w ≡ withDigit s l v (getD queue head 0)
   pub inside : w < 4096
-  pub here : getD queue head 0 < 4096
+  pub alive : failed t (getD queue head 0) l ≡ false
+  pub new : getD back w 0 ≡ 4294967295
   pub kept : Kept (stepOf s) (Ok s t) (serversOf s) (getD queue 0 0) back queue tail (head * 256 + ((s .k - l) * 64 + v))
 
 -- after that hop was tried: r servers are found

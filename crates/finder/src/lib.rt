@@ -18,12 +18,9 @@ pub struct Found {
     pub bytes: [u8; 8],
 }
 
-// The servers at a switch: the first, how far the next is from each, and how many to try; where the
-// switch's mark stands; and the digits from its level up, as one number.
+// The servers at a switch: the first, how far the next is from each, and how many to try.
 pub(crate) struct Side {
     pub(crate) first: usize,
     pub(crate) stride: usize,
     pub(crate) count: usize,
-    pub(crate) mark: usize,
-    pub(crate) upper: usize,
 }

@@ -33,42 +33,37 @@ fn weights(n: usize) -> [usize; 4]
 }
 
 // The servers at the switch of a server at a level; none to try where the server's link is failed, or
-// the switch has been scanned. `high` is the digits above the level, as one number. A level has no more
-// than 2,048 switches, each with a place among the marks.
+// the switch has been scanned. A server has a mark for each level, set when its switch there is scanned.
 fn side_of(
     shape: Shape,
     table: &[u8],
-    marks: &[u8; 8192],
+    marks: &[u8; 16384],
     server: usize,
     level: usize,
     stride: usize,
-    high: usize,
 ) -> Side
-    requires { ⌜ Siding shape (now marks) server level stride high ⌝ }
+    requires { ⌜ Siding shape (now marks) server level stride ⌝ }
     ensures { λ r. ⌜ Sided shape (now (table .entry)) (now (marks .entry)) server level r ⌝ }
 {
-    let upper = server / stride;
-    let low = server % stride;
-    let first = low + stride * (shape.n * high);
-    let mark = level * 2048 + (low + stride * high);
+    let mut first: usize = 0;
     let mut count: usize = 0;
-    if marks[mark] == 0 {
+    if marks[server * 4 + level] == 0 {
         if is_live(table, level, server, server) {
             let bound = bound_of(shape, level);
             count = bound.value;
+            first = server % stride + stride * (count * (server / stride / count));
         }
     }
     Side {
         first,
         stride,
         count,
-        mark,
-        upper,
     }
 }
 
-// Tries one hop, with the value v at a level, from the server at the place `head` to server w. The
-// result is the number of servers found.
+// Tries one hop, with the value v at a level, from the server at the place `head`, whose link is live,
+// to server w, which is not found yet: its link is left to test. The result is the number of servers
+// found.
 fn visit(
     shape: Shape,
     table: &[u8],
@@ -83,11 +78,7 @@ fn visit(
     requires { ⌜ Trying shape (now table) (now back) (now queue) head tail level v w ⌝ }
     ensures { λ r. ⌜ Tried shape (now (table .entry)) (now (queue .entry)) (now (back .exit)) (now (queue .exit)) head tail r level v ⌝ }
 {
-    if back[w] != NONE {
-        return tail;
-    }
-    let here = queue[head] as usize;
-    if is_live(table, level, here, w) {
+    if is_live(table, level, w, w) {
         back[w] = (head * 256 + ((shape.k - level) * 64 + v)) as u32;
         queue[tail] = w as u16;
         return tail + 1;
@@ -113,28 +104,26 @@ pub(crate) fn search(shape: Shape, table: &[u8], source: usize, destination: usi
     let mut back = [NONE; 4096];
     let mut queue = [NOBODY; 4096];
     begin(&mut back, &mut queue, source);
-    let mut marks = [0u8; 8192];
+    let mut marks = [0u8; 16384];
     let weight = weights(shape.n);
     let mut head: usize = 0;
     let mut tail: usize = 1;
     'scan: while head < tail {
         let here = queue[head] as usize;
         let mut level = shape.k + 1;
-        let mut high: usize = 0;
         while 0 < level {
             level -= 1;
-            let side = side_of(shape, table, &marks, here, level, weight[level], high);
-            high = side.upper;
+            let side = side_of(shape, table, &marks, here, level, weight[level]);
+            let mut w = side.first;
             for v in 0..side.count {
-                let w = side.first + v * side.stride;
-                tail = visit(shape, table, &mut back, &mut queue, head, tail, level, v, w);
-                if back[destination] != NONE {
-                    break 'scan;
+                marks[w * 4 + level] = 1;
+                if back[w] == NONE {
+                    tail = visit(shape, table, &mut back, &mut queue, head, tail, level, v, w);
+                    if back[destination] != NONE {
+                        break 'scan;
+                    }
                 }
-            }
-            if 0 < side.count {
-                let mark = side.mark;
-                marks[mark] = 1;
+                w += side.stride;
             }
         }
         head += 1;

@@ -1,5 +1,5 @@
 -- What picking answers: one law for each way through the code.
-use Prim.Native.Nat.{ℕ, _+_, _-_, _*_, _/_, _≤_, _<_}
+use Prim.Native.Nat.{ℕ, zero, suc, _+_, _-_, _*_, _/_, _≤_, _<_}
 use mathlib.Core.Path.{_≡_, refl, ap, _∙_}
 use mathlib.Core.List.{List, []}
 use native.Mathlib.Omega.{arith}
@@ -7,10 +7,12 @@ use native.Mathlib.Nat.{zero-add}
 use lib.ListN.{length, take, drop}
 use borrow.Author.Tests.{lt-ltb, le-ltb}
 use Rattle.room.specs.declared.Shape.{Shape}
-use Rattle.room.specs.declared.Refusal.{Refusal}
-use Rattle.room.specs.Refusals.{none, plain}
+use Rattle.room.specs.Refusals.{plain, _or-else_}
+use Rattle.room.specs.Answers.{answer}
 use Rattle.room.proofs.RefusalLaws.{chain-stops, chain-goes, answer-refused, answer-given}
 use Rattle.pick.specs.Picks.{firstIn, Source, inFresh, inKept, nowhere, found, listsRefusal, pickSource, missing, pickRefusal, pickAnswer, liesAt, pickedBytes, pickedAt}
+use Rattle.pick.specs.declared.Place.{Place}
+use Rattle.pick.specs.Places.{noPlace, aPlace, placeOf, placeAnswer}
 
 module _ (s : Shape) (t : List ℕ) (a d : ℕ) (fs ks : List ℕ) where
   -- ---- where the code is when it returns: refused, found in one list, found in none
@@ -41,48 +43,49 @@ module _ (s : Shape) (t : List ℕ) (a d : ℕ) (fs ks : List ℕ) where
   abbrev pub Lies : ℕ × ℕ → ℕ × ℕ → List ℕ → ℕ × ℕ → Type 0
   Lies p q bs at = (bs ≡ pickedBytes (pickSource s t a d fs ks) fs ks) × (at ≡ pickedAt (pickSource s t a d fs ks) p q)
 
-  lies : (p q : ℕ × ℕ) (x : Source) → x ≡ pickSource s t a d fs ks → Lies p q (pickedBytes x fs ks) (pickedAt x p q)
+  pub lies : (p q : ℕ × ℕ) (x : Source) → x ≡ pickSource s t a d fs ks → Lies p q (pickedBytes x fs ks) (pickedAt x p q)
   lies p q x e = (ap (λ (y : Source). pickedBytes y fs ks) e, ap (λ (y : Source). pickedAt y p q) e)
 
   -- the empty part at the start of the fresh list
-  lies-empty : (p q : ℕ × ℕ) → nowhere ≡ pickSource s t a d fs ks → Lies p q [] (p .0, 0 + p .1)
+  pub lies-empty : (p q : ℕ × ℕ) → nowhere ≡ pickSource s t a d fs ks → Lies p q [] (p .0, 0 + p .1)
   lies-empty p q e = let l = lies p q nowhere e in (l .0, ap (λ (o : ℕ). (p .0, o)) (zero-add (p .1)) ∙ l .1)
 
-  module _ (p q : ℕ × ℕ) (r : ℕ) (e : r ≡ listsRefusal s t a d fs ks) where
-    pub lies-refused : (r ≡ 0 → ⊥) → Lies p q [] (p .0, 0 + p .1)
-    lies-refused n = lies-empty p q (from-refused r e n)
+  -- ---- where the route stands, and what the companion question says
 
-    pub lies-fresh : r ≡ 0 → (i : ℕ) → i ≡ firstIn s t a d fs → i < length fs / 8 → Lies p q (take (8 * i + 8 - 8 * i) (drop (8 * i) fs)) (liesAt i p)
-    lies-fresh z i f h =
-        let m : 8 * i + 8 - 8 * i ≡ 8 = omega arith in
-        let l = lies p q (inFresh i) (found-fresh i f h ∙ from-found r e z) in
-        (ap (λ (x : ℕ). take x (drop (8 * i) fs)) m ∙ l .0, l .1)
+  module _ (x : Place) (r : ℕ) (e : r ≡ listsRefusal s t a d fs ks) where
+    -- the answer for a source
+    stands : (q : ℕ) (y : Source) → q ≡ pickRefusal s t a d fs ks → y ≡ pickSource s t a d fs ks → x ≡ placeOf q y → x ≡ placeAnswer s t a d fs ks
+    unfolding placeAnswer
+    stands q y f g h = h ∙ ap (λ (z : ℕ). placeOf z y) f ∙ ap (placeOf (pickRefusal s t a d fs ks)) g
 
-    pub lies-kept : r ≡ 0 → (i j : ℕ) → i ≡ firstIn s t a d fs → length fs / 8 ≤ i → j ≡ firstIn s t a d ks → j < length ks / 8 → Lies p q (take (8 * j + 8 - 8 * j) (drop (8 * j) ks)) (liesAt j q)
-    lies-kept z i j f h g k =
-        let m : 8 * j + 8 - 8 * j ≡ 8 = omega arith in
-        let l = lies p q (inKept j) (found-kept i j f h g k ∙ from-found r e z) in
-        (ap (λ (x : ℕ). take x (drop (8 * j) ks)) m ∙ l .0, l .1)
+    pub stands-refused : x ≡ noPlace r → (r ≡ 0 → ⊥) → x ≡ placeAnswer s t a d fs ks
+    unfolding pickRefusal
+    stands-refused g n = stands r nowhere (chain-stops r _ _ e n) (from-refused r e n) g
 
-    pub lies-none : r ≡ 0 → (i j : ℕ) → i ≡ firstIn s t a d fs → length fs / 8 ≤ i → j ≡ firstIn s t a d ks → length ks / 8 ≤ j → Lies p q [] (p .0, 0 + p .1)
-    lies-none z i j f h g k = lies-empty p q (found-none i j f h g k ∙ from-found r e z)
+    -- the answer for a source that was found
+    stands-found : (y : Source) → r ≡ 0 → y ≡ found s t a d fs ks → x ≡ placeOf (missing y) y → x ≡ placeAnswer s t a d fs ks
+    unfolding pickRefusal
+    stands-found y z f g = stands (missing y) y (chain-goes r _ _ _ e z (ap missing f)) (f ∙ from-found r e z) g
 
-  -- ---- what the companion question says
+    pub stands-fresh : r ≡ 0 → (i : ℕ) → i ≡ firstIn s t a d fs → i < length fs / 8 → x ≡ aPlace 1 (i + 1) → x ≡ placeAnswer s t a d fs ks
+    stands-fresh z i f h g = stands-found (inFresh i) z (found-fresh i f h) g
 
-  module _ (x : Refusal) (r : ℕ) (e : r ≡ listsRefusal s t a d fs ks) where
-    pub says-refused : x ≡ plain r → (r ≡ 0 → ⊥) → x ≡ pickAnswer s t a d fs ks
-    unfolding pickAnswer pickRefusal
-    says-refused g n = g ∙ ap plain (chain-stops r _ _ e n)
+    pub stands-kept : r ≡ 0 → (i j : ℕ) → i ≡ firstIn s t a d fs → length fs / 8 ≤ i → j ≡ firstIn s t a d ks → j < length ks / 8 → x ≡ aPlace 2 (j + 1) → x ≡ placeAnswer s t a d fs ks
+    stands-kept z i j f h k l g = stands-found (inKept j) z (found-kept i j f h k l) g
 
-    says : (y : Source) → y ≡ found s t a d fs ks → r ≡ 0 → x ≡ plain (missing y) → x ≡ pickAnswer s t a d fs ks
-    unfolding pickAnswer pickRefusal
-    says y f z g = g ∙ ap plain (chain-goes r _ _ _ e z (ap missing f))
+    pub stands-nowhere : r ≡ 0 → (i j : ℕ) → i ≡ firstIn s t a d fs → length fs / 8 ≤ i → j ≡ firstIn s t a d ks → length ks / 8 ≤ j → x ≡ noPlace 16 → x ≡ placeAnswer s t a d fs ks
+    stands-nowhere z i j f h k l g = stands-found nowhere z (found-none i j f h k l) g
 
-    pub says-fresh : x ≡ none → r ≡ 0 → (i : ℕ) → i ≡ firstIn s t a d fs → i < length fs / 8 → x ≡ pickAnswer s t a d fs ks
-    says-fresh g z i f h = says (inFresh i) (found-fresh i f h) z g
+  -- the refusal of a place is the companion's answer
+  pub place-refusal : placeAnswer s t a d fs ks .refusal ≡ pickAnswer s t a d fs ks
+  unfolding placeAnswer pickAnswer pickRefusal pickSource _or-else_
+  place-refusal = both (listsRefusal s t a d fs ks) (found s t a d fs ks)
+    where
+      both : (q : ℕ) (y : Source) → placeOf (q or-else missing y) (answer q (λ z. nowhere) y) .refusal ≡ plain (q or-else missing y)
+      both zero (inFresh i) = refl
+      both zero (inKept i) = refl
+      both zero nowhere = refl
+      both (suc q) y = refl
 
-    pub says-kept : x ≡ none → r ≡ 0 → (i j : ℕ) → i ≡ firstIn s t a d fs → length fs / 8 ≤ i → j ≡ firstIn s t a d ks → j < length ks / 8 → x ≡ pickAnswer s t a d fs ks
-    says-kept g z i j f h k l = says (inKept j) (found-kept i j f h k l) z g
-
-    pub says-none : x ≡ plain 16 → r ≡ 0 → (i j : ℕ) → i ≡ firstIn s t a d fs → length fs / 8 ≤ i → j ≡ firstIn s t a d ks → length ks / 8 ≤ j → x ≡ pickAnswer s t a d fs ks
-    says-none g z i j f h k l = says nowhere (found-none i j f h k l) z g
+  pub place-says : (x : Place) → x ≡ placeAnswer s t a d fs ks → x .refusal ≡ pickAnswer s t a d fs ks
+  place-says x e = ap (λ (y : Place). y .refusal) e ∙ place-refusal

@@ -8,8 +8,13 @@ use contract.Lifetimes.{Lfts}
 use Rattle.room.specs.Determined.{Determined}
 use Rattle.pick.proofs.picks.pick_route.Reads as pick-route
 use Rattle.pick.proofs.picks.pick_route.Kinds as pick-route-kinds
+use Rattle.pick.proofs.picks.pick_place.Reads as pick-place
+use Rattle.pick.proofs.picks.pick_place.Kinds as pick-place-kinds
 use Rattle.pick.proofs.picks.pick_refusal.Reads as pick-refusal
 use Rattle.pick.proofs.picks.pick_refusal.Kinds as pick-refusal-kinds
+
+pub pick-place-unique : Determined 3 pick-place-kinds.ps pick-place-kinds.r pick-place.Post
+pick-place-unique κs a x y s t e f = e ∙ sym f
 
 pub pick-refusal-unique : Determined 3 pick-refusal-kinds.ps pick-refusal-kinds.r pick-refusal.Post
 pick-refusal-unique κs a x y s t e f = e ∙ sym f

@@ -1,2 +1,3 @@
 pub mod Picks
 pub mod Chosen
+pub mod Places

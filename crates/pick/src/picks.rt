@@ -2,6 +2,8 @@
 ghost use mathlib.Core.Path.{_≡_};
 ghost use Rattle.verdict.specs.Checks.{roomRefusal};
 ghost use Rattle.pick.specs.Picks.{firstIn, pickAnswer, PickedPart};
+ghost use Rattle.pick.specs.Places.{noPlace, aPlace, placeAnswer};
+use crate::Place;
 use crate::lengths::lists_refusal;
 use room::Refusal;
 use room::Shape;
@@ -27,6 +29,55 @@ fn first_usable(shape: Shape, table: &[u8], source: usize, destination: usize, l
     count
 }
 
+// No place, with a refusal's number.
+fn no_place(number: usize) -> Place
+    ensures { λ r. ⌜ r ≡ noPlace number ⌝ }
+{
+    Place {
+        refusal: Refusal::plain(number),
+        list: 0,
+        route: 0,
+    }
+}
+
+// The place of a route in a list.
+fn a_place(list: usize, route: usize) -> Place
+    ensures { λ r. ⌜ r ≡ aPlace list route ⌝ }
+{
+    Place {
+        refusal: Refusal::none(),
+        list,
+        route,
+    }
+}
+
+// Which list holds the picked route, and at which place; or why there is none: refusals 1 to 7, and 16
+// where neither list has a usable route.
+pub fn pick_place(
+    shape: Shape,
+    table: &[u8],
+    source: usize,
+    destination: usize,
+    fresh: &[u8],
+    kept: &[u8],
+) -> Place
+    ensures { λ r. ⌜ r ≡ placeAnswer shape (now (table .entry)) source destination (now (fresh .entry)) (now (kept .entry)) ⌝ }
+{
+    let r = lists_refusal(shape, table, source, destination, fresh, kept);
+    if r != 0 {
+        return no_place(r);
+    }
+    let i = first_usable(shape, table, source, destination, fresh);
+    if i < fresh.len() / 8 {
+        return a_place(Place::FRESH, i + 1);
+    }
+    let j = first_usable(shape, table, source, destination, kept);
+    if j < kept.len() / 8 {
+        return a_place(Place::KEPT, j + 1);
+    }
+    no_place(Refusal::NO_ROUTE)
+}
+
 // The first usable route of the fresh list, else of the kept list: the eight bytes within the buffer
 // that holds them. Usable is what checking takes as a list of one. Empty on a refusal.
 pub fn pick_route<'a>(
@@ -39,20 +90,14 @@ pub fn pick_route<'a>(
 ) -> &'a [u8]
     ensures { λ r. ⌜ PickedPart shape (now (table .entry)) source destination (fresh .entry) (kept .entry) r ⌝ }
 {
-    if lists_refusal(shape, table, source, destination, fresh, kept) != 0 {
-        return &fresh[0..0];
+    let place = pick_place(shape, table, source, destination, fresh, kept);
+    if place.list == Place::FRESH {
+        let end = 8 * place.route;
+        return &fresh[end - 8..end];
     }
-    let i = first_usable(shape, table, source, destination, fresh);
-    if i < fresh.len() / 8 {
-        let at = 8 * i;
-        let end = at + 8;
-        return &fresh[at..end];
-    }
-    let j = first_usable(shape, table, source, destination, kept);
-    if j < kept.len() / 8 {
-        let at = 8 * j;
-        let end = at + 8;
-        return &kept[at..end];
+    if place.list == Place::KEPT {
+        let end = 8 * place.route;
+        return &kept[end - 8..end];
     }
     &fresh[0..0]
 }
@@ -68,15 +113,6 @@ pub fn pick_refusal(
 ) -> Refusal
     ensures { λ r. ⌜ r ≡ pickAnswer shape (now (table .entry)) source destination (now (fresh .entry)) (now (kept .entry)) ⌝ }
 {
-    let r = lists_refusal(shape, table, source, destination, fresh, kept);
-    if r != 0 {
-        return Refusal::plain(r);
-    }
-    if first_usable(shape, table, source, destination, fresh) < fresh.len() / 8 {
-        return Refusal::none();
-    }
-    if first_usable(shape, table, source, destination, kept) < kept.len() / 8 {
-        return Refusal::none();
-    }
-    Refusal::plain(Refusal::NO_ROUTE)
+    let place = pick_place(shape, table, source, destination, fresh, kept);
+    place.refusal
 }

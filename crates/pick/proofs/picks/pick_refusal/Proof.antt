@@ -1,7 +1,6 @@
 -- `pick::picks::pick_refusal` meets its contract. Assumes nothing.
 use borrow.Author.Needs.{needs}
-use Rattle.pick.proofs.LengthLaws.{lists-room}
-use Rattle.pick.proofs.PickLaws.{says-refused, says-fresh, says-kept, says-none}
+use Rattle.pick.proofs.PickLaws.{place-says}
 use Rattle.pick.proofs.picks.pick_refusal.Statement.{statement}
 use Rattle.pick.proofs.picks.pick_refusal.Tie as tie
 
@@ -10,13 +9,4 @@ pick-refusal-spec =
     tie.close
     (tie.spec
     (λ c κs. search needs)
-    (λ c κs. search needs)
-    (λ c. search says-refused)
-    (λ c κs. search lists-room)
-    (λ c κs. search needs)
-    (λ c. search says-fresh)
-    (λ c κs. search lists-room)
-    (λ c κs. search needs)
-    (λ c. search says-kept)
-    (λ c κs. search needs)
-    (λ c. search says-none))
+    (λ c. search place-says))

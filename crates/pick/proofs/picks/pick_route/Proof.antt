@@ -1,8 +1,7 @@
 -- `pick::picks::pick_route` meets its contract. Assumes nothing.
 use borrow.Author.Needs.{needs}
 use native.Mathlib.Omega.{arith}
-use Rattle.pick.proofs.LengthLaws.{lists-room}
-use Rattle.pick.proofs.PickLaws.{lies-refused, lies-fresh, lies-kept, lies-none}
+use Rattle.pick.proofs.PlaceLaws.{fresh-inside, kept-inside, part-fresh, part-kept, part-none}
 use Rattle.pick.proofs.picks.pick_route.Statement.{statement}
 use Rattle.pick.proofs.picks.pick_route.Tie as tie
 
@@ -11,25 +10,19 @@ pick-route-spec =
     tie.close
     (tie.spec
     (λ c κs. search needs)
+    (λ c. let h = fresh-inside _ _ _ _ _ _ _ (c .before .before .before .pick-place .ensures) (c .before .if1 .taken) in omega (arith, h .0, h .1))
+    (λ c. let h = fresh-inside _ _ _ _ _ _ _ (c .before .before .before .pick-place .ensures) (c .before .if1 .taken) in omega (arith, h .0, h .1))
+    (λ c. let h = fresh-inside _ _ _ _ _ _ _ (c .before .before .before .pick-place .ensures) (c .before .if1 .taken) in omega (arith, h .0, h .1))
+    (λ c. let h = fresh-inside _ _ _ _ _ _ _ (c .before .before .before .pick-place .ensures) (c .before .if1 .taken) in omega (arith, h .0, h .1))
+    (λ c. let h = fresh-inside _ _ _ _ _ _ _ (c .before .before .before .pick-place .ensures) (c .before .if1 .taken) in omega (arith, h .0, h .1))
+    (λ c. part-fresh _ _ _ _ _ _ _ (c .before .before .before .before .pick-place .ensures) _ _ (c .before .before .if1 .taken))
+    (λ c. let h = kept-inside _ _ _ _ _ _ _ (c .before .before .before .before .before .pick-place .ensures) (c .before .if2 .taken) in omega (arith, h .0, h .1))
+    (λ c. let h = kept-inside _ _ _ _ _ _ _ (c .before .before .before .before .before .pick-place .ensures) (c .before .if2 .taken) in omega (arith, h .0, h .1))
+    (λ c. let h = kept-inside _ _ _ _ _ _ _ (c .before .before .before .before .before .pick-place .ensures) (c .before .if2 .taken) in omega (arith, h .0, h .1))
+    (λ c. let h = kept-inside _ _ _ _ _ _ _ (c .before .before .before .before .before .pick-place .ensures) (c .before .if2 .taken) in omega (arith, h .0, h .1))
+    (λ c. let h = kept-inside _ _ _ _ _ _ _ (c .before .before .before .before .before .pick-place .ensures) (c .before .if2 .taken) in omega (arith, h .0, h .1))
+    (λ c. part-kept _ _ _ _ _ _ _ (c .before .before .before .before .before .before .pick-place .ensures) _ _ (c .before .before .if2 .taken))
     (λ c. search needs)
     (λ c. search needs)
     (λ c. search needs)
-    (λ c. lies-refused _ _ _ _ _ _ _ _ _ (c .before .before .lists-refusal .ensures) (c .before .if1 .taken))
-    (λ c κs. search lists-room)
-    (λ c. omega arith)
-    (λ c. omega arith)
-    (λ c. omega arith)
-    (λ c. omega arith)
-    (λ c. omega arith)
-    (λ c. lies-fresh _ _ _ _ _ _ _ _ _ (c .before .before .before .before .lists-refusal .ensures) (c .before .before .before .if1 .left) _ (c .before .before .first-usable .ensures) (c .before .if2 .taken))
-    (λ c κs. search lists-room)
-    (λ c. omega arith)
-    (λ c. omega arith)
-    (λ c. omega arith)
-    (λ c. omega arith)
-    (λ c. omega arith)
-    (λ c. lies-kept _ _ _ _ _ _ _ _ _ (c .before .before .before .before .before .before .lists-refusal .ensures) (c .before .before .before .before .before .if1 .left) _ _ (c .before .before .before .before .first-usable .ensures) (c .before .before .before .if2 .left) (c .before .before .first-usable2 .ensures) (c .before .if3 .taken))
-    (λ c. search needs)
-    (λ c. search needs)
-    (λ c. search needs)
-    (λ c. lies-none _ _ _ _ _ _ _ _ _ (c .before .before .before .before .before .before .lists-refusal .ensures) (c .before .before .before .before .before .if1 .left) _ _ (c .before .before .before .before .first-usable .ensures) (c .before .before .before .if2 .left) (c .before .before .first-usable2 .ensures) (c .before .if3 .left)))
+    (λ c. part-none _ _ _ _ _ _ _ (c .before .before .before .before .before .pick-place .ensures) _ _ (c .before .before .before .if1 .left) (c .before .if2 .left)))

@@ -1,0 +1,160 @@
+-- Every input is taken: no contract asks anything of the arguments. Uniqueness: each line by the law in its crate's proofs/Unique.antt.
+use Rattle.room.proofs.Unique as room
+use Rattle.links.proofs.Unique as links
+use Rattle.path.proofs.Unique as path
+use Rattle.verdict.proofs.Unique as verdict
+use Rattle.build.proofs.Unique as build
+use Rattle.finder.proofs.Unique as finder
+use Rattle.select.proofs.Unique as select
+use Rattle.pick.proofs.Unique as pick
+use Rattle.step.proofs.Unique as step
+use Rattle.desk_line.proofs.Unique as desk-line
+use Rattle.driver.proofs.Unique as driver
+use Rattle.demands.specs.Uniqueness.{EveryInput, Uniqueness}
+
+pub every-input : EveryInput
+every-input =
+    record {
+      shape-new = λ κs a. tt;
+      refusal-none = λ κs a. tt;
+      refusal-plain = λ κs a. tt;
+      refusal-at = λ κs a. tt;
+      shape-refusal = λ κs a. tt;
+      server-refusal = λ κs a. tt;
+      link-refusal = λ κs a. tt;
+      servers-of = λ κs a. tt;
+      bound-of = λ κs a. tt;
+      digits-of = λ κs a. tt;
+      digit-of = λ κs a. tt;
+      address-of = λ κs a. tt;
+      switch-of = λ κs a. tt;
+      neighbour-of = λ κs a. tt;
+      level-between = λ κs a. tt;
+      failed-link = λ κs a. tt;
+      mark-link = λ κs a. tt;
+      clear-link = λ κs a. tt;
+      is-live = λ κs a. tt;
+      table-refusal = λ κs a. tt;
+      hop-of = λ κs a. tt;
+      is-among = λ κs a. tt;
+      ends-refusal = λ κs a. tt;
+      walk = λ κs a. tt;
+      read-path = λ κs a. tt;
+      write-path = λ κs a. tt;
+      reverse-path = λ κs a. tt;
+      check-list = λ κs a. tt;
+      route-set-new = λ κs a. tt;
+      route-set-with-route = λ κs a. tt;
+      build-routes = λ κs a. tt;
+      find-route = λ κs a. tt;
+      select-routes = λ κs a. tt;
+      pick-route = λ κs a. tt;
+      pick-place = λ κs a. tt;
+      pick-refusal = λ κs a. tt;
+      step-once = λ κs a. tt;
+      bcube-step = λ κs a. tt;
+      bcube-step-mac = λ κs a. tt;
+      question-of = λ κs a. tt;
+      answer-line = λ κs a. tt;
+      c-shape = λ κs a. tt;
+      c-servers = λ κs a. tt;
+      c-bound = λ κs a. tt;
+      c-digits = λ κs a. tt;
+      c-digit = λ κs a. tt;
+      c-address = λ κs a. tt;
+      c-switch = λ κs a. tt;
+      c-neighbour = λ κs a. tt;
+      c-between = λ κs a. tt;
+      c-failed-link = λ κs a. tt;
+      c-mark-link = λ κs a. tt;
+      c-clear-link = λ κs a. tt;
+      c-read = λ κs a. tt;
+      c-write = λ κs a. tt;
+      c-reverse = λ κs a. tt;
+      c-check = λ κs a. tt;
+      c-build = λ κs a. tt;
+      c-find = λ κs a. tt;
+      c-select = λ κs a. tt;
+      c-pick = λ κs a. tt;
+      c-step = λ κs a. tt;
+      c-step-mac = λ κs a. tt;
+    }
+
+pub uniqueness : Uniqueness
+uniqueness =
+    record {
+      shape-new = room.new-unique;
+      refusal-none = room.none-unique;
+      refusal-plain = room.plain-unique;
+      refusal-at = room.at-unique;
+      shape-refusal = room.shape-refusal-unique;
+      server-refusal = room.server-refusal-unique;
+      link-refusal = room.link-refusal-unique;
+      servers-of = room.servers-of-unique;
+      bound-of = room.bound-of-unique;
+      digits-of = room.digits-of-unique;
+      digit-of = room.digit-of-unique;
+      address-of = room.address-of-unique;
+      switch-of = room.switch-of-unique;
+      neighbour-of = room.neighbour-of-unique;
+      level-between = room.level-between-unique;
+      failed-link = links.failed-link-unique;
+      mark-link = links.mark-link-unique;
+      mark-link-leaves = links.mark-link-leaves;
+      clear-link = links.clear-link-unique;
+      clear-link-leaves = links.clear-link-leaves;
+      is-live = links.is-live-unique;
+      table-refusal = links.table-refusal-unique;
+      hop-of = path.hop-of-unique;
+      is-among = path.is-among-unique;
+      ends-refusal = path.ends-refusal-unique;
+      walk = path.walk-unique;
+      read-path = path.read-path-unique;
+      write-path = path.write-path-unique;
+      reverse-path = path.reverse-path-unique;
+      check-list = verdict.check-list-unique;
+      route-set-new = build.new-unique;
+      route-set-with-route = build.with-route-unique;
+      build-routes = build.build-routes-unique;
+      find-route = finder.find-route-unique;
+      select-routes = select.select-routes-unique;
+      pick-route = pick.pick-route-unique;
+      pick-place = pick.pick-place-unique;
+      pick-refusal = pick.pick-refusal-unique;
+      step-once = step.step-once-unique;
+      bcube-step = step.bcube-step-unique;
+      bcube-step-mac = step.bcube-step-mac-unique;
+      question-of = desk-line.question-of-unique;
+      answer-line = desk-line.answer-line-unique;
+      c-shape = driver.bcube-shape-unique;
+      c-servers = driver.bcube-servers-unique;
+      c-bound = driver.bcube-bound-unique;
+      c-digits = driver.bcube-digits-unique;
+      c-digits-leaves = driver.bcube-digits-leaves;
+      c-digit = driver.bcube-digit-unique;
+      c-address = driver.bcube-address-unique;
+      c-switch = driver.bcube-switch-unique;
+      c-neighbour = driver.bcube-neighbour-unique;
+      c-between = driver.bcube-between-unique;
+      c-failed-link = driver.bcube-failed-link-unique;
+      c-mark-link = driver.bcube-mark-link-unique;
+      c-mark-link-leaves = driver.bcube-mark-link-leaves;
+      c-clear-link = driver.bcube-clear-link-unique;
+      c-clear-link-leaves = driver.bcube-clear-link-leaves;
+      c-read = driver.bcube-read-unique;
+      c-read-leaves = driver.bcube-read-leaves;
+      c-write = driver.bcube-write-unique;
+      c-write-leaves = driver.bcube-write-leaves;
+      c-reverse = driver.bcube-reverse-unique;
+      c-reverse-leaves = driver.bcube-reverse-leaves;
+      c-check = driver.bcube-check-unique;
+      c-build = driver.bcube-build-unique;
+      c-build-leaves = driver.bcube-build-leaves;
+      c-find = driver.bcube-find-unique;
+      c-find-leaves = driver.bcube-find-leaves;
+      c-select = driver.bcube-select-unique;
+      c-select-leaves = driver.bcube-select-leaves;
+      c-pick = driver.bcube-pick-unique;
+      c-step = driver.bcube-step-unique;
+      c-step-mac = driver.bcube-step-mac-unique;
+    }

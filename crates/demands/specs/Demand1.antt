@@ -1,0 +1,243 @@
+-- Demand 1: every call takes every input: it answers, or refuses with document 01's number and place and nothing else, and every lent
+-- buffer keeps its bytes.
+use Prim.Native.Nat.{ℕ, zero, suc, _+_, _-_, _/_, _≤_, _<_}
+use mathlib.Core.Path.{_≡_}
+use mathlib.Core.Logic.{_≢_, _⊎_}
+use mathlib.Core.List.{List, [], _∷_, _++_}
+use mathlib.Core.Bool.{Bool, true, false, _&&_, _||_}
+use lib.Dec.{leb, eqb}
+use lib.ListN.{length, getD, replicate}
+use Rattle.room.specs.declared.Shape.{Shape}
+use Rattle.room.specs.declared.Refusal.{Refusal}
+use Rattle.room.specs.declared.Number.{Number}
+use Rattle.room.specs.declared.Digits.{Digits}
+use Rattle.room.specs.declared.Switch.{Switch}
+use Rattle.room.specs.declared.Between.{Between}
+use Rattle.room.specs.Refusals.{none, refusedAt, shapeRefusal, serverRefusal, linkRefusal}
+use Rattle.room.specs.Answers.{serversAnswer, boundAnswer, digitsAnswer, digitAnswer, addressAnswer, switchAnswer, neighbourAnswer, betweenAnswer}
+use Rattle.links.specs.declared.Asked.{Asked}
+use Rattle.links.specs.Table.{roomTableRefusal}
+use Rattle.links.specs.Answers.{failedAnswer, linkAnswer, markedTable, clearedTable}
+use Rattle.path.specs.declared.Hop.{Hop}
+use Rattle.path.specs.declared.Walked.{Walked}
+use Rattle.path.specs.declared.Reading.{Reading}
+use Rattle.path.specs.declared.Writing.{Writing}
+use Rattle.path.specs.Lists.{isIn, inTurn}
+use Rattle.path.specs.Routes.{byteTo, switchesOf}
+use Rattle.path.specs.Walks.{fault}
+use Rattle.path.specs.Answers.{endsRefusal, hopAnswer, walkAnswer, readAnswer, writeAnswer, reverseAnswer}
+use Rattle.path.proofs.RouteLaws.{Prefix}
+use Rattle.verdict.specs.Checks.{parallel, listRefusal, walksOf, checkAnswer}
+use Rattle.verdict.specs.Arrived.{nowhere}
+use Rattle.build.specs.declared.Building.{Building}
+use Rattle.build.specs.Sets.{emptySet}
+use Rattle.build.specs.Answers.{buildAnswer}
+use Rattle.finder.specs.declared.Found.{Found}
+use Rattle.finder.specs.Answers.{Finding}
+use Rattle.select.specs.declared.Selection.{Selection}
+use Rattle.select.specs.Selection.{Selecting}
+use Rattle.pick.specs.declared.Place.{Place as Picked}
+use Rattle.pick.specs.Picks.{pickSource, pickAnswer, pickedBytes}
+use Rattle.pick.specs.Places.{placeAnswer}
+use Rattle.step.specs.declared.Step.{Step}
+use Rattle.step.specs.Steps.{stepAnswer}
+use Rattle.driver.specs.Words.{left}
+
+-- ---- the place of a refusal
+
+-- 0, which is no refusal, 1 to 7, 16 to 18 and 20 to 22 are refusals of a call as a whole
+abbrev pub ofTheWhole : ℕ → Bool
+ofTheWhole r = leb r 7 || ((leb 16 r && leb r 18) || (leb 20 r && leb r 22))
+
+-- 8 to 12, 14, 19 and 23 arise at a hop
+abbrev pub ofAHop : ℕ → Bool
+ofAHop r = (leb 8 r && leb r 12) || (eqb r 14 || (eqb r 19 || eqb r 23))
+
+-- number, route and hop of a refusal of m routes, by document 01: routes and hops count from 1; both are zero for a refusal of the
+-- whole; for 13 the hop is 8; for 15 the route is the later of a pair, the hop zero
+pub data Place (m : ℕ) : ℕ → ℕ → ℕ → Type 0 where
+  whole : {r : ℕ} → ofTheWhole r ≡ true → Place m r 0 0
+  at-hop : {r i h : ℕ} → ofAHop r ≡ true → 1 ≤ i → i ≤ m → 1 ≤ h → h ≤ 8 → Place m r i h
+  no-arrival : {i : ℕ} → 1 ≤ i → i ≤ m → Place m 13 i 8
+  later : {i : ℕ} → 2 ≤ i → i ≤ m → Place m 15 i 0
+
+abbrev pub Placed : ℕ → Refusal → Type 0
+Placed m r = Place m (r .number) (r .route) (r .hop)
+
+-- ---- an answer, or a refusal and nothing else
+
+-- no refusal, or one of these numbers
+pub data OneOf (numbers : List ℕ) (r : ℕ) : Type 0 where
+  nought : r ≡ 0 → OneOf numbers r
+  listed : isIn r numbers ≡ true → OneOf numbers r
+
+-- an answer over m routes, which holds a refusal: its number is one of these, its place is document 01's, and where it is not 0 all
+-- the rest of the answer is zero; `bare` is the answer that holds a refusal and zeros
+pub record Refuses {X : Type 0} (refusal : X → Refusal) (bare : Refusal → X) (m : ℕ) (numbers : List ℕ) (x : X) : Type 0 where
+  pub number : OneOf numbers (refusal x .number)
+  pub placed : Placed m (refusal x)
+  pub nothing-else : refusal x .number ≢ 0 → x ≡ bare (refusal x)
+
+abbrev pub RefusalOf : ℕ → List ℕ → Refusal → Type 0
+RefusalOf = Refuses (λ x. x) (λ r. r)
+
+abbrev pub NumberOf : List ℕ → Number → Type 0
+NumberOf = Refuses (λ x. x .refusal) (λ r. record { refusal = r; value = 0 }) 0
+
+abbrev pub DigitsOf : List ℕ → Digits → Type 0
+DigitsOf = Refuses (λ x. x .refusal) (λ r. record { refusal = r; places = replicate 4 0 }) 0
+
+abbrev pub SwitchOf : List ℕ → Switch → Type 0
+SwitchOf = Refuses (λ x. x .refusal) (λ r. record { refusal = r; level = 0; number = 0 }) 0
+
+abbrev pub BetweenOf : List ℕ → Between → Type 0
+BetweenOf = Refuses (λ x. x .refusal) (λ r. record { refusal = r; adjacent = false; level = 0 }) 0
+
+abbrev pub AskedOf : List ℕ → Asked → Type 0
+AskedOf = Refuses (λ x. x .refusal) (λ r. record { refusal = r; failed = false }) 0
+
+-- a single array is route 1
+abbrev pub WalkedOf : List ℕ → Walked → Type 0
+WalkedOf = Refuses (λ x. x .refusal) (λ r. record { refusal = r; count = 0; servers = replicate 9 0; switches = replicate 8 0 }) 1
+
+abbrev pub ReadingOf : List ℕ → Reading → Type 0
+ReadingOf = Refuses (λ x. x .refusal) (λ r. record { refusal = r; count = 0; servers = replicate 9 0 }) 1
+
+abbrev pub WritingOf : List ℕ → Writing → Type 0
+WritingOf = Refuses (λ x. x .refusal) (λ r. record { refusal = r; bytes = replicate 8 0 }) 1
+
+abbrev pub BuildingOf : List ℕ → Building → Type 0
+BuildingOf = Refuses (λ x. x .refusal) (λ r. record { refusal = r; routes = emptySet }) 0
+
+abbrev pub FoundOf : List ℕ → Found → Type 0
+FoundOf = Refuses (λ x. x .refusal) (λ r. record { refusal = r; hops = 0; bytes = replicate 8 0 }) 0
+
+abbrev pub SelectionOf : List ℕ → Selection → Type 0
+SelectionOf = Refuses (λ x. x .refusal) (λ r. record { refusal = r; routes = emptySet }) 0
+
+abbrev pub PlaceOf : List ℕ → Picked → Type 0
+PlaceOf = Refuses (λ x. x .refusal) (λ r. record { refusal = r; list = 0; route = 0 }) 0
+
+abbrev pub StepOf : List ℕ → Step → Type 0
+StepOf = Refuses (λ x. x .refusal) (λ r. record { refusal = r; delivered = false; next = 0; index = 0; mac = replicate 6 0; port = 0 }) 1
+
+-- a hop's answer has a number and no place
+pub record HopOf (numbers : List ℕ) (x : Hop) : Type 0 where
+  pub number : OneOf numbers (x .number)
+  pub nothing-else : x .number ≢ 0 → x .next ≡ 0
+
+-- ---- every call, for every input
+
+-- a line for each call: the numbers that apply, written in the order in which the definitions try them
+pub record EveryCall : Type 0 where
+  -- room
+  pub shape-refusal : (s : Shape) → OneOf (1 ∷ 2 ∷ 3 ∷ []) (shapeRefusal s)
+  pub server-refusal : (s : Shape) (a : ℕ) → OneOf (1 ∷ 2 ∷ 3 ∷ 4 ∷ []) (serverRefusal s a)
+  pub link-refusal : (s : Shape) (a l : ℕ) → OneOf (1 ∷ 2 ∷ 3 ∷ 4 ∷ 20 ∷ []) (linkRefusal s a l)
+  pub servers-of : (s : Shape) → NumberOf (1 ∷ 2 ∷ 3 ∷ []) (serversAnswer s)
+  pub bound-of : (s : Shape) (l : ℕ) → NumberOf (1 ∷ 2 ∷ 3 ∷ 20 ∷ []) (boundAnswer s l)
+  pub digits-of : (s : Shape) (a : ℕ) → DigitsOf (1 ∷ 2 ∷ 3 ∷ 4 ∷ []) (digitsAnswer s a)
+  pub digit-of : (s : Shape) (a l : ℕ) → NumberOf (1 ∷ 2 ∷ 3 ∷ 4 ∷ 20 ∷ []) (digitAnswer s a l)
+  pub address-of : (s : Shape) (ds : List ℕ) → NumberOf (1 ∷ 2 ∷ 3 ∷ 21 ∷ []) (addressAnswer s ds)
+  pub switch-of : (s : Shape) (a l : ℕ) → SwitchOf (1 ∷ 2 ∷ 3 ∷ 4 ∷ 20 ∷ []) (switchAnswer s a l)
+  pub neighbour-of : (s : Shape) (a l v : ℕ) → NumberOf (1 ∷ 2 ∷ 3 ∷ 4 ∷ 20 ∷ 21 ∷ []) (neighbourAnswer s a l v)
+  pub level-between : (s : Shape) (a b : ℕ) → BetweenOf (1 ∷ 2 ∷ 3 ∷ 4 ∷ []) (betweenAnswer s a b)
+  -- links
+  pub table-refusal : (s : Shape) (t : List ℕ) → OneOf (1 ∷ 2 ∷ 3 ∷ 6 ∷ []) (roomTableRefusal s t)
+  pub failed-link : (s : Shape) (t : List ℕ) (a l : ℕ) → AskedOf (1 ∷ 2 ∷ 3 ∷ 4 ∷ 20 ∷ 6 ∷ []) (failedAnswer s t a l)
+  pub mark-or-clear : (s : Shape) (t : List ℕ) (a l : ℕ) → RefusalOf 0 (1 ∷ 2 ∷ 3 ∷ 4 ∷ 20 ∷ 6 ∷ []) (linkAnswer s t a l)
+  -- path
+  pub ends-refusal : (s : Shape) (a d : ℕ) → OneOf (1 ∷ 2 ∷ 3 ∷ 4 ∷ 5 ∷ []) (endsRefusal s a d)
+  pub hop-of : (s : Shape) (a b : ℕ) → HopOf (1 ∷ 2 ∷ 3 ∷ 4 ∷ 8 ∷ 9 ∷ 10 ∷ []) (hopAnswer s a b)
+  pub walk : (s : Shape) (t : List ℕ) (a d : ℕ) (bs : List ℕ) → WalkedOf (1 ∷ 2 ∷ 3 ∷ 4 ∷ 5 ∷ 7 ∷ 8 ∷ 9 ∷ 10 ∷ 11 ∷ 12 ∷ 13 ∷ 14 ∷ []) (walkAnswer s t a d bs)
+  pub read-path : (s : Shape) (a d : ℕ) (bs : List ℕ) → ReadingOf (1 ∷ 2 ∷ 3 ∷ 4 ∷ 5 ∷ 7 ∷ 8 ∷ 9 ∷ 10 ∷ 12 ∷ 13 ∷ 14 ∷ []) (readAnswer s a d bs)
+  pub reverse-path : (s : Shape) (a d : ℕ) (bs : List ℕ) → WritingOf (1 ∷ 2 ∷ 3 ∷ 4 ∷ 5 ∷ 7 ∷ 8 ∷ 9 ∷ 10 ∷ 12 ∷ 13 ∷ 14 ∷ []) (reverseAnswer s a d bs)
+  pub write-path : (s : Shape) (vs : List ℕ) → WritingOf (1 ∷ 2 ∷ 3 ∷ 22 ∷ 4 ∷ 5 ∷ 23 ∷ 12 ∷ []) (writeAnswer s vs)
+  -- verdict: the routes are the arrays of the list
+  pub check-list : (s : Shape) (t : List ℕ) (a d : ℕ) (bs : List ℕ)
+      → RefusalOf (length bs / 8) (1 ∷ 2 ∷ 3 ∷ 4 ∷ 5 ∷ 6 ∷ 7 ∷ 8 ∷ 9 ∷ 10 ∷ 11 ∷ 12 ∷ 13 ∷ 14 ∷ 15 ∷ []) (checkAnswer s t a d bs)
+  -- build, finder, select
+  pub build-routes : (s : Shape) (a d : ℕ) → BuildingOf (1 ∷ 2 ∷ 3 ∷ 4 ∷ 5 ∷ []) (buildAnswer s a d)
+  pub find-route : (s : Shape) (t : List ℕ) (a d : ℕ) (x : Found) → Finding s t a d x → FoundOf (1 ∷ 2 ∷ 3 ∷ 4 ∷ 5 ∷ 6 ∷ []) x
+  pub select-routes : (s : Shape) (t : List ℕ) (a d : ℕ) (x : Selection) → Selecting s t a d x → SelectionOf (1 ∷ 2 ∷ 3 ∷ 4 ∷ 5 ∷ 6 ∷ 16 ∷ []) x
+  -- pick: the number through the companion, and on a refusal the part is empty
+  pub pick-refusal : (s : Shape) (t : List ℕ) (a d : ℕ) (fs ks : List ℕ) → RefusalOf 0 (1 ∷ 2 ∷ 3 ∷ 4 ∷ 5 ∷ 6 ∷ 7 ∷ 16 ∷ []) (pickAnswer s t a d fs ks)
+  pub pick-place : (s : Shape) (t : List ℕ) (a d : ℕ) (fs ks : List ℕ) → PlaceOf (1 ∷ 2 ∷ 3 ∷ 4 ∷ 5 ∷ 6 ∷ 7 ∷ 16 ∷ []) (placeAnswer s t a d fs ks)
+  pub pick-route : (s : Shape) (t : List ℕ) (a d : ℕ) (fs ks : List ℕ) → pickAnswer s t a d fs ks .number ≢ 0 → pickedBytes (pickSource s t a d fs ks) fs ks ≡ []
+  -- step: for 8, 9, 10 and 19 the hop is the index + 1
+  pub step-once : (s : Shape) (a d i : ℕ) (bs e : List ℕ) → StepOf (1 ∷ 2 ∷ 3 ∷ 4 ∷ 17 ∷ 7 ∷ 18 ∷ 8 ∷ 9 ∷ 10 ∷ 19 ∷ []) (stepAnswer s a d i bs e)
+  pub step-hop : (s : Shape) (a d i : ℕ) (bs e : List ℕ)
+      → ofAHop (stepAnswer s a d i bs e .refusal .number) ≡ true → stepAnswer s a d i bs e .refusal ≡ refusedAt (stepAnswer s a d i bs e .refusal .number) 1 (i + 1)
+
+-- ---- lent buffers
+
+-- the calls that can write to what they are lent leave it as it was where they refuse; all others are lent it to read
+pub record EveryBuffer : Type 0 where
+  -- marking and clearing
+  pub marked : (s : Shape) (t : List ℕ) (a l : ℕ) → linkAnswer s t a l .number ≢ 0 → markedTable s t a l ≡ t
+  pub cleared : (s : Shape) (t : List ℕ) (a l : ℕ) → linkAnswer s t a l .number ≢ 0 → clearedTable s t a l ≡ t
+  -- the calls from C, whose contracts say of each buffer that they write: `left` of the refusal's number, what was lent and what is written
+  pub from-c : (r : ℕ) (lent written : List ℕ) → r ≢ 0 → left r lent written ≡ lent
+
+-- ---- the hop of 8 to 12, the places of 14 and 15
+
+-- the hop where a refusal of an array arises: the servers met before are a way over live links from the source, each server and each
+-- switch on it once, that has not met the destination; the array's bytes are those of that way, then the byte that is refused
+pub record Arises (s : Shape) (t : List ℕ) (a d : ℕ) (bs : List ℕ) (r h : ℕ) : Type 0 where
+  pub servers : List ℕ
+  pub byte : ℕ
+  pub rest : List ℕ
+  pub way : Prefix s t servers
+  pub source : getD servers 0 0 ≡ a
+  pub away : (i : ℕ) → i < length servers → getD servers i 0 ≢ d
+  pub bytes : bs ≡ inTurn (byteTo s) servers ++ (byte ∷ rest)
+  pub hop : h ≡ length servers
+  pub refused : fault s t servers (switchesOf s servers) (getD servers (length servers - 1) 0) byte ≡ r
+
+abbrev pub HopPlace : Type 0
+HopPlace =
+    (s : Shape) (t : List ℕ) (a d : ℕ) (bs : List ℕ) →
+    8 ≤ walkAnswer s t a d bs .refusal .number →
+    walkAnswer s t a d bs .refusal .number ≤ 12 →
+    Arises s t a d bs (walkAnswer s t a d bs .refusal .number) (walkAnswer s t a d bs .refusal .hop)
+
+-- bytes with zeros from place p on, the first counted as 0
+abbrev pub zeroFrom : ℕ → List ℕ → List ℕ
+zeroFrom p [] = []
+zeroFrom zero (b ∷ bs) = 0 ∷ zeroFrom zero bs
+zeroFrom (suc p) (b ∷ bs) = b ∷ zeroFrom p bs
+
+-- for 14 the hop is the place of the first byte after arrival that is not zero: it is not, and with zeros from it on the array is read
+-- without refusal
+abbrev pub FirstAfterArrival : Type 0
+FirstAfterArrival =
+    (s : Shape) (t : List ℕ) (a d : ℕ) (bs : List ℕ) →
+    walkAnswer s t a d bs .refusal .number ≡ 14 →
+    (p : ℕ) × (walkAnswer s t a d bs .refusal ≡ refusedAt 14 1 (suc p)) × (getD bs p 0 ≢ 0) × (walkAnswer s t a d (zeroFrom p bs) .refusal ≡ none)
+
+-- in a list the routes go in list order, and the first that is refused by itself is the refusal's, with its hop
+pub record FirstRefused (walks : List Walked) (r : Refusal) : Type 0 where
+  pub place : ℕ
+  pub within : place < length walks
+  pub refused : getD walks place nowhere .refusal .number ≢ 0
+  pub before : (i : ℕ) → i < place → getD walks i nowhere .refusal .number ≡ 0
+  pub here : r ≡ refusedAt (getD walks place nowhere .refusal .number) (suc place) (getD walks place nowhere .refusal .hop)
+
+-- 15 comes after all of them; it takes pairs by first, then second route, and the route is the later of the pair
+pub record FirstPair (walks : List Walked) (r : Refusal) : Type 0 where
+  pub first : ℕ
+  pub second : ℕ
+  pub order : first < second
+  pub within : second < length walks
+  pub read : (i : ℕ) → i < length walks → getD walks i nowhere .refusal .number ≡ 0
+  pub meet : parallel (getD walks first nowhere) (getD walks second nowhere) ≡ false
+  pub before : (i j : ℕ) → i < j → j < length walks → (i < first) ⊎ ((i ≡ first) × (j < second)) → parallel (getD walks i nowhere) (getD walks j nowhere) ≡ true
+  pub here : r ≡ refusedAt 15 (suc second) 0
+
+-- a list that is not refused as a whole is refused for its first refused array, or, where all are read, for its first pair
+abbrev pub ListPlace : Type 0
+ListPlace =
+    (s : Shape) (t : List ℕ) (a d : ℕ) (bs : List ℕ) →
+    listRefusal s t a d bs ≡ 0 →
+    checkAnswer s t a d bs .number ≢ 0 →
+    FirstRefused (walksOf s t a d bs) (checkAnswer s t a d bs) ⊎ FirstPair (walksOf s t a d bs) (checkAnswer s t a d bs)

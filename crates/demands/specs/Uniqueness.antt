@@ -1,0 +1,323 @@
+-- Each public function's contract, as the prover reads it from the source: it takes every input, and it determines the answer. A line for
+-- each public function, by its name.
+use Prim.Native.Nat.{ℕ}
+use mathlib.Core.Path.{_≡_}
+use mathlib.Core.List.{List}
+use borrow.Fn.Kinds.{PK, RK, Out, Dens, endedOf, resT}
+use denote.Triple.Clauses.{AtExit}
+use denote.Ref.{now, ptr}
+use contract.Lifetimes.{Lfts}
+use Rattle.room.specs.Determined.{Determined}
+use Rattle.room.proofs.Shape.new.Reads as shape-new-reads
+use Rattle.room.proofs.Shape.new.Kinds as shape-new-kinds
+use Rattle.room.proofs.Refusal.none.Reads as refusal-none-reads
+use Rattle.room.proofs.Refusal.none.Kinds as refusal-none-kinds
+use Rattle.room.proofs.Refusal.plain.Reads as refusal-plain-reads
+use Rattle.room.proofs.Refusal.plain.Kinds as refusal-plain-kinds
+use Rattle.room.proofs.Refusal.at.Reads as refusal-at-reads
+use Rattle.room.proofs.Refusal.at.Kinds as refusal-at-kinds
+use Rattle.room.proofs.shape_refusal.Reads as shape-refusal-reads
+use Rattle.room.proofs.shape_refusal.Kinds as shape-refusal-kinds
+use Rattle.room.proofs.server_refusal.Reads as server-refusal-reads
+use Rattle.room.proofs.server_refusal.Kinds as server-refusal-kinds
+use Rattle.room.proofs.link_refusal.Reads as link-refusal-reads
+use Rattle.room.proofs.link_refusal.Kinds as link-refusal-kinds
+use Rattle.room.proofs.servers_of.Reads as servers-of-reads
+use Rattle.room.proofs.servers_of.Kinds as servers-of-kinds
+use Rattle.room.proofs.bound_of.Reads as bound-of-reads
+use Rattle.room.proofs.bound_of.Kinds as bound-of-kinds
+use Rattle.room.proofs.digits_of.Reads as digits-of-reads
+use Rattle.room.proofs.digits_of.Kinds as digits-of-kinds
+use Rattle.room.proofs.digit_of.Reads as digit-of-reads
+use Rattle.room.proofs.digit_of.Kinds as digit-of-kinds
+use Rattle.room.proofs.address_of.Reads as address-of-reads
+use Rattle.room.proofs.address_of.Kinds as address-of-kinds
+use Rattle.room.proofs.switch_of.Reads as switch-of-reads
+use Rattle.room.proofs.switch_of.Kinds as switch-of-kinds
+use Rattle.room.proofs.neighbour_of.Reads as neighbour-of-reads
+use Rattle.room.proofs.neighbour_of.Kinds as neighbour-of-kinds
+use Rattle.room.proofs.level_between.Reads as level-between-reads
+use Rattle.room.proofs.level_between.Kinds as level-between-kinds
+use Rattle.links.proofs.failed_link.Reads as failed-link-reads
+use Rattle.links.proofs.failed_link.Kinds as failed-link-kinds
+use Rattle.links.proofs.mark_link.Reads as mark-link-reads
+use Rattle.links.proofs.mark_link.Kinds as mark-link-kinds
+use Rattle.links.proofs.clear_link.Reads as clear-link-reads
+use Rattle.links.proofs.clear_link.Kinds as clear-link-kinds
+use Rattle.links.proofs.is_live.Reads as is-live-reads
+use Rattle.links.proofs.is_live.Kinds as is-live-kinds
+use Rattle.links.proofs.table_refusal.Reads as table-refusal-reads
+use Rattle.links.proofs.table_refusal.Kinds as table-refusal-kinds
+use Rattle.path.proofs.hop_of.Reads as hop-of-reads
+use Rattle.path.proofs.hop_of.Kinds as hop-of-kinds
+use Rattle.path.proofs.is_among.Reads as is-among-reads
+use Rattle.path.proofs.is_among.Kinds as is-among-kinds
+use Rattle.path.proofs.ends_refusal.Reads as ends-refusal-reads
+use Rattle.path.proofs.ends_refusal.Kinds as ends-refusal-kinds
+use Rattle.path.proofs.walk.Reads as walk-reads
+use Rattle.path.proofs.walk.Kinds as walk-kinds
+use Rattle.path.proofs.read_path.Reads as read-path-reads
+use Rattle.path.proofs.read_path.Kinds as read-path-kinds
+use Rattle.path.proofs.write_path.Reads as write-path-reads
+use Rattle.path.proofs.write_path.Kinds as write-path-kinds
+use Rattle.path.proofs.reverse_path.Reads as reverse-path-reads
+use Rattle.path.proofs.reverse_path.Kinds as reverse-path-kinds
+use Rattle.verdict.proofs.check_list.Reads as check-list-reads
+use Rattle.verdict.proofs.check_list.Kinds as check-list-kinds
+use Rattle.build.proofs.RouteSet.new.Reads as route-set-new-reads
+use Rattle.build.proofs.RouteSet.new.Kinds as route-set-new-kinds
+use Rattle.build.proofs.RouteSet.with_route.Reads as route-set-with-route-reads
+use Rattle.build.proofs.RouteSet.with_route.Kinds as route-set-with-route-kinds
+use Rattle.build.proofs.build_routes.Reads as build-routes-reads
+use Rattle.build.proofs.build_routes.Kinds as build-routes-kinds
+use Rattle.finder.proofs.find_route.Reads as find-route-reads
+use Rattle.finder.proofs.find_route.Kinds as find-route-kinds
+use Rattle.select.proofs.select_routes.Reads as select-routes-reads
+use Rattle.select.proofs.select_routes.Kinds as select-routes-kinds
+use Rattle.pick.proofs.pick_route.Reads as pick-route-reads
+use Rattle.pick.proofs.pick_route.Kinds as pick-route-kinds
+use Rattle.pick.proofs.pick_place.Reads as pick-place-reads
+use Rattle.pick.proofs.pick_place.Kinds as pick-place-kinds
+use Rattle.pick.proofs.pick_refusal.Reads as pick-refusal-reads
+use Rattle.pick.proofs.pick_refusal.Kinds as pick-refusal-kinds
+use Rattle.step.proofs.step_once.Reads as step-once-reads
+use Rattle.step.proofs.step_once.Kinds as step-once-kinds
+use Rattle.step.proofs.bcube_step.Reads as bcube-step-reads
+use Rattle.step.proofs.bcube_step.Kinds as bcube-step-kinds
+use Rattle.step.proofs.bcube_step_mac.Reads as bcube-step-mac-reads
+use Rattle.step.proofs.bcube_step_mac.Kinds as bcube-step-mac-kinds
+use Rattle.desk_line.proofs.question_of.Reads as question-of-reads
+use Rattle.desk_line.proofs.question_of.Kinds as question-of-kinds
+use Rattle.desk_line.proofs.answer_line.Reads as answer-line-reads
+use Rattle.desk_line.proofs.answer_line.Kinds as answer-line-kinds
+use Rattle.driver.proofs.bcube_shape.Reads as c-shape-reads
+use Rattle.driver.proofs.bcube_shape.Kinds as c-shape-kinds
+use Rattle.driver.proofs.bcube_servers.Reads as c-servers-reads
+use Rattle.driver.proofs.bcube_servers.Kinds as c-servers-kinds
+use Rattle.driver.proofs.bcube_bound.Reads as c-bound-reads
+use Rattle.driver.proofs.bcube_bound.Kinds as c-bound-kinds
+use Rattle.driver.proofs.bcube_digits.Reads as c-digits-reads
+use Rattle.driver.proofs.bcube_digits.Kinds as c-digits-kinds
+use Rattle.driver.proofs.bcube_digit.Reads as c-digit-reads
+use Rattle.driver.proofs.bcube_digit.Kinds as c-digit-kinds
+use Rattle.driver.proofs.bcube_address.Reads as c-address-reads
+use Rattle.driver.proofs.bcube_address.Kinds as c-address-kinds
+use Rattle.driver.proofs.bcube_switch.Reads as c-switch-reads
+use Rattle.driver.proofs.bcube_switch.Kinds as c-switch-kinds
+use Rattle.driver.proofs.bcube_neighbour.Reads as c-neighbour-reads
+use Rattle.driver.proofs.bcube_neighbour.Kinds as c-neighbour-kinds
+use Rattle.driver.proofs.bcube_between.Reads as c-between-reads
+use Rattle.driver.proofs.bcube_between.Kinds as c-between-kinds
+use Rattle.driver.proofs.bcube_failed_link.Reads as c-failed-link-reads
+use Rattle.driver.proofs.bcube_failed_link.Kinds as c-failed-link-kinds
+use Rattle.driver.proofs.bcube_mark_link.Reads as c-mark-link-reads
+use Rattle.driver.proofs.bcube_mark_link.Kinds as c-mark-link-kinds
+use Rattle.driver.proofs.bcube_clear_link.Reads as c-clear-link-reads
+use Rattle.driver.proofs.bcube_clear_link.Kinds as c-clear-link-kinds
+use Rattle.driver.proofs.bcube_read.Reads as c-read-reads
+use Rattle.driver.proofs.bcube_read.Kinds as c-read-kinds
+use Rattle.driver.proofs.bcube_write.Reads as c-write-reads
+use Rattle.driver.proofs.bcube_write.Kinds as c-write-kinds
+use Rattle.driver.proofs.bcube_reverse.Reads as c-reverse-reads
+use Rattle.driver.proofs.bcube_reverse.Kinds as c-reverse-kinds
+use Rattle.driver.proofs.bcube_check.Reads as c-check-reads
+use Rattle.driver.proofs.bcube_check.Kinds as c-check-kinds
+use Rattle.driver.proofs.bcube_build.Reads as c-build-reads
+use Rattle.driver.proofs.bcube_build.Kinds as c-build-kinds
+use Rattle.driver.proofs.bcube_find.Reads as c-find-reads
+use Rattle.driver.proofs.bcube_find.Kinds as c-find-kinds
+use Rattle.driver.proofs.bcube_select.Reads as c-select-reads
+use Rattle.driver.proofs.bcube_select.Kinds as c-select-kinds
+use Rattle.driver.proofs.bcube_pick.Reads as c-pick-reads
+use Rattle.driver.proofs.bcube_pick.Kinds as c-pick-kinds
+use Rattle.driver.proofs.bcube_step.Reads as c-step-reads
+use Rattle.driver.proofs.bcube_step.Kinds as c-step-kinds
+use Rattle.driver.proofs.bcube_step_mac.Reads as c-step-mac-reads
+use Rattle.driver.proofs.bcube_step_mac.Kinds as c-step-mac-kinds
+
+-- ---- every input is taken: what a function may assume of its arguments holds of all of them
+
+abbrev pub Takes : (n : ℕ) (ps : List (PK n)) → ((κs : Lfts n) → Dens κs ps → Type 0) → Type 0
+Takes n ps pre = (κs : Lfts n) (a : Dens κs ps) → pre κs a
+
+pub record EveryInput : Type 0 where
+  -- room
+  pub shape-new : Takes 0 shape-new-kinds.ps shape-new-reads.Pre
+  pub refusal-none : Takes 0 refusal-none-kinds.ps refusal-none-reads.Pre
+  pub refusal-plain : Takes 0 refusal-plain-kinds.ps refusal-plain-reads.Pre
+  pub refusal-at : Takes 0 refusal-at-kinds.ps refusal-at-reads.Pre
+  pub shape-refusal : Takes 0 shape-refusal-kinds.ps shape-refusal-reads.Pre
+  pub server-refusal : Takes 0 server-refusal-kinds.ps server-refusal-reads.Pre
+  pub link-refusal : Takes 0 link-refusal-kinds.ps link-refusal-reads.Pre
+  pub servers-of : Takes 0 servers-of-kinds.ps servers-of-reads.Pre
+  pub bound-of : Takes 0 bound-of-kinds.ps bound-of-reads.Pre
+  pub digits-of : Takes 0 digits-of-kinds.ps digits-of-reads.Pre
+  pub digit-of : Takes 0 digit-of-kinds.ps digit-of-reads.Pre
+  pub address-of : Takes 0 address-of-kinds.ps address-of-reads.Pre
+  pub switch-of : Takes 0 switch-of-kinds.ps switch-of-reads.Pre
+  pub neighbour-of : Takes 0 neighbour-of-kinds.ps neighbour-of-reads.Pre
+  pub level-between : Takes 0 level-between-kinds.ps level-between-reads.Pre
+  -- links
+  pub failed-link : Takes 1 failed-link-kinds.ps failed-link-reads.Pre
+  pub mark-link : Takes 1 mark-link-kinds.ps mark-link-reads.Pre
+  pub clear-link : Takes 1 clear-link-kinds.ps clear-link-reads.Pre
+  pub is-live : Takes 1 is-live-kinds.ps is-live-reads.Pre
+  pub table-refusal : Takes 1 table-refusal-kinds.ps table-refusal-reads.Pre
+  -- path
+  pub hop-of : Takes 0 hop-of-kinds.ps hop-of-reads.Pre
+  pub is-among : Takes 1 is-among-kinds.ps is-among-reads.Pre
+  pub ends-refusal : Takes 0 ends-refusal-kinds.ps ends-refusal-reads.Pre
+  pub walk : Takes 2 walk-kinds.ps walk-reads.Pre
+  pub read-path : Takes 1 read-path-kinds.ps read-path-reads.Pre
+  pub write-path : Takes 1 write-path-kinds.ps write-path-reads.Pre
+  pub reverse-path : Takes 1 reverse-path-kinds.ps reverse-path-reads.Pre
+  -- verdict
+  pub check-list : Takes 2 check-list-kinds.ps check-list-reads.Pre
+  -- build
+  pub route-set-new : Takes 0 route-set-new-kinds.ps route-set-new-reads.Pre
+  pub route-set-with-route : Takes 0 route-set-with-route-kinds.ps route-set-with-route-reads.Pre
+  pub build-routes : Takes 0 build-routes-kinds.ps build-routes-reads.Pre
+  -- finder
+  pub find-route : Takes 1 find-route-kinds.ps find-route-reads.Pre
+  -- select
+  pub select-routes : Takes 1 select-routes-kinds.ps select-routes-reads.Pre
+  -- pick
+  pub pick-route : Takes 2 pick-route-kinds.ps pick-route-reads.Pre
+  pub pick-place : Takes 3 pick-place-kinds.ps pick-place-reads.Pre
+  pub pick-refusal : Takes 3 pick-refusal-kinds.ps pick-refusal-reads.Pre
+  -- step
+  pub step-once : Takes 2 step-once-kinds.ps step-once-reads.Pre
+  pub bcube-step : Takes 2 bcube-step-kinds.ps bcube-step-reads.Pre
+  pub bcube-step-mac : Takes 2 bcube-step-mac-kinds.ps bcube-step-mac-reads.Pre
+  -- desk_line
+  pub question-of : Takes 1 question-of-kinds.ps question-of-reads.Pre
+  pub answer-line : Takes 1 answer-line-kinds.ps answer-line-reads.Pre
+  -- driver: what C calls as bcube_shape, and so on
+  pub c-shape : Takes 0 c-shape-kinds.ps c-shape-reads.Pre
+  pub c-servers : Takes 0 c-servers-kinds.ps c-servers-reads.Pre
+  pub c-bound : Takes 0 c-bound-kinds.ps c-bound-reads.Pre
+  pub c-digits : Takes 1 c-digits-kinds.ps c-digits-reads.Pre
+  pub c-digit : Takes 0 c-digit-kinds.ps c-digit-reads.Pre
+  pub c-address : Takes 0 c-address-kinds.ps c-address-reads.Pre
+  pub c-switch : Takes 0 c-switch-kinds.ps c-switch-reads.Pre
+  pub c-neighbour : Takes 0 c-neighbour-kinds.ps c-neighbour-reads.Pre
+  pub c-between : Takes 0 c-between-kinds.ps c-between-reads.Pre
+  pub c-failed-link : Takes 1 c-failed-link-kinds.ps c-failed-link-reads.Pre
+  pub c-mark-link : Takes 1 c-mark-link-kinds.ps c-mark-link-reads.Pre
+  pub c-clear-link : Takes 1 c-clear-link-kinds.ps c-clear-link-reads.Pre
+  pub c-read : Takes 2 c-read-kinds.ps c-read-reads.Pre
+  pub c-write : Takes 2 c-write-kinds.ps c-write-reads.Pre
+  pub c-reverse : Takes 2 c-reverse-kinds.ps c-reverse-reads.Pre
+  pub c-check : Takes 2 c-check-kinds.ps c-check-reads.Pre
+  pub c-build : Takes 1 c-build-kinds.ps c-build-reads.Pre
+  pub c-find : Takes 2 c-find-kinds.ps c-find-reads.Pre
+  pub c-select : Takes 2 c-select-kinds.ps c-select-reads.Pre
+  pub c-pick : Takes 3 c-pick-kinds.ps c-pick-reads.Pre
+  pub c-step : Takes 2 c-step-kinds.ps c-step-reads.Pre
+  pub c-step-mac : Takes 2 c-step-mac-kinds.ps c-step-mac-reads.Pre
+
+-- ---- the answer is determined: two results that a contract allows at the same arguments are equal, which is `Determined`
+
+-- a contract determines what `left` gives of the parameters at exit
+abbrev pub Leaves : (n : ℕ) (ps : List (PK n)) (r : RK n) → Out n ps r → ((κs : Lfts n) → AtExit (endedOf n ps r) κs → List ℕ) → Type 0
+Leaves n ps r post left =
+    (κs : Lfts n) (a : Dens κs ps) (x y : resT r κs .Denot) (s t : AtExit (endedOf n ps r) κs) → post κs a x s → post κs a y t → left κs s ≡ left κs t
+
+pub record Uniqueness : Type 0 where
+  -- room
+  pub shape-new : Determined 0 shape-new-kinds.ps shape-new-kinds.r shape-new-reads.Post
+  pub refusal-none : Determined 0 refusal-none-kinds.ps refusal-none-kinds.r refusal-none-reads.Post
+  pub refusal-plain : Determined 0 refusal-plain-kinds.ps refusal-plain-kinds.r refusal-plain-reads.Post
+  pub refusal-at : Determined 0 refusal-at-kinds.ps refusal-at-kinds.r refusal-at-reads.Post
+  pub shape-refusal : Determined 0 shape-refusal-kinds.ps shape-refusal-kinds.r shape-refusal-reads.Post
+  pub server-refusal : Determined 0 server-refusal-kinds.ps server-refusal-kinds.r server-refusal-reads.Post
+  pub link-refusal : Determined 0 link-refusal-kinds.ps link-refusal-kinds.r link-refusal-reads.Post
+  pub servers-of : Determined 0 servers-of-kinds.ps servers-of-kinds.r servers-of-reads.Post
+  pub bound-of : Determined 0 bound-of-kinds.ps bound-of-kinds.r bound-of-reads.Post
+  pub digits-of : Determined 0 digits-of-kinds.ps digits-of-kinds.r digits-of-reads.Post
+  pub digit-of : Determined 0 digit-of-kinds.ps digit-of-kinds.r digit-of-reads.Post
+  pub address-of : Determined 0 address-of-kinds.ps address-of-kinds.r address-of-reads.Post
+  pub switch-of : Determined 0 switch-of-kinds.ps switch-of-kinds.r switch-of-reads.Post
+  pub neighbour-of : Determined 0 neighbour-of-kinds.ps neighbour-of-kinds.r neighbour-of-reads.Post
+  pub level-between : Determined 0 level-between-kinds.ps level-between-kinds.r level-between-reads.Post
+  -- links
+  pub failed-link : Determined 1 failed-link-kinds.ps failed-link-kinds.r failed-link-reads.Post
+  pub mark-link : Determined 1 mark-link-kinds.ps mark-link-kinds.r mark-link-reads.Post
+  -- and the bytes of the table that it leaves behind
+  pub mark-link-leaves : Leaves 1 mark-link-kinds.ps mark-link-kinds.r mark-link-reads.Post (λ κs s. now (s .1 .0))
+  pub clear-link : Determined 1 clear-link-kinds.ps clear-link-kinds.r clear-link-reads.Post
+  -- and the bytes of the table that it leaves behind
+  pub clear-link-leaves : Leaves 1 clear-link-kinds.ps clear-link-kinds.r clear-link-reads.Post (λ κs s. now (s .1 .0))
+  pub is-live : Determined 1 is-live-kinds.ps is-live-kinds.r is-live-reads.Post
+  pub table-refusal : Determined 1 table-refusal-kinds.ps table-refusal-kinds.r table-refusal-reads.Post
+  -- path
+  pub hop-of : Determined 0 hop-of-kinds.ps hop-of-kinds.r hop-of-reads.Post
+  pub is-among : Determined 1 is-among-kinds.ps is-among-kinds.r is-among-reads.Post
+  pub ends-refusal : Determined 0 ends-refusal-kinds.ps ends-refusal-kinds.r ends-refusal-reads.Post
+  pub walk : Determined 2 walk-kinds.ps walk-kinds.r walk-reads.Post
+  pub read-path : Determined 1 read-path-kinds.ps read-path-kinds.r read-path-reads.Post
+  pub write-path : Determined 1 write-path-kinds.ps write-path-kinds.r write-path-reads.Post
+  pub reverse-path : Determined 1 reverse-path-kinds.ps reverse-path-kinds.r reverse-path-reads.Post
+  -- verdict
+  pub check-list : Determined 2 check-list-kinds.ps check-list-kinds.r check-list-reads.Post
+  -- build
+  pub route-set-new : Determined 0 route-set-new-kinds.ps route-set-new-kinds.r route-set-new-reads.Post
+  pub route-set-with-route : Determined 0 route-set-with-route-kinds.ps route-set-with-route-kinds.r route-set-with-route-reads.Post
+  pub build-routes : Determined 0 build-routes-kinds.ps build-routes-kinds.r build-routes-reads.Post
+  -- finder
+  pub find-route : Determined 1 find-route-kinds.ps find-route-kinds.r find-route-reads.Post
+  -- select
+  pub select-routes : Determined 1 select-routes-kinds.ps select-routes-kinds.r select-routes-reads.Post
+  -- pick
+  -- of the part that is returned: its bytes, and the block and offset where it lies
+  pub pick-route : (κs : Lfts 2) (a : Dens κs pick-route-kinds.ps) (x y : resT pick-route-kinds.r κs .Denot) (s t : AtExit (endedOf 2 pick-route-kinds.ps pick-route-kinds.r) κs) → pick-route-reads.Post κs a x s → pick-route-reads.Post κs a y t → (now x ≡ now y) × (ptr x ≡ ptr y)
+  pub pick-place : Determined 3 pick-place-kinds.ps pick-place-kinds.r pick-place-reads.Post
+  pub pick-refusal : Determined 3 pick-refusal-kinds.ps pick-refusal-kinds.r pick-refusal-reads.Post
+  -- step
+  pub step-once : Determined 2 step-once-kinds.ps step-once-kinds.r step-once-reads.Post
+  pub bcube-step : Determined 2 bcube-step-kinds.ps bcube-step-kinds.r bcube-step-reads.Post
+  pub bcube-step-mac : Determined 2 bcube-step-mac-kinds.ps bcube-step-mac-kinds.r bcube-step-mac-reads.Post
+  -- desk_line
+  pub question-of : Determined 1 question-of-kinds.ps question-of-kinds.r question-of-reads.Post
+  pub answer-line : Determined 1 answer-line-kinds.ps answer-line-kinds.r answer-line-reads.Post
+  -- driver: what C calls as bcube_shape, and so on
+  pub c-shape : Determined 0 c-shape-kinds.ps c-shape-kinds.r c-shape-reads.Post
+  pub c-servers : Determined 0 c-servers-kinds.ps c-servers-kinds.r c-servers-reads.Post
+  pub c-bound : Determined 0 c-bound-kinds.ps c-bound-kinds.r c-bound-reads.Post
+  pub c-digits : Determined 1 c-digits-kinds.ps c-digits-kinds.r c-digits-reads.Post
+  -- and the buffer that it leaves behind
+  pub c-digits-leaves : Leaves 1 c-digits-kinds.ps c-digits-kinds.r c-digits-reads.Post (λ κs s. now (s .1 .1 .1 .0))
+  pub c-digit : Determined 0 c-digit-kinds.ps c-digit-kinds.r c-digit-reads.Post
+  pub c-address : Determined 0 c-address-kinds.ps c-address-kinds.r c-address-reads.Post
+  pub c-switch : Determined 0 c-switch-kinds.ps c-switch-kinds.r c-switch-reads.Post
+  pub c-neighbour : Determined 0 c-neighbour-kinds.ps c-neighbour-kinds.r c-neighbour-reads.Post
+  pub c-between : Determined 0 c-between-kinds.ps c-between-kinds.r c-between-reads.Post
+  pub c-failed-link : Determined 1 c-failed-link-kinds.ps c-failed-link-kinds.r c-failed-link-reads.Post
+  pub c-mark-link : Determined 1 c-mark-link-kinds.ps c-mark-link-kinds.r c-mark-link-reads.Post
+  -- and the buffer that it leaves behind
+  pub c-mark-link-leaves : Leaves 1 c-mark-link-kinds.ps c-mark-link-kinds.r c-mark-link-reads.Post (λ κs s. now (s .1 .1 .1 .1 .0))
+  pub c-clear-link : Determined 1 c-clear-link-kinds.ps c-clear-link-kinds.r c-clear-link-reads.Post
+  -- and the buffer that it leaves behind
+  pub c-clear-link-leaves : Leaves 1 c-clear-link-kinds.ps c-clear-link-kinds.r c-clear-link-reads.Post (λ κs s. now (s .1 .1 .1 .1 .0))
+  pub c-read : Determined 2 c-read-kinds.ps c-read-kinds.r c-read-reads.Post
+  -- and the buffer that it leaves behind
+  pub c-read-leaves : Leaves 2 c-read-kinds.ps c-read-kinds.r c-read-reads.Post (λ κs s. now (s .1 .1 .1 .1 .1 .0))
+  pub c-write : Determined 2 c-write-kinds.ps c-write-kinds.r c-write-reads.Post
+  -- and the buffer that it leaves behind
+  pub c-write-leaves : Leaves 2 c-write-kinds.ps c-write-kinds.r c-write-reads.Post (λ κs s. now (s .1 .1 .1 .0))
+  pub c-reverse : Determined 2 c-reverse-kinds.ps c-reverse-kinds.r c-reverse-reads.Post
+  -- and the buffer that it leaves behind
+  pub c-reverse-leaves : Leaves 2 c-reverse-kinds.ps c-reverse-kinds.r c-reverse-reads.Post (λ κs s. now (s .1 .1 .1 .1 .1 .0))
+  pub c-check : Determined 2 c-check-kinds.ps c-check-kinds.r c-check-reads.Post
+  pub c-build : Determined 1 c-build-kinds.ps c-build-kinds.r c-build-reads.Post
+  -- and the buffer that it leaves behind
+  pub c-build-leaves : Leaves 1 c-build-kinds.ps c-build-kinds.r c-build-reads.Post (λ κs s. now (s .1 .1 .1 .1 .0))
+  pub c-find : Determined 2 c-find-kinds.ps c-find-kinds.r c-find-reads.Post
+  -- and the buffer that it leaves behind
+  pub c-find-leaves : Leaves 2 c-find-kinds.ps c-find-kinds.r c-find-reads.Post (λ κs s. now (s .1 .1 .1 .1 .1 .0))
+  pub c-select : Determined 2 c-select-kinds.ps c-select-kinds.r c-select-reads.Post
+  -- and the buffer that it leaves behind
+  pub c-select-leaves : Leaves 2 c-select-kinds.ps c-select-kinds.r c-select-reads.Post (λ κs s. now (s .1 .1 .1 .1 .1 .0))
+  pub c-pick : Determined 3 c-pick-kinds.ps c-pick-kinds.r c-pick-reads.Post
+  pub c-step : Determined 2 c-step-kinds.ps c-step-kinds.r c-step-reads.Post
+  pub c-step-mac : Determined 2 c-step-mac-kinds.ps c-step-mac-kinds.r c-step-mac-reads.Post

@@ -1,0 +1,72 @@
+-- The answer of picking fits the result word.
+use Prim.Native.Nat.{ℕ, suc, _+_, _*_, _%_, _≤_, _<_}
+use native.Mathlib.Omega.{arith}
+use native.Mathlib.Decide.{ℕ-discrete}
+use mathlib.Core.Path.{_≡_, refl, sym, ap, _∙_, subst}
+use mathlib.Core.List.{List}
+use mathlib.Core.Bool.{true, _&&_}
+use lib.Dec.{leb, eqb, lit≤, lit<}
+use lib.ListN.{length}
+use borrow.Author.Tests.{leb-true}
+use Rattle.room.specs.declared.Shape.{Shape}
+use Rattle.room.specs.Refusals.{_or-else_}
+use Rattle.room.proofs.RefusalLaws.{or-else-zero, test-held, both-held}
+use Rattle.links.specs.Table.{tableRefusal}
+use Rattle.path.specs.Answers.{endsRefusal}
+use Rattle.path.proofs.CodecLaws.{ends-of}
+use Rattle.verdict.specs.Checks.{roomRefusal}
+use Rattle.pick.specs.declared.Place.{Place}
+use Rattle.pick.specs.Picks.{fits, listsRefusal, Source, inFresh, inKept, nowhere, found, pickSource, missing, pickRefusal}
+use Rattle.pick.specs.Chosen.{Chosen}
+use Rattle.pick.specs.Places.{noPlace, placeOf, placeAnswer}
+use Rattle.pick.proofs.PickLaws.{from-refused}
+use Rattle.pick.proofs.Promises.{source-chosen, lists-small}
+use Rattle.driver.specs.Words.{word, Small, placeWord}
+use Rattle.driver.proofs.WordLaws.{chain-le, none-small, plain-small}
+
+module _ (s : Shape) (t : List ℕ) (a d : ℕ) (fs ks : List ℕ) where
+  -- lists that are not refused have at most four arrays
+  lists-short : listsRefusal s t a d fs ks ≡ 0 → (length fs ≤ 32) × (length ks ≤ 32)
+  unfolding listsRefusal roomRefusal fits
+  lists-short z =
+      let p = or-else-zero (roomRefusal s t a d) _ z in
+      let e = ends-of s a d (or-else-zero (endsRefusal s a d) (tableRefusal s t) (p .0) .0) in
+      let q = both-held (fits s (length fs)) (fits s (length ks)) (test-held _ 6 (p .1)) in
+      let f = leb-true (length fs) (8 * (s .k + 1)) (both-held (eqb (length fs % 8) 0) (leb (length fs) (8 * (s .k + 1))) (q .0) .1) in
+      let g = leb-true (length ks) (8 * (s .k + 1)) (both-held (eqb (length ks % 8) 0) (leb (length ks) (8 * (s .k + 1))) (q .1) .1) in
+      (omega (arith, e .source .valid .levels, f), omega (arith, e .source .valid .levels, g))
+
+  missing-le : (x : Source) → missing x ≤ 23
+  missing-le (inFresh i) = lit≤ tt
+  missing-le (inKept i) = lit≤ tt
+  missing-le nowhere = lit≤ tt
+
+  refusal-le : pickRefusal s t a d fs ks ≤ 23
+  unfolding pickRefusal
+  refusal-le =
+      let h = lists-small s t a d fs ks in
+      chain-le 23 (listsRefusal s t a d fs ks) (missing (found s t a d fs ks)) (omega arith) (missing-le (found s t a d fs ks))
+
+  place-of-small : (r : ℕ) → r ≤ 23 → (x : Source) → Chosen s t a d fs ks x → (length fs ≤ 32) × (length ks ≤ 32) → Small (placeOf r x .refusal) (256 * placeOf r x .list + placeOf r x .route)
+  place-of-small r h (inFresh i) c l = let w = c .within in none-small (256 * 1 + (i + 1)) (omega (arith, l .0))
+  place-of-small r h (inKept i) c l = let w = c .1 .within in none-small (256 * 2 + (i + 1)) (omega (arith, l .1))
+  place-of-small r h nowhere c l = plain-small r h
+
+  place-answer-small : Small (placeAnswer s t a d fs ks .refusal) (256 * placeAnswer s t a d fs ks .list + placeAnswer s t a d fs ks .route)
+  unfolding placeAnswer
+  place-answer-small =
+      elim (ℕ-discrete (listsRefusal s t a d fs ks) 0) [
+        | yes z ↦ place-of-small (pickRefusal s t a d fs ks) refusal-le (pickSource s t a d fs ks) (source-chosen s t a d fs ks z) (lists-short z)
+        | no n ↦
+            subst (λ (x : Source). Small (placeOf (pickRefusal s t a d fs ks) x .refusal) (256 * placeOf (pickRefusal s t a d fs ks) x .list + placeOf (pickRefusal s t a d fs ks) x .route))
+            (from-refused s t a d fs ks (listsRefusal s t a d fs ks) refl n)
+            (plain-small (pickRefusal s t a d fs ks) refusal-le)
+      ]
+
+  pub pick-small : (x : Place) → x ≡ placeAnswer s t a d fs ks → Small (x .refusal) (256 * x .list + x .route)
+  pick-small x e = subst (λ (y : Place). Small (y .refusal) (256 * y .list + y .route)) (sym e) place-answer-small
+
+-- what the call says of the place, asked with the shape q
+pub pick-said : {s q : Shape} (t : List ℕ) (a d : ℕ) (fs ks : List ℕ) {w : ℕ} {x : Place} → x ≡ placeAnswer s t a d fs ks → s ≡ q → w ≡ word (x .refusal) (256 * x .list + x .route) → w ≡ placeWord (placeAnswer q t a d fs ks)
+unfolding placeWord
+pick-said t a d fs ks e g h = h ∙ ap placeWord (e ∙ ap (λ (z : Shape). placeAnswer z t a d fs ks) g)

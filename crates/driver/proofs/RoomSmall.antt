@@ -1,0 +1,265 @@
+-- The answers of the room and of the failed-link table fit the result word, and what the word then says.
+use Prim.Native.Nat.{ℕ, zero, suc, _+_, _≤_, _<_}
+use native.Mathlib.Numerals.{add-one}
+use native.Mathlib.Omega.{arith}
+use native.Mathlib.Decide.{decLe}
+use mathlib.Core.Path.{_≡_, refl, sym, ap, _∙_, subst}
+use mathlib.Core.Logic.{_≢_}
+use mathlib.Core.Bool.{Bool, true, false, cond}
+use mathlib.Core.List.{List, [], _∷_}
+use lib.Dec.{lit<, lit≤}
+use lib.ListN.{length, getD, replicate}
+use Rattle.room.specs.declared.Shape.{Shape}
+use Rattle.room.specs.declared.Refusal.{Refusal}
+use Rattle.room.specs.declared.Digits.{Digits}
+use Rattle.room.specs.declared.Switch.{Switch}
+use Rattle.room.specs.declared.Between.{Between}
+use Rattle.room.specs.Digits.{addressOf, padded}
+use Rattle.room.specs.Shapes.{serversOf, bound, Server, Link}
+use Rattle.room.specs.Addresses.{digits, digit, withDigit, switchOf, differing}
+use Rattle.room.specs.Refusals.{plain, shapeRefusal, levelRefusal, serverRefusal, pairRefusal, linkRefusal, valueRefusal, placesRefusal}
+use Rattle.room.specs.Answers.{answer, noDigits, someDigits, noSwitch, aSwitch, noBetween, onlyLevel, serversAnswer, boundAnswer, digitsAnswer, digitAnswer, addressAnswer, switchAnswer, neighbourAnswer, betweenAnswer}
+use Rattle.room.proofs.RefusalLaws.{valid-of, level-of, server-of, pair-of, link-of, value-of, places-of}
+use Rattle.room.proofs.DigitLaws.{pow-small}
+use Rattle.room.proofs.FourPlaces.{sums}
+use Rattle.room.proofs.RoomLaws.{bound-le, digits-long as levels-long, digit-lt, digit-past, with-server, switches-power, switch-lt, neighbours-exactly, padded-long, place-digit, places-below}
+use Rattle.links.specs.declared.Asked.{Asked}
+use Rattle.links.specs.Table.{failed, tableLinkRefusal}
+use Rattle.links.specs.Answers.{notAsked, asked, failedAnswer, linkAnswer}
+use Rattle.driver.specs.Words.{word, left, Small, switchWord, betweenWord, askedWord}
+use Rattle.driver.proofs.WordLaws.{none-small, plain-small, number-small, left-given, left-lent}
+use Rattle.driver.proofs.BoundLaws.{shape-le, level-le, server-le, pair-le, link-le, value-le, places-le, table-link-le}
+
+-- ---- a refusal of a call as a whole, with any number
+
+plain-with : (r v : ℕ) → r ≤ 23 → v < 4294967296 → Small (plain r) v
+plain-with r v h k = record { number = omega arith; route = lit< tt; hop = lit< tt; value = k }
+
+pub plain-fits : {r q : ℕ} {x : Refusal} (v : ℕ) → q ≤ 23 → v < 4294967296 → r ≡ q → x ≡ plain r → Small x v
+plain-fits {r} {q} {x} v h k e g = subst (λ (z : Refusal). Small z v) (sym (g ∙ ap plain e)) (plain-with q v h k)
+
+pub plain-said : (f : Shape → ℕ) {s t : Shape} {r : ℕ} {x : Refusal} {w : ℕ} → w ≡ word x 0 → x ≡ plain r → r ≡ f s → s ≡ t → w ≡ word (plain (f t)) 0
+plain-said f {s} {t} {r} {x} {w} h e g k = h ∙ ap (λ (z : Refusal). word z 0) (e ∙ ap plain (g ∙ ap f k))
+
+-- ---- numbers
+
+pub servers-small : (s : Shape) → Small (serversAnswer s .refusal) (serversAnswer s .value)
+unfolding serversAnswer
+servers-small s =
+    number-small (shapeRefusal s) (serversOf s) (shape-le s) (λ z. let v = valid-of s z in omega (arith, v .small))
+
+pub bound-small : (s : Shape) (l : ℕ) → Small (boundAnswer s l .refusal) (boundAnswer s l .value)
+unfolding boundAnswer
+bound-small s l =
+    number-small (levelRefusal s l) (bound s l) (level-le s l)
+    (λ z. let v = level-of s l z in omega (arith, bound-le (v .0) l, v .0 .ports))
+
+digit-lt-64 : {s : Shape} {a : ℕ} → Server s a → (l : ℕ) → l ≤ s .k → digit s l a < 64
+digit-lt-64 h l p = omega (arith, digit-lt h l p, bound-le (h .valid) l, h .valid .ports)
+
+pub digit-small : (s : Shape) (a l : ℕ) → Small (digitAnswer s a l .refusal) (digitAnswer s a l .value)
+unfolding digitAnswer
+digit-small s a l =
+    number-small (linkRefusal s a l) (digit s l a) (link-le s a l)
+    (λ z. let h = link-of s a l z in omega (arith, digit-lt-64 (h .server) l (h .level)))
+
+pub address-small : (s : Shape) (ds : List ℕ) → length ds ≡ 4 → Small (addressAnswer s ds .refusal) (addressAnswer s ds .value)
+unfolding addressAnswer
+address-small s ds e =
+    number-small (placesRefusal s ds) (addressOf (s .n) ds) (places-le s ds)
+    (λ z.
+    let p = places-of s ds z in
+    omega (arith, sums (s .n) ds (p .valid .ports) (places-below p) e .whole-fits))
+
+pub neighbour-small : (s : Shape) (a l v : ℕ) → Small (neighbourAnswer s a l v .refusal) (neighbourAnswer s a l v .value)
+unfolding neighbourAnswer
+neighbour-small s a l v =
+    number-small (valueRefusal s a l v) (withDigit s l v a) (value-le s a l v)
+    (λ z. let h = with-server (value-of s a l v z) in omega (arith, h .below, h .valid .small))
+
+-- ---- switches
+
+switch-lt-word : {s : Shape} {a l : ℕ} → Link s a l → switchOf s l a < 4294967296
+switch-lt-word {s} {a} {l} h =
+    let v = h .server .valid in
+    omega (arith, switch-lt h, switches-power v l, pow-small (s .n) (s .k) (v .ports) (omega (arith, v .levels)))
+
+switch-part : (r l w : ℕ) → r ≤ 23 → (r ≡ 0 → w < 4294967296) → Small (answer r noSwitch (aSwitch l w) .refusal) (answer r noSwitch (aSwitch l w) .number)
+switch-part zero l w h f = none-small w (f refl)
+switch-part (suc r) l w h f = plain-small (suc r) h
+
+pub switch-small : (s : Shape) (a l : ℕ) → Small (switchAnswer s a l .refusal) (switchAnswer s a l .number)
+unfolding switchAnswer
+switch-small s a l = switch-part (linkRefusal s a l) l (switchOf s l a) (link-le s a l) (λ z. switch-lt-word (link-of s a l z))
+
+pub switch-fits : (y x : Switch) → Small (y .refusal) (y .number) → x ≡ y → Small (x .refusal) (x .number)
+switch-fits y x h e = subst (λ (z : Switch). Small (z .refusal) (z .number)) (sym e) h
+
+pub switch-said : (f : Shape → Switch) {s t : Shape} {x : Switch} {w : ℕ} → w ≡ word (x .refusal) (x .number) → x ≡ f s → s ≡ t → w ≡ switchWord (f t)
+unfolding switchWord
+switch-said f {s} {t} {x} {w} h e g = h ∙ ap switchWord (e ∙ ap f g)
+
+-- ---- the level between two servers
+
+only-part : (ls : List ℕ) → ((l : ℕ) → ls ≡ l ∷ [] → l ≤ 3) → onlyLevel ls .level ≤ 3
+only-part [] f = lit≤ tt
+only-part (l ∷ []) f = f l refl
+only-part (l ∷ m ∷ ls) f = lit≤ tt
+
+level-part : (r : ℕ) (y : Between) → (r ≡ 0 → y .level ≤ 3) → answer r noBetween y .level ≤ 3
+level-part zero y f = f refl
+level-part (suc r) y f = lit≤ tt
+
+level-at : (s : Shape) (a b : ℕ) → betweenAnswer s a b .level ≤ 3
+unfolding betweenAnswer
+level-at s a b =
+    level-part (pairRefusal s a b) (onlyLevel (differing s a b))
+    (λ z.
+    let h = pair-of s a b z in
+    only-part (differing s a b)
+    (λ l e. omega (arith, neighbours-exactly (h .0) (h .1) l .0 e .level, h .0 .valid .levels)))
+
+pub between-level : (s : Shape) (a b : ℕ) {x : Between} → x ≡ betweenAnswer s a b → x .level ≤ 3
+between-level s a b {x} e = subst (λ (z : Between). z .level ≤ 3) (sym e) (level-at s a b)
+
+only-refusal : (ls : List ℕ) (v : ℕ) → v < 4294967296 → Small (onlyLevel ls .refusal) v
+only-refusal [] v k = none-small v k
+only-refusal (l ∷ []) v k = none-small v k
+only-refusal (l ∷ m ∷ ls) v k = none-small v k
+
+between-part : (r v : ℕ) (y : Between) → r ≤ 23 → v < 4294967296 → Small (y .refusal) v → Small (answer r noBetween y .refusal) v
+between-part zero v y h k f = f
+between-part (suc r) v y h k f = plain-with (suc r) v h k
+
+between-at : (s : Shape) (a b v : ℕ) → v < 4294967296 → Small (betweenAnswer s a b .refusal) v
+unfolding betweenAnswer
+between-at s a b v k =
+    between-part (pairRefusal s a b) v (onlyLevel (differing s a b)) (pair-le s a b) k (only-refusal (differing s a b) v k)
+
+pub between-fits : (s : Shape) (a b v : ℕ) {x : Between} → v < 4294967296 → x ≡ betweenAnswer s a b → Small (x .refusal) v
+between-fits s a b v {x} k e = subst (λ (z : Between). Small (z .refusal) v) (sym e) (between-at s a b v k)
+
+pub between-said : (f : Shape → Between) {s t : Shape} {x : Between} {w : ℕ} → w ≡ word (x .refusal) (x .level + 1) → x .adjacent ≡ true → x ≡ f s → s ≡ t → w ≡ betweenWord (f t)
+unfolding betweenWord
+between-said f {s} {t} {x} {w} h q e g =
+    h
+    ∙ ap (word (x .refusal)) (add-one (x .level))
+    ∙ ap (λ (b : Bool). word (x .refusal) (cond b (suc (x .level)) 0)) (sym q)
+    ∙ ap betweenWord (e ∙ ap f g)
+
+pub apart-said : (f : Shape → Between) {s t : Shape} {x : Between} {w : ℕ} → w ≡ word (x .refusal) 0 → x .adjacent ≡ false → x ≡ f s → s ≡ t → w ≡ betweenWord (f t)
+unfolding betweenWord
+apart-said f {s} {t} {x} {w} h q e g =
+    h
+    ∙ ap (λ (b : Bool). word (x .refusal) (cond b (suc (x .level)) 0)) (sym q)
+    ∙ ap betweenWord (e ∙ ap f g)
+
+-- ---- digits
+
+zeros-small : (n i : ℕ) → getD (replicate n 0) i 0 < 4294967296
+zeros-small zero i = lit< tt
+zeros-small (suc n) zero = lit< tt
+zeros-small (suc n) (suc i) = zeros-small n i
+
+padded-small : {s : Shape} {a : ℕ} → Server s a → (i : ℕ) → getD (padded (digits s a)) i 0 < 4294967296
+padded-small {s} {a} h i =
+    elim (decLe i (s .k)) [
+      | yes y ↦ omega (arith, place-digit s a i, digit-lt-64 h i y)
+      | no y ↦ omega (arith, place-digit s a i, digit-past s a i (omega arith))
+    ]
+
+digits-part : (r : ℕ) (ds : List ℕ) (i : ℕ) → (r ≡ 0 → getD ds i 0 < 4294967296) → getD (answer r noDigits (someDigits ds) .places) i 0 < 4294967296
+digits-part zero ds i f = f refl
+digits-part (suc r) ds i f = zeros-small 4 i
+
+digits-at : (s : Shape) (a i : ℕ) → getD (digitsAnswer s a .places) i 0 < 4294967296
+unfolding digitsAnswer
+digits-at s a i =
+    digits-part (serverRefusal s a) (padded (digits s a)) i (λ z. padded-small (server-of s a z) i)
+
+-- each place fits four bytes
+pub place-small : (s : Shape) (a i : ℕ) {x : Digits} → x ≡ digitsAnswer s a → getD (x .places) i 0 < 4294967296
+place-small s a i {x} e = subst (λ (z : Digits). getD (z .places) i 0 < 4294967296) (sym e) (digits-at s a i)
+
+digits-refusal : (r v : ℕ) (ds : List ℕ) → r ≤ 23 → v < 4294967296 → Small (answer r noDigits (someDigits ds) .refusal) v
+digits-refusal zero v ds h k = none-small v k
+digits-refusal (suc r) v ds h k = plain-with (suc r) v h k
+
+digits-with : (s : Shape) (a v : ℕ) → v < 4294967296 → Small (digitsAnswer s a .refusal) v
+unfolding digitsAnswer
+digits-with s a v k = digits-refusal (serverRefusal s a) v (padded (digits s a)) (server-le s a) k
+
+pub digits-fits : (s : Shape) (a v : ℕ) {x : Digits} → v < 4294967296 → x ≡ digitsAnswer s a → Small (x .refusal) v
+digits-fits s a v {x} k e = subst (λ (z : Digits). Small (z .refusal) v) (sym e) (digits-with s a v k)
+
+digits-four-long : (r : ℕ) (ds : List ℕ) → (r ≡ 0 → length ds ≡ 4) → length (answer r noDigits (someDigits ds) .places) ≡ 4
+digits-four-long zero ds f = f refl
+digits-four-long (suc r) ds f = refl
+
+digits-four : (s : Shape) (a : ℕ) → length (digitsAnswer s a .places) ≡ 4
+unfolding digitsAnswer
+digits-four s a =
+    digits-four-long (serverRefusal s a) (padded (digits s a))
+    (λ z. padded-long (digits s a) (omega (arith, levels-long s a, server-of s a z .valid .levels)))
+
+-- and there are four
+pub digits-long : (s : Shape) (a : ℕ) {x : Digits} → x ≡ digitsAnswer s a → length (x .places) ≡ 4
+digits-long s a {x} e = ap (λ (z : Digits). length (z .places)) e ∙ digits-four s a
+
+pub digits-said : (f : Shape → Digits) {s t : Shape} {x : Digits} {w : ℕ} → w ≡ word (x .refusal) 0 → x ≡ f s → s ≡ t → w ≡ word (f t .refusal) 0
+digits-said f {s} {t} {x} {w} h e g = h ∙ ap (λ (z : Digits). word (z .refusal) 0) (e ∙ ap f g)
+
+-- a buffer that keeps what was lent
+pub digits-kept : (f : Shape → Digits) {s t : Shape} {x : Digits} (lent : List ℕ) → x .refusal .number ≢ 0 → x ≡ f s → s ≡ t → lent ≡ left (f t .refusal .number) lent (f t .places)
+digits-kept f {s} {t} {x} lent h e g =
+    left-lent (x .refusal .number) lent (x .places) h
+    ∙ ap (λ (z : Digits). left (z .refusal .number) lent (z .places)) (e ∙ ap f g)
+
+-- a list of four, place by place
+pub four-places : (ds : List ℕ) → length ds ≡ 4 → getD ds 0 0 ∷ getD ds 1 0 ∷ getD ds 2 0 ∷ getD ds 3 0 ∷ [] ≡ ds
+four-places [] e = let z : ⊥ = omega arith in absurd z
+four-places (p ∷ []) e = let z : ⊥ = omega arith in absurd z
+four-places (p ∷ q ∷ []) e = let z : ⊥ = omega arith in absurd z
+four-places (p ∷ q ∷ r ∷ []) e = let z : ⊥ = omega arith in absurd z
+four-places (p ∷ q ∷ r ∷ t ∷ []) e = refl
+four-places (p ∷ q ∷ r ∷ t ∷ u ∷ ds) e = let z : ⊥ = omega arith in absurd z
+
+pub digits-put : (f : Shape → Digits) {s t : Shape} {x : Digits} (lent : List ℕ) → length (x .places) ≡ 4 → x .refusal .number ≡ 0 → x ≡ f s → s ≡ t → getD (x .places) 0 0 ∷ getD (x .places) 1 0 ∷ getD (x .places) 2 0 ∷ getD (x .places) 3 0 ∷ [] ≡ left (f t .refusal .number) lent (f t .places)
+digits-put f {s} {t} {x} lent l h e g =
+    four-places (x .places) l
+    ∙ left-given (x .refusal .number) lent (x .places) h
+    ∙ ap (λ (z : Digits). left (z .refusal .number) lent (z .places)) (e ∙ ap f g)
+
+-- ---- the failed-link table
+
+asked-part : (r v : ℕ) (b : Bool) → r ≤ 23 → v < 4294967296 → Small (answer r notAsked (asked b) .refusal) v
+asked-part zero v b h k = none-small v k
+asked-part (suc r) v b h k = plain-with (suc r) v h k
+
+asked-at : (s : Shape) (t : List ℕ) (a l v : ℕ) → v < 4294967296 → Small (failedAnswer s t a l .refusal) v
+unfolding failedAnswer
+asked-at s t a l v k = asked-part (tableLinkRefusal s t a l) v (failed t a l) (table-link-le s t a l) k
+
+pub asked-fits : (s : Shape) (t : List ℕ) (a l v : ℕ) {x : Asked} → v < 4294967296 → x ≡ failedAnswer s t a l → Small (x .refusal) v
+asked-fits s t a l v {x} k e = subst (λ (z : Asked). Small (z .refusal) v) (sym e) (asked-at s t a l v k)
+
+pub failed-said : (f : Shape → Asked) {s t : Shape} {x : Asked} {w : ℕ} → w ≡ word (x .refusal) 1 → x .failed ≡ true → x ≡ f s → s ≡ t → w ≡ askedWord (f t)
+unfolding askedWord
+failed-said f {s} {t} {x} {w} h q e g =
+    h ∙ ap (λ (b : Bool). word (x .refusal) (cond b 1 0)) (sym q) ∙ ap askedWord (e ∙ ap f g)
+
+pub live-said : (f : Shape → Asked) {s t : Shape} {x : Asked} {w : ℕ} → w ≡ word (x .refusal) 0 → x .failed ≡ false → x ≡ f s → s ≡ t → w ≡ askedWord (f t)
+unfolding askedWord
+live-said f {s} {t} {x} {w} h q e g =
+    h ∙ ap (λ (b : Bool). word (x .refusal) (cond b 1 0)) (sym q) ∙ ap askedWord (e ∙ ap f g)
+
+-- marking and clearing say the refusal alone
+link-at : (s : Shape) (t : List ℕ) (a l v : ℕ) → v < 4294967296 → Small (linkAnswer s t a l) v
+unfolding linkAnswer
+link-at s t a l v k = plain-with (tableLinkRefusal s t a l) v (table-link-le s t a l) k
+
+pub link-fits : (s : Shape) (t : List ℕ) (a l v : ℕ) {x : Refusal} → v < 4294967296 → x ≡ linkAnswer s t a l → Small x v
+link-fits s t a l v {x} k e = subst (λ (z : Refusal). Small z v) (sym e) (link-at s t a l v k)
+
+pub link-said : (f : Shape → Refusal) {s t : Shape} {x : Refusal} {w : ℕ} → w ≡ word x 0 → x ≡ f s → s ≡ t → w ≡ word (f t) 0
+link-said f {s} {t} {x} {w} h e k = h ∙ ap (λ (z : Refusal). word z 0) (e ∙ ap f k)

@@ -1,0 +1,25 @@
+-- `driver::paths::bcube_read` meets its contract. Assumes nothing.
+use borrow.Author.Needs.{needs}
+use denote.Ref.{now}
+use Rattle.room.specs.declared.Shape.{Shape}
+use Rattle.path.specs.declared.Reading.{Reading}
+use Rattle.path.specs.Answers.{readAnswer}
+use Rattle.driver.proofs.WordLaws.{told-fits, told-refused, told-given}
+use Rattle.driver.proofs.PathSmall.{read-small, read-found}
+use Rattle.driver.proofs.paths.bcube_read.Statement.{statement}
+use Rattle.driver.proofs.paths.bcube_read.Tie as tie
+
+pub bcube-read-spec : {M : Type 1} → statement M
+bcube-read-spec =
+    tie.close
+    (tie.spec
+    (λ c κs. search needs)
+    (λ c κs. search needs)
+    (λ c κs. told-fits (λ (x : Reading). x .refusal) (λ (x : Reading). x .count) (read-small _ _ _ _) (c .read-path .ensures))
+    (λ c.
+    let a = c .before .before .before .before .before .before .args in
+    told-refused (λ (x : Reading). x .refusal) (λ (x : Reading). x .count) (λ (s : Shape). readAnswer s (a .source) (a .destination) (now (a .path))) (c .before .before .before .read-path .ensures) (c .before .before .before .before .new .ensures) (c .before .before .result-word .ensures) (λ (x : Reading). x .servers) _ (c .if1 .taken))
+    (λ c κs. read-found _ _ _ _ (c .before .before .before .before .read-path .ensures) (c .before .if1 .left))
+    (λ c.
+    let a = c .before .before .before .before .before .before .before .before .args in
+    told-given (λ (x : Reading). x .refusal) (λ (x : Reading). x .count) (λ (s : Shape). readAnswer s (a .source) (a .destination) (now (a .path))) (c .before .before .before .before .before .read-path .ensures) (c .before .before .before .before .before .before .new .ensures) (c .before .before .before .before .result-word .ensures) (λ (x : Reading). x .servers) _ (c .before .before .if1 .left) (c .four-bytes-each .ensures)))

@@ -1,0 +1,17 @@
+-- `driver::picks::bcube_pick` meets its contract. Assumes nothing.
+use borrow.Author.Needs.{needs}
+use native.Mathlib.Omega.{arith}
+use Rattle.driver.proofs.PickSmall.{pick-small, pick-said}
+use Rattle.driver.proofs.picks.bcube_pick.Statement.{statement}
+use Rattle.driver.proofs.picks.bcube_pick.Tie as tie
+
+pub bcube-pick-spec : {M : Type 1} → statement M
+bcube-pick-spec =
+    tie.close
+    (tie.spec
+    (λ c κs. search needs)
+    (λ c κs. search needs)
+    (λ c. let h = pick-small _ _ _ _ _ _ _ (c .before .pick-place .ensures) in omega (arith, h .value))
+    (λ c. let h = pick-small _ _ _ _ _ _ _ (c .before .before .pick-place .ensures) in omega (arith, h .value))
+    (λ c κs. pick-small _ _ _ _ _ _ _ (c .before .before .pick-place .ensures))
+    (λ c. pick-said _ _ _ _ _ (c .before .before .before .pick-place .ensures) (c .before .before .before .before .new .ensures) (c .result-word .ensures)))

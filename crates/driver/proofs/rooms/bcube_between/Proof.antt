@@ -1,0 +1,19 @@
+-- `driver::rooms::bcube_between` meets its contract. Assumes nothing.
+use borrow.Author.Needs.{needs}
+use native.Mathlib.Omega.{arith}
+use Rattle.room.specs.Answers.{betweenAnswer}
+use Rattle.driver.proofs.RoomSmall.{between-level, between-fits, between-said, apart-said}
+use Rattle.driver.proofs.rooms.bcube_between.Statement.{statement}
+use Rattle.driver.proofs.rooms.bcube_between.Tie as tie
+
+pub bcube-between-spec : {M : Type 1} → statement M
+bcube-between-spec =
+    tie.close
+    (tie.spec
+    (λ c κs. search needs)
+    (λ c κs. search needs)
+    (λ c. let h = between-level _ _ _ (c .before .before .level-between .ensures) in omega arith)
+    (λ c κs. let h = between-level _ _ _ (c .before .before .level-between .ensures) in between-fits _ _ _ _ (omega arith) (c .before .before .level-between .ensures))
+    (λ c. let a = c .before .before .before .before .before .args in between-said (λ s. betweenAnswer s (a .one) (a .other)) (c .result-word .ensures) (c .before .before .if1 .taken) (c .before .before .before .level-between .ensures) (c .before .before .before .before .new .ensures))
+    (λ c κs. between-fits _ _ _ _ (omega arith) (c .before .level-between .ensures))
+    (λ c. let a = c .before .before .before .before .args in apart-said (λ s. betweenAnswer s (a .one) (a .other)) (c .result-word2 .ensures) (c .before .if1 .left) (c .before .before .level-between .ensures) (c .before .before .before .new .ensures)))

@@ -1,0 +1,16 @@
+-- `driver::rooms::bcube_servers` meets its contract. Assumes nothing.
+use borrow.Author.Needs.{needs}
+use Rattle.room.specs.Answers.{serversAnswer}
+use Rattle.driver.proofs.WordLaws.{number-said, number-fits}
+use Rattle.driver.proofs.RoomSmall.{servers-small}
+use Rattle.driver.proofs.rooms.bcube_servers.Statement.{statement}
+use Rattle.driver.proofs.rooms.bcube_servers.Tie as tie
+
+pub bcube-servers-spec : {M : Type 1} → statement M
+bcube-servers-spec =
+    tie.close
+    (tie.spec
+    (λ c κs. search needs)
+    (λ c κs. search needs)
+    (λ c κs. number-fits _ _ (servers-small _) (c .servers-of .ensures))
+    (λ c. number-said serversAnswer (c .result-word .ensures) (c .before .servers-of .ensures) (c .before .before .new .ensures)))

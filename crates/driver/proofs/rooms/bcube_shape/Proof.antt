@@ -1,0 +1,18 @@
+-- `driver::rooms::bcube_shape` meets its contract. Assumes nothing.
+use borrow.Author.Needs.{needs}
+use native.Mathlib.Omega.{arith}
+use Rattle.room.specs.Refusals.{shapeRefusal}
+use Rattle.driver.proofs.BoundLaws.{shape-le}
+use Rattle.driver.proofs.RoomSmall.{plain-fits, plain-said}
+use Rattle.driver.proofs.rooms.bcube_shape.Statement.{statement}
+use Rattle.driver.proofs.rooms.bcube_shape.Tie as tie
+
+pub bcube-shape-spec : {M : Type 1} → statement M
+bcube-shape-spec =
+    tie.close
+    (tie.spec
+    (λ c κs. search needs)
+    (λ c κs. search needs)
+    (λ c κs. search needs)
+    (λ c κs. plain-fits _ (shape-le _) (omega arith) (c .before .shape-refusal .ensures) (c .plain .ensures))
+    (λ c. plain-said shapeRefusal (c .result-word .ensures) (c .before .plain .ensures) (c .before .before .shape-refusal .ensures) (c .before .before .before .new .ensures)))

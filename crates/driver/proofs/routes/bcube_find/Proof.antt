@@ -1,0 +1,17 @@
+-- `driver::routes::bcube_find` meets its contract. Assumes nothing.
+use borrow.Author.Needs.{needs}
+use mathlib.Core.Path.{_∙_}
+use mathlib.Core.Logic.{⊎-elim}
+use Rattle.driver.proofs.WordLaws.{left-given, left-lent}
+use Rattle.driver.proofs.RouteSmall.{find-small, find-said}
+use Rattle.driver.proofs.routes.bcube_find.Statement.{statement}
+use Rattle.driver.proofs.routes.bcube_find.Tie as tie
+
+pub bcube-find-spec : {M : Type 1} → statement M
+bcube-find-spec =
+    tie.close
+    (tie.spec
+    (λ c κs. search needs)
+    (λ c κs. search needs)
+    (λ c κs. find-small _ (c .before .before .find-route .ensures))
+    (λ c. find-said (c .before .before .before .find-route .ensures) (c .before .before .before .before .new .ensures) (c .result-word .ensures) (⊎-elim (λ w. w .2 ∙ left-given _ _ _ (w .0 .taken)) (λ w. w .1 ∙ left-lent _ _ _ (w .0 .left)) (c .before .if1 .came))))

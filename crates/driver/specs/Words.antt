@@ -1,0 +1,91 @@
+-- The result word of a call, and what a call leaves in a lent buffer.
+use Prim.Native.Nat.{ℕ, zero, suc, _+_, _*_, _/_, _%_, _<_}
+use mathlib.Core.List.{List}
+use mathlib.Core.Bool.{cond}
+use lib.ListN.{getD}
+use Rattle.room.specs.declared.Refusal.{Refusal}
+use Rattle.room.specs.declared.Number.{Number}
+use Rattle.room.specs.declared.Digits.{Digits}
+use Rattle.room.specs.declared.Switch.{Switch}
+use Rattle.room.specs.declared.Between.{Between}
+use Rattle.links.specs.declared.Asked.{Asked}
+use Rattle.path.specs.declared.Reading.{Reading}
+use Rattle.path.specs.declared.Writing.{Writing}
+use Rattle.build.specs.declared.Building.{Building}
+use Rattle.pick.specs.declared.Place.{Place}
+
+-- from the lowest byte: the refusal's number, its route, its hop, 0, and a number of four bytes
+unfoldable pub word : Refusal → ℕ → ℕ
+word r v = 4294967296 * v + (65536 * r .hop + (256 * r .route + r .number))
+
+-- what a driver reads back of a word
+unfoldable pub refusalIn : ℕ → Refusal
+refusalIn w = record { number = w % 256; route = w / 256 % 256; hop = w / 65536 % 256 }
+
+unfoldable pub valueIn : ℕ → ℕ
+valueIn w = w / 4294967296
+
+-- each part fits its place in a word
+pub record Small (r : Refusal) (v : ℕ) : Type 0 where
+  pub number : r .number < 256
+  pub route : r .route < 256
+  pub hop : r .hop < 256
+  pub value : v < 4294967296
+
+-- what a call leaves in a buffer: what it writes where it refuses nothing, its number being 0, else what was lent
+abbrev pub left : ℕ → List ℕ → List ℕ → List ℕ
+left zero lent written = written
+left (suc r) lent written = lent
+
+-- ---- the words of the answers, and the buffers left
+
+unfoldable pub numberWord : Number → ℕ
+numberWord x = word (x .refusal) (x .value)
+
+-- the digits in the buffer
+abbrev pub digitsWord : Digits → ℕ
+digitsWord x = word (x .refusal) 0
+
+abbrev pub digitsLeft : List ℕ → Digits → List ℕ
+digitsLeft lent x = left (x .refusal .number) lent (x .places)
+
+-- the switch's number
+unfoldable pub switchWord : Switch → ℕ
+switchWord x = word (x .refusal) (x .number)
+
+-- the level counted from 1 where two servers are neighbours, else 0
+unfoldable pub betweenWord : Between → ℕ
+betweenWord x = word (x .refusal) (cond (x .adjacent) (suc (x .level)) 0)
+
+-- 1 where the link is failed, else 0
+unfoldable pub askedWord : Asked → ℕ
+askedWord x = word (x .refusal) (cond (x .failed) 1 0)
+
+-- the count of the servers in the word, the servers in the buffer
+abbrev pub readingWord : Reading → ℕ
+readingWord x = word (x .refusal) (x .count)
+
+abbrev pub readingLeft : List ℕ → Reading → List ℕ
+readingLeft lent x = left (x .refusal .number) lent (x .servers)
+
+-- the path bytes in the buffer
+abbrev pub writingWord : Writing → ℕ
+writingWord x = word (x .refusal) 0
+
+abbrev pub writingLeft : List ℕ → Writing → List ℕ
+writingLeft lent x = left (x .refusal .number) lent (x .bytes)
+
+-- the count of the routes in the word, the routes in the buffer
+abbrev pub buildingWord : Building → ℕ
+buildingWord x = word (x .refusal) (x .routes .count)
+
+abbrev pub buildingLeft : List ℕ → Building → List ℕ
+buildingLeft lent x = left (x .refusal .number) lent (x .routes .bytes)
+
+-- the list that holds a picked route, and its place there
+unfoldable pub placeWord : Place → ℕ
+placeWord x = word (x .refusal) (256 * x .list + x .route)
+
+-- each number of a list fits four bytes
+pub record FourBytes (xs : List ℕ) : Type 0 where
+  pub each : (i : ℕ) → getD xs i 0 < 4294967296
