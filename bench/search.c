@@ -3,6 +3,7 @@
  * search WHICH CASE TIMES: asks every question of a case TIMES times by one of the searches (proved, textbook
  * or none), and prints how many calls that were, the sum of what they answered, and the time they took. */
 #define _POSIX_C_SOURCE 199309L
+#include "bcube.h"
 #include "textbook.h"
 
 #include <inttypes.h>
@@ -10,10 +11,6 @@
 #include <stdlib.h>
 #include <string.h>
 #include <time.h>
-
-/* the proved search, of libdriver.a: the refusal's number plus 256 times the hops; and the path bytes */
-uint64_t bcube_find(FIND_ARGUMENTS);
-uint64_t bcube_find_bytes(FIND_ARGUMENTS);
 
 typedef uint64_t a_find(FIND_ARGUMENTS);
 
@@ -69,12 +66,14 @@ static int make_case(size_t c) {
     return questions;
 }
 
-static void compare(int i, uint32_t n, uint32_t k) {
+/* both searches on one question; gives the hops */
+static uint32_t compare(int i, uint32_t n, uint32_t k) {
     uint32_t a = question[i].source, d = question[i].destination;
     const uint8_t *table = question[i].table;
     size_t servers = servers_of(n, k);
-    uint64_t hops = bcube_find(n, k, a, d, table, servers), bytes = bcube_find_bytes(n, k, a, d, table, servers);
-    if (hops == textbook_find(n, k, a, d, table, servers) && bytes == textbook_find_bytes(n, k, a, d, table, servers)) return;
+    uint8_t proved[8], textbook[8];
+    uint64_t word = bcube_find(n, k, a, d, table, servers, proved);
+    if (word == textbook_find(n, k, a, d, table, servers, textbook) && memcmp(proved, textbook, 8) == 0) return bcube_value(word);
     printf("the searches differ in room (%" PRIu32 ",%" PRIu32 ") from %" PRIu32 " to %" PRIu32 "\n", n, k, a, d);
     exit(1);
 }
@@ -87,8 +86,7 @@ static int check(void) {
     for (int r = 0; r < RANDOM; r++, compared++) {
         uint32_t n = rooms[r % 9][0], k = rooms[r % 9][1], servers = servers_of(n, k);
         make_question(0, k, servers, below(2 * servers * (k + 1)), 0);
-        compare(0, n, k);
-        lengths[bcube_find(n, k, question[0].source, question[0].destination, question[0].table, servers) >> 8]++;
+        lengths[compare(0, n, k)]++;
     }
     printf("both searches answer alike on %d tables; random ones, by hops from 0 (no route) to 8:", compared);
     for (int h = 0; h <= 8; h++) printf(" %d", lengths[h]);
@@ -109,12 +107,13 @@ int main(int count, char **words) {
     uint32_t n = cases[c].n, k = cases[c].k;
     size_t servers = servers_of(n, k);
     unsigned long times = strtoul(words[3], NULL, 10);
+    uint8_t path[8];
     uint64_t sum = 0;
     struct timespec from, to;
     clock_gettime(CLOCK_MONOTONIC, &from);
     for (unsigned long t = 0; t < times; t++)
         for (int i = 0; i < made; i++)
-            sum += find(n, k, question[i].source, question[i].destination, question[i].table, servers);
+            sum += find(n, k, question[i].source, question[i].destination, question[i].table, servers, path);
     clock_gettime(CLOCK_MONOTONIC, &to);
     double ns = 1e9 * (double)(to.tv_sec - from.tv_sec) + (double)(to.tv_nsec - from.tv_nsec);
     printf("calls %lu sum %" PRIx64 " ns %.0f\n", times * (unsigned long)made, sum, ns);

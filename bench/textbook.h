@@ -7,10 +7,10 @@
 #include <stdint.h>
 
 #define FIND_ARGUMENTS                                                                                            \
-    uint32_t n, uint32_t k, uint32_t source, uint32_t destination, const uint8_t *table, size_t table_len
+    uint32_t n, uint32_t k, uint32_t source, uint32_t destination, const uint8_t *table, size_t table_len,        \
+        uint8_t path[8]
 
 uint64_t textbook_find(FIND_ARGUMENTS);
-uint64_t textbook_find_bytes(FIND_ARGUMENTS);
 uint64_t no_find(FIND_ARGUMENTS);
 
 #endif

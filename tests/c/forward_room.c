@@ -4,9 +4,11 @@
  * For each room and each of several failed-link tables: neighbour tables for every server are made from the
  * failed-link table; then for every pair of different servers every built route is forwarded. A route that
  * crosses no failed link must be delivered after exactly its hops; any other must be refused with 19 at its
- * first hop over one. Then paths are damaged, one byte at a time, and every step of each must be as the
- * plain step says. Last come steps with any numbers and lengths. Prints what was done; status 1 if
- * anything was not as it must be. */
+ * first hop over one. Then the library selects routes for the pair under the failed-link table, and every
+ * selected route must be delivered after exactly its hops; where it has none to give, no built route may be
+ * unbroken. Then paths are damaged, one byte at a time, and every step of each must be as the plain step
+ * says. Last come steps with any numbers and lengths. Prints what was done; status 1 if anything was not as
+ * it must be. */
 #include "bcube.h"
 
 #include <inttypes.h>
@@ -166,36 +168,72 @@ static struct route built(uint32_t source, uint32_t destination, uint32_t slot) 
     return r;
 }
 
+/* ---- selected routes, by the reading rule: up to the first arrival; hops 0 if there is none */
+
+static struct route taken(uint32_t source, uint32_t destination, const uint8_t *path) {
+    struct route r;
+    memset(&r, 0, sizeof r);
+    r.met[0] = source;
+    while (r.hops < 8 && r.met[r.hops] != destination) hop(&r, path[r.hops] / 64, path[r.hops] % 64);
+    if (r.met[r.hops] != destination || memcmp(r.path, path, 8) != 0) r.hops = 0;
+    return r;
+}
+
 /* ---- forwarding */
 
-static unsigned long delivered, broken, damaged;
+static unsigned long delivered, broken, selected, unreached, damaged;
 
-static void forward(const struct route *r, uint32_t destination) {
-    uint32_t first = 0; /* the first hop over a failed link, counted from 1; 0 if there is none */
-    for (uint32_t i = r->hops; i > 0; i--)
-        if (!live(r->met[i - 1], r->met[i], r->path[i - 1] / 64)) first = i;
-    uint32_t here = r->met[0], index = 0, count = 0;
+/* the first hop over a failed link, counted from 1; 0 if there is none */
+static uint32_t first_failed(const struct route *r) {
+    for (uint32_t i = 0; i < r->hops; i++)
+        if (!live(r->met[i], r->met[i + 1], r->path[i] / 64)) return i + 1;
+    return 0;
+}
+
+/* forwards a packet until it is delivered (1) or refused (0), either of which has to be as the route says */
+static int forward(const struct route *r, uint32_t destination) {
+    uint32_t first = first_failed(r), here = r->met[0], index = 0, count = 0;
     for (;;) {
         uint64_t s = held_step(n, k, here, destination, index, r->path, 8, tables[here], BCUBE_TABLE_BYTES);
         if (bcube_step_refusal(s) != 0) {
             if (first == 0 || bcube_step_refusal(s) != 19 || bcube_step_hop(s) != first || count + 1 != first)
                 wrong("a route is refused that must not be, or elsewhere", n, k, here, destination, index);
-            broken++;
-            return;
+            return 0;
         }
         if (bcube_step_delivered(s)) {
             if (first != 0 || count != r->hops || here != destination)
                 wrong("a delivery after another number of hops", n, k, here, destination, index);
-            delivered++;
-            return;
+            return 1;
         }
         count++;
         here = bcube_step_next(s);
         index = bcube_step_index(s);
         if (count > r->hops || here != r->met[count] || index != count) {
             wrong("not the next server of the route", n, k, here, destination, index);
-            return;
+            return 0;
         }
+    }
+}
+
+/* every route that the library selects for this pair; `unbroken` of its built routes cross no failed link */
+static void forward_selected(uint32_t source, uint32_t destination, uint32_t unbroken) {
+    uint8_t routes[BCUBE_LIST_BYTES];
+    uint64_t word = bcube_select(n, k, source, destination, failed, servers, routes);
+    uint32_t count = bcube_value(word);
+    if (bcube_refusal(word) == BCUBE_NO_ROUTE && unbroken == 0) {
+        unreached++;
+        return;
+    }
+    if (bcube_refusal(word) != BCUBE_NONE || count < unbroken || count < 1 || count > k + 1) {
+        wrong("a selection is refused, or has another number of routes", n, k, source, destination, 0);
+        return;
+    }
+    for (uint32_t i = 0; i < count; i++) {
+        struct route r = taken(source, destination, routes + 8 * i);
+        if (r.hops == 0 || first_failed(&r) != 0 || !forward(&r, destination))
+            wrong("a selected route does not lead to the destination", n, k, source, destination, i);
+        else
+            selected++;
     }
 }
 
@@ -221,16 +259,25 @@ static void damage(const struct route *r, uint32_t destination) {
     }
 }
 
+static void forward_pair(uint32_t source, uint32_t destination) {
+    uint32_t unbroken = 0;
+    for (uint32_t slot = 0; slot <= k; slot++) {
+        struct route r = built(source, destination, slot);
+        if (forward(&r, destination))
+            unbroken++;
+        else
+            broken++;
+        if (any(4) == 0) damage(&r, destination);
+    }
+    delivered += unbroken;
+    forward_selected(source, destination, unbroken);
+}
+
 static void forward_all(void) {
     make_tables();
     for (uint32_t a = 0; a < servers; a++)
         for (uint32_t d = 0; d < servers; d++)
-            for (uint32_t slot = 0; slot <= k; slot++) {
-                if (a == d) continue;
-                struct route r = built(a, d, slot);
-                forward(&r, d);
-                if (any(4) == 0) damage(&r, d);
-            }
+            if (a != d) forward_pair(a, d);
 }
 
 static void room(uint32_t ports, uint32_t levels) {
@@ -293,9 +340,11 @@ int main(void) {
     uint8_t path[8] = {0}, *table = tables[0];
     if (bcube_step(4, 1, 3, 3, 8, path, 8, table, 2048) != 65536) wrong("index 8 at the destination", 4, 1, 3, 3, 8);
     if (bcube_step(4, 1, 0, 3, 8, path, 8, table, 2048) != 18) wrong("index 8 elsewhere", 4, 1, 0, 3, 8);
-    printf("rooms (2,0) (5,0) (4,1) (2,3) (3,2) (3,3) (9,1), six failed-link tables each: %lu packets delivered after exactly\n"
-           "their hops, %lu refused at their first failed link, %lu damaged paths followed, %lu steps; %lu steps of any numbers\n",
-           delivered, broken, damaged, routed, steps - routed);
+    printf("rooms (2,0) (5,0) (4,1) (2,3) (3,2) (3,3) (9,1), six failed-link tables each: %lu packets on built routes\n"
+           "delivered after exactly their hops, %lu refused at their first failed link; %lu packets on selected routes\n"
+           "delivered after exactly their hops, %lu pairs with no route; %lu damaged paths followed, %lu steps; %lu steps\n"
+           "of any numbers\n",
+           delivered, broken, selected, unreached, damaged, routed, steps - routed);
     printf("%lu steps held to the rules, %lu wrong\n", steps, failures);
     free(tables);
     return failures != 0;

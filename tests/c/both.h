@@ -1,0 +1,51 @@
+/* One question put to both, the proved library and the plain implementation, and their answers compared:
+ * the words, every byte left in an out buffer, the bytes around it, and the lent buffers. See both.c. */
+#ifndef BOTH_H
+#define BOTH_H
+
+#include <stddef.h>
+#include <stdint.h>
+
+enum call {
+    SHAPE, SERVERS, BOUND, DIGITS, DIGIT, ADDRESS, SWITCH, NEIGHBOUR, BETWEEN,
+    FAILED_LINK, MARK_LINK, CLEAR_LINK,
+    READ, WRITE, REVERSE, CHECK,
+    BUILD, FIND, SELECT, PICK,
+    STEP, STEP_MAC,
+    CALLS
+};
+
+/* A call with its arguments: the shape, the other numbers, and the lent buffers, in the order in which the call
+ * takes them. Lengths count elements. */
+struct question {
+    enum call call;
+    uint32_t n, k, number[4];
+    struct {
+        const void *at;
+        size_t len;
+    } lent[3];
+};
+
+/* Makes the buffers. Once, before the first question. */
+void open_both(void);
+
+/* A readable area of more than 2^32 + 4,096 zero bytes, or NULL where the machine has none to give. */
+const void *vast_area(void);
+
+/* Asks both, counts the answer, and reports a difference. Gives the plain word. */
+uint64_t ask(const struct question *question);
+
+/* What the last question left in the plain out buffer. */
+const void *left(void);
+
+/* Reports a question whose answer is not the one worked by hand. */
+void not_as_worked(const struct question *question);
+
+unsigned long comparisons(void);
+unsigned long differences(void);
+
+/* Prints the counts by call and by refusal, and gives how many of these are amiss: a refusal that the call can
+ * give and that was never reached, or one that it cannot give. */
+int print_counts(void);
+
+#endif

@@ -1,0 +1,731 @@
+/* compare [ROUNDS]: puts the same questions to the proved library and to the plain implementation of plain.c,
+ * and compares the answers and every buffer, byte for byte.
+ *
+ * First come the numbers worked by hand; then every room of at most 64 servers: each server, level and value,
+ * each ordered pair under several failed-link tables, each path byte as a hop; then as many rounds (1 if not
+ * said) of questions of any kind in rooms of every size, with arguments and buffers damaged in every way that
+ * the rules name. The same numbers give the same run. Prints the counts by call and by refusal; status 1 if
+ * anything differs, or a refusal was never reached. */
+#include "both.h"
+
+#include "bcube.h"
+#include "plain.h"
+
+#include <stdio.h>
+#include <stdlib.h>
+#include <string.h>
+#include <time.h>
+#include <unistd.h>
+
+enum { ARRAY = 8, MOST = 4096, SMALL = 64 };
+
+/* ---- numbers that repeat from run to run */
+
+static uint64_t seed = 1;
+
+static uint32_t any(uint32_t below) {
+    seed = seed * 6364136223846793005u + 1442695040888963407u;
+    return (uint32_t)((seed >> 33) % below);
+}
+
+/* a number that a call should not be given, or should only just be */
+static uint32_t odd(void) {
+    static const uint32_t edge[] = {0, 1, 2, 3, 4, 5, 7, 8, 9, 31, 32, 33, 63, 64, 65, 127, 128, 255, 256, 257, 511, 512,
+                                    4095, 4096, 4097, 65535, 65536, 65537, 0x20000000, 0x40000000, 0x7fffffff,
+                                    0x80000000, 0x80000001, 0xfffffffe, 0xffffffff};
+    return any(8) == 0 ? any(0x80000000) : edge[any(sizeof edge / sizeof *edge)];
+}
+
+/* ---- the room that the questions are about, and its failed-link table */
+
+static uint32_t n, k, servers;
+static uint8_t failed[MOST + ARRAY];
+static uint8_t neighbours[BCUBE_TABLE_BYTES + ARRAY];
+
+static uint32_t power(uint32_t base, uint32_t exponent) {
+    uint32_t result = 1;
+    while (exponent-- > 0) result *= base;
+    return result;
+}
+
+static void enter(uint32_t ports, uint32_t levels) {
+    n = ports;
+    k = levels;
+    servers = power(n, k + 1);
+    memset(failed, 0, sizeof failed);
+}
+
+static uint32_t digit_of(uint32_t server, uint32_t level) { return server / power(n, level) % n; }
+
+/* the server at the other end of a hop, whatever the byte */
+static uint32_t after(uint32_t server, uint8_t byte) {
+    uint64_t word = plain_neighbour(n, k, server, byte / 64, byte % 64);
+    return bcube_refusal(word) ? server : bcube_value(word);
+}
+
+static uint32_t another(uint32_t server) { return (server + 1 + any(servers - 1)) % servers; }
+
+/* every link fails with a chance of one in so many; 0: none does */
+static void fail_links(uint32_t one_in) {
+    memset(failed, 0, sizeof failed);
+    for (uint32_t a = 0; a < servers && one_in; a++)
+        for (uint32_t level = 0; level <= k; level++)
+            if (any(one_in) == 0) failed[a] = (uint8_t)(failed[a] | 1u << level);
+}
+
+static void kill_server(uint32_t server) { failed[server] = (uint8_t)(power(2, k + 1) - 1); }
+
+/* fails a link of some hop of some built routes of this pair, so that there is something to replace */
+static void break_routes(uint32_t source, uint32_t destination) {
+    uint8_t routes[BCUBE_LIST_BYTES];
+    uint32_t on[9];
+    plain_build(n, k, source, destination, routes);
+    for (uint32_t i = 0; i <= k; i++) {
+        const uint8_t *array = routes + ARRAY * i;
+        uint32_t hop = any(bcube_value(plain_read(n, k, source, destination, array, ARRAY, on)) - 1);
+        if (any(3)) failed[on[hop + any(2)]] |= (uint8_t)(1u << array[hop] / 64);
+    }
+}
+
+/* a neighbour table; most flags say available */
+static void fill_neighbours(void) {
+    for (size_t i = 0; i < sizeof neighbours; i++) neighbours[i] = (uint8_t)any(256);
+    for (size_t i = BCUBE_ENTRY_FLAG; i < BCUBE_TABLE_BYTES; i += BCUBE_ENTRY_BYTES)
+        neighbours[i] = any(4) ? BCUBE_AVAILABLE : (uint8_t)any(256);
+}
+
+/* ---- questions */
+
+static struct question about(enum call call, uint32_t first, uint32_t second, uint32_t third, uint32_t fourth) {
+    struct question q = {.call = call, .n = n, .k = k, .number = {first, second, third, fourth}};
+    return q;
+}
+
+static void lend(struct question *q, int i, const void *at, size_t len) {
+    q->lent[i].at = at;
+    q->lent[i].len = len;
+}
+
+static uint64_t ask_numbers(enum call call, uint32_t first, uint32_t second, uint32_t third, uint32_t fourth) {
+    struct question q = about(call, first, second, third, fourth);
+    return ask(&q);
+}
+
+/* the calls with the failed-link table of the room, and for those that take them a list or two */
+static uint64_t ask_table(enum call call, uint32_t first, uint32_t second) {
+    struct question q = about(call, first, second, 0, 0);
+    lend(&q, 0, failed, servers);
+    return ask(&q);
+}
+
+static uint64_t ask_check(uint32_t source, uint32_t destination, const uint8_t *list, size_t len) {
+    struct question q = about(CHECK, source, destination, 0, 0);
+    lend(&q, 0, failed, servers);
+    lend(&q, 1, list, len);
+    return ask(&q);
+}
+
+static uint64_t ask_pick(uint32_t source, uint32_t destination, const uint8_t *fresh, size_t fresh_len,
+                         const uint8_t *kept, size_t kept_len) {
+    struct question q = about(PICK, source, destination, 0, 0);
+    lend(&q, 0, failed, servers);
+    lend(&q, 1, fresh, fresh_len);
+    lend(&q, 2, kept, kept_len);
+    return ask(&q);
+}
+
+static uint64_t ask_path(enum call call, uint32_t source, uint32_t destination, const uint8_t *path) {
+    struct question q = about(call, source, destination, 0, 0);
+    lend(&q, 0, path, ARRAY);
+    return ask(&q);
+}
+
+static void ask_step(uint32_t here, uint32_t destination, uint32_t index, const uint8_t *path) {
+    for (enum call call = STEP; call <= STEP_MAC; call++) {
+        struct question q = about(call, here, destination, index, 0);
+        lend(&q, 0, path, ARRAY);
+        lend(&q, 1, neighbours, BCUBE_TABLE_BYTES);
+        ask(&q);
+    }
+}
+
+static void ask_write(const uint32_t *met, size_t count) {
+    struct question q = about(WRITE, 0, 0, 0, 0);
+    lend(&q, 0, met, count);
+    ask(&q);
+}
+
+/* ---- the numbers worked by hand, in document 01 */
+
+static uint64_t refused(uint32_t number, uint32_t route, uint32_t hop) { return number | route << 8 | hop << 16; }
+
+static uint64_t valued(uint32_t value) { return (uint64_t)value << 32; }
+
+/* the answer has to be this word, and these bytes have to be left */
+static void worked(struct question q, uint64_t word, const void *bytes, size_t size) {
+    if (ask(&q) != word || memcmp(left(), bytes, size) != 0) not_as_worked(&q);
+}
+
+static struct question with(struct question q, const void *at, size_t len) {
+    lend(&q, q.lent[0].at ? 1 : 0, at, len);
+    return q;
+}
+
+static void worked_addresses(void) {
+    static const uint32_t digits[4] = {1, 1, 0, 1}, top[4] = {7, 7, 7, 7};
+    enter(8, 3);
+    worked(about(ADDRESS, 1, 0, 0, 0), valued(1), "", 0);
+    worked(about(ADDRESS, 1, 1, 0, 1), valued(521), "", 0);
+    worked(about(DIGITS, 521, 0, 0, 0), 0, digits, sizeof digits);
+    worked(about(DIGITS, 4095, 0, 0, 0), 0, top, sizeof top);
+    worked(about(DIGITS, 4096, 0, 0, 0), refused(4, 0, 0), "", 0);
+    static const struct { uint32_t n, k, why; } shapes[] = {{8, 3, 0}, {16, 2, 0}, {64, 1, 0}, {64, 0, 0}, {2, 0, 0},
+        {9, 3, 3}, {17, 2, 3}, {65, 0, 1}, {1, 2, 1}, {2, 4, 2}, {65, 4, 1}, {64, 4, 2}};
+    for (size_t i = 0; i < sizeof shapes / sizeof *shapes; i++)
+        worked((struct question){.call = SHAPE, .n = shapes[i].n, .k = shapes[i].k}, shapes[i].why, "", 0);
+}
+
+static void worked_routes(void) {
+    static const uint8_t figure4[32] = {0xc1, 0x41, 0, 0, 0, 0, 0, 0, 0x81, 0x41, 0xc1, 0x80, 0, 0, 0, 0,
+                                        0x41, 0xc1, 0, 0, 0, 0, 0, 0, 0x02, 0xc1, 0x41, 0x01, 0, 0, 0, 0};
+    static const uint8_t back[8] = {0x40, 0xc0}, built[32] = {0x41, 3, 0, 0, 0, 0, 0, 0, 3, 0x41};
+    static const uint8_t around[32] = {0x41, 3, 0, 0, 0, 0, 0, 0, 1, 0x42, 3, 0x41}, zero[32] = {0};
+    static const uint32_t last_two[9] = {1, 0};
+    enter(8, 3);
+    worked(about(BUILD, 1, 521, 0, 0), valued(4), figure4, 32);
+    worked(with(about(REVERSE, 1, 521, 0, 0), figure4, 8), 0, back, 8);
+    enter(4, 1);
+    worked(about(BUILD, 0, 7, 0, 0), valued(2), built, 32);
+    kill_server(3);
+    worked(with(about(SELECT, 0, 7, 0, 0), failed, servers), valued(2), around, 32);
+    enter(2, 0);
+    worked(about(BUILD, 1, 0, 0, 0), valued(1), zero, 32);
+    worked(with(about(READ, 1, 0, 0, 0), zero, 8), valued(2), last_two, sizeof last_two);
+    worked(about(BUILD, 0, 0, 0, 0), refused(5, 0, 0), "", 0);
+}
+
+static void worked_refusals(void) {
+    static const uint8_t twice[16] = {3, 0, 0, 0, 0, 0, 0, 0, 3}, same[8] = {1, 3}, eight[8] = {8}, level[8] = {0x80};
+    enter(4, 1);
+    worked(with(about(READ, 0, 3, 0, 0), same, 8), refused(12, 1, 2), "", 0);
+    worked(with(with(about(CHECK, 0, 3, 0, 0), failed, servers), twice, 16), refused(15, 2, 0), "", 0);
+    worked(with(about(READ, 0, 3, 0, 0), level, 8), refused(8, 1, 1), "", 0);
+    worked(with(with(about(STEP, 3, 3, 8, 0), twice, 8), neighbours, BCUBE_TABLE_BYTES), 1 << 16, "", 0);
+    worked(with(with(about(STEP, 0, 3, 8, 0), twice, 8), neighbours, BCUBE_TABLE_BYTES), 18, "", 0);
+    enter(8, 3);
+    worked(with(about(READ, 0, 3, 0, 0), eight, 8), refused(9, 1, 1), "", 0);
+}
+
+static void picked(uint64_t word, uint32_t list, uint32_t route, size_t offset) {
+    struct question q = about(PICK, 0, 3, 0, 0);
+    if (bcube_pick_list(word) != list || bcube_pick_route(word) != route || bcube_pick_offset(word) != offset)
+        not_as_worked(&q);
+}
+
+/* picking, read by its accessors: the second of the kept list, the first of the fresh list, and none */
+static void worked_picking(void) {
+    static const uint8_t unusable[8] = {3, 1}, lists[16] = {0x80, 0, 0, 0, 0, 0, 0, 0, 3};
+    enter(4, 1);
+    picked(ask_pick(0, 3, unusable, 8, lists, 16), BCUBE_KEPT, 2, 8);
+    picked(ask_pick(0, 3, lists + 8, 8, lists, 0), BCUBE_FRESH, 1, 0);
+    picked(ask_pick(0, 3, unusable, 8, lists, 8), 0, 0, 0);
+}
+
+/* ---- small rooms: every server, level and value */
+
+/* a number after those that are right: the first wrong ones, then the far ones */
+static uint32_t beyond(uint32_t number, uint32_t right) {
+    static const uint32_t far[] = {0x10000, 0x7fffffff, 0x80000000, 0xffffffff};
+    return number < right + 2 ? number : far[(number - right - 2) % 4];
+}
+
+static void every_value(uint32_t server, uint32_t level) {
+    ask_numbers(DIGIT, server, level, 0, 0);
+    ask_numbers(SWITCH, server, level, 0, 0);
+    ask_numbers(NEIGHBOUR, server, level, 0xffffffff, 0);
+    if (server < servers && level <= k)
+        for (uint32_t v = 0; v < n + 6; v++) ask_numbers(NEIGHBOUR, server, level, beyond(v, n), 0);
+}
+
+static void every_server(void) {
+    for (uint32_t i = 0; i < servers + 6; i++) {
+        uint32_t a = beyond(i, servers);
+        ask_numbers(DIGITS, a, 0, 0, 0);
+        for (uint32_t level = 0; level < k + 1 + 6; level++) every_value(a, beyond(level, k + 1));
+        for (uint32_t b = 0; b < servers + 6; b++) ask_numbers(BETWEEN, a, beyond(b, servers), 0, 0);
+    }
+}
+
+static void every_digit(void) {
+    uint32_t most[4];
+    for (uint32_t level = 0; level < 4; level++) most[level] = level <= k ? n + 2 : 3;
+    for (uint32_t a = 0; a < most[0]; a++)
+        for (uint32_t b = 0; b < most[1]; b++)
+            for (uint32_t c = 0; c < most[2]; c++)
+                for (uint32_t d = 0; d < most[3]; d++)
+                    ask_numbers(ADDRESS, a == n + 1 ? 0xffffffff : a, b, c == n + 1 ? 0x80000000 : c, d);
+    for (uint32_t level = 0; level < k + 1 + 6; level++) ask_numbers(BOUND, beyond(level, k + 1), 0, 0, 0);
+}
+
+/* every link asked, marked, marked again, cleared: the table is taken on from each */
+static void every_link(void) {
+    static const enum call turn[] = {FAILED_LINK, MARK_LINK, FAILED_LINK, MARK_LINK, CLEAR_LINK, CLEAR_LINK};
+    fail_links(4);
+    for (uint32_t i = 0; i < servers + 6; i++)
+        for (uint32_t j = 0; j < k + 1 + 6; j++)
+            for (size_t t = 0; t < sizeof turn / sizeof *turn; t++) {
+                uint64_t word = ask_table(turn[t], beyond(i, servers), beyond(j, k + 1));
+                if (turn[t] != FAILED_LINK && bcube_refusal(word) == 0) memcpy(failed, left(), servers);
+            }
+}
+
+/* ---- arrays of path bytes, right and wrong */
+
+static uint8_t any_hop(uint32_t here) {
+    uint32_t level = any(k + 1);
+    return (uint8_t)(64 * level + (digit_of(here, level) + 1 + any(n - 1)) % n);
+}
+
+/* some hops anywhere, then the digits corrected in any order, as far as eight bytes go */
+static void wander(uint32_t source, uint32_t destination, uint8_t array[ARRAY]) {
+    uint32_t here = source, at = 0, first = any(4), hops = any(6);
+    memset(array, 0, ARRAY);
+    while (at < hops) {
+        array[at] = any_hop(here);
+        here = after(here, array[at++]);
+    }
+    for (uint32_t i = 0; i < 4 && at < ARRAY; i++) {
+        uint32_t level = (first + i) % 4;
+        if (level > k || digit_of(here, level) == digit_of(destination, level)) continue;
+        array[at] = (uint8_t)(64 * level + digit_of(destination, level));
+        here = after(here, array[at++]);
+    }
+}
+
+/* eight hops that meet no server and use no switch twice, as well as that can be done, and do not arrive */
+static void roam(uint32_t source, uint32_t destination, uint8_t array[ARRAY]) {
+    uint32_t here = source;
+    for (uint32_t at = 0; at < ARRAY; at++)
+        for (int tries = 0; tries < 8; tries++) {
+            uint32_t met[9];
+            array[at] = any_hop(here);
+            memset(array + at + 1, 0, ARRAY - 1 - at);
+            uint32_t next = after(here, array[at]);
+            if (next == destination || next == source) continue;
+            if (bcube_refusal(plain_read(n, k, source, next, array, ARRAY, met)) != 0) continue;
+            here = next;
+            break;
+        }
+}
+
+static void make_array(uint32_t source, uint32_t destination, uint8_t array[ARRAY]) {
+    uint8_t routes[BCUBE_LIST_BYTES] = {0};
+    uint32_t kind = any(8);
+    if (kind < 3) {
+        plain_build(n, k, source, destination, routes);
+        memcpy(array, routes + ARRAY * any(k + 1), ARRAY);
+    } else if (kind < 6) {
+        wander(source, destination, array);
+    } else if (kind < 7) {
+        roam(source, destination, array);
+    } else {
+        for (int i = 0; i < ARRAY; i++) array[i] = (uint8_t)(any(2) ? any(256) : 64 * any(k + 1) + any(n));
+    }
+    if (any(6) == 0) array[any(ARRAY)] = (uint8_t)(any(2) ? any(256) : 64 * any(k + 1) + any(n));
+}
+
+/* the digits of here that differ from there, corrected in any order; gives the bytes that the array has then */
+static uint32_t go_on(uint32_t here, uint32_t there, uint8_t array[ARRAY], uint32_t at) {
+    while (here != there && at < ARRAY) {
+        uint32_t level = any(k + 1);
+        if (digit_of(here, level) == digit_of(there, level)) continue;
+        array[at] = (uint8_t)(64 * level + digit_of(there, level));
+        here = after(here, array[at++]);
+    }
+    return at;
+}
+
+/* the arrays of a list: all by way of one server, which they may share without sharing a switch; */
+static void by_way_of_one(uint32_t source, uint32_t destination, uint8_t *list, uint32_t count) {
+    uint32_t middle = any(servers);
+    for (uint32_t i = 0; i < count; i++)
+        go_on(middle, destination, list + ARRAY * i, go_on(source, middle, list + ARRAY * i, 0));
+}
+
+/* these routes, in any order and more than once; */
+static void with_repeats(const uint8_t *routes, uint8_t *list, uint32_t count) {
+    for (uint32_t i = 0; i < count; i++) memcpy(list + ARRAY * i, routes + ARRAY * any(k + 1), ARRAY);
+}
+
+/* or these routes in order, with others among them */
+static void with_others(uint32_t source, uint32_t destination, const uint8_t *routes, uint8_t *list, uint32_t count) {
+    for (uint32_t i = 0; i < count; i++)
+        if (any(4))
+            memcpy(list + ARRAY * i, routes + ARRAY * (i % (k + 1)), ARRAY);
+        else
+            make_array(source, destination, list + ARRAY * i);
+}
+
+/* a list, right or wrong, some of whose arrays may be of these routes; gives its bytes */
+static size_t make_list(uint32_t source, uint32_t destination, const uint8_t routes[BCUBE_LIST_BYTES], uint8_t list[64]) {
+    uint32_t count = any(8) == 0 ? any(k + 4) : 1 + any(k + 1), kind = any(8);
+    memset(list, 0, 64);
+    if (kind == 0)
+        by_way_of_one(source, destination, list, count);
+    else if (kind == 1)
+        with_repeats(routes, list, count);
+    else
+        with_others(source, destination, routes, list, count);
+    return ARRAY * count;
+}
+
+/* ---- small rooms: every pair */
+
+/* each route of a list read, reversed, and back again */
+static void read_list(uint32_t source, uint32_t destination, const uint8_t *list, uint32_t count) {
+    for (uint32_t i = 0; i < count; i++) {
+        uint64_t word = ask_path(READ, source, destination, list + ARRAY * i);
+        if (bcube_refusal(word) == 0) {
+            uint32_t met[9];
+            memcpy(met, left(), sizeof met);
+            ask_write(met, bcube_value(word));
+        }
+        if (bcube_refusal(ask_path(REVERSE, source, destination, list + ARRAY * i)) == 0) {
+            uint8_t back[ARRAY];
+            memcpy(back, left(), ARRAY);
+            ask_path(REVERSE, destination, source, back);
+        }
+    }
+}
+
+/* what depends on the failed-link table */
+static void one_pair(uint32_t source, uint32_t destination) {
+    uint8_t built[BCUBE_LIST_BYTES] = {0}, selected[BCUBE_LIST_BYTES] = {0}, list[64];
+    plain_build(n, k, source, destination, built);
+    ask_table(FIND, source, destination);
+    uint32_t count = bcube_value(ask_table(SELECT, source, destination));
+    if (count) memcpy(selected, left(), sizeof selected);
+    ask_check(source, destination, selected, ARRAY * count);
+    ask_pick(source, destination, built, ARRAY * any(k + 2), selected, ARRAY * count);
+    if (k == 0 || source == destination) return;
+    ask_check(source, destination, built, ARRAY * (k + 1));
+    ask_check(source, destination, list, make_list(source, destination, any(2) ? built : selected, list));
+    read_list(source, destination, selected, count);
+}
+
+static void every_pair(int also_built) {
+    for (uint32_t a = 0; a < servers; a++)
+        for (uint32_t d = 0; d < servers; d++) {
+            if (also_built) {
+                uint8_t built[BCUBE_LIST_BYTES] = {0};
+                uint32_t count = bcube_value(ask_numbers(BUILD, a, d, 0, 0));
+                memcpy(built, left(), sizeof built);
+                read_list(a, d, built, count);
+            }
+            one_pair(a, d);
+        }
+}
+
+static void pairs_under_tables(void) {
+    static const uint32_t one_in[] = {4, 12, 2};
+    fail_links(0);
+    every_pair(1);
+    for (int i = 0; i < (k == 0 ? 1 : 3); i++) {
+        fail_links(one_in[i]);
+        every_pair(0);
+    }
+    if (k == 0) return;
+    fail_links(0);
+    kill_server(any(servers));
+    every_pair(0);
+}
+
+/* ---- every path byte as the first hop, then a way on to the destination */
+
+static void every_byte(uint32_t source, uint32_t destination) {
+    for (uint32_t byte = 0; byte < 256; byte++) {
+        uint8_t path[ARRAY] = {(uint8_t)byte}, routes[BCUBE_LIST_BYTES];
+        uint32_t next = after(source, path[0]);
+        if (!bcube_refusal(plain_build(n, k, next, destination, routes)))
+            memcpy(path + 1, routes + ARRAY * any(k + 1), ARRAY - 1);
+        ask_path(READ, source, destination, path);
+        ask_check(source, destination, path, ARRAY);
+        ask_step(source, destination, 0, path);
+    }
+}
+
+static void every_hop(void) {
+    fail_links(4);
+    fill_neighbours();
+    for (uint32_t a = 0; a < servers; a++) every_byte(a, another(a));
+}
+
+/* ---- all small rooms */
+
+static void part(const char *what) {
+    static unsigned long before;
+    printf("%-58s %10lu comparisons\n", what, comparisons() - before);
+    fflush(stdout);
+    before = comparisons();
+}
+
+/* every room of at most 64 servers; of those with one level, of 2 to 64 ports, only those so far apart */
+static void small_rooms(void (*what)(void), uint32_t apart) {
+    for (uint32_t levels = 0; levels <= 3; levels++)
+        for (uint32_t ports = 2; power(ports, levels + 1) <= SMALL; ports += levels == 0 ? apart : 1) {
+            enter(ports, levels);
+            what();
+        }
+}
+
+static void every_shape(void) {
+    for (uint32_t ports = 0; ports < 70; ports++)
+        for (uint32_t levels = 0; levels < 8; levels++) {
+            n = ports == 69 ? odd() : ports;
+            k = levels == 7 ? odd() : levels;
+            ask_numbers(SHAPE, 0, 0, 0, 0);
+            ask_numbers(SERVERS, 0, 0, 0, 0);
+            ask_numbers(BOUND, any(5), 0, 0, 0);
+        }
+}
+
+/* ---- questions of any kind, and what is done to them */
+
+static uint8_t path[64], fresh[64], kept[64];
+static uint32_t met[16];
+
+static uint32_t any_server(void) { return any(servers); }
+
+static void make_table(uint32_t source, uint32_t destination) {
+    static const uint32_t one_in[] = {0, 0, 2, 4, 8, 16, 64};
+    fail_links(one_in[any(7)]);
+    if (any(2)) break_routes(source, destination);
+    if (any(8) == 0) kill_server(any_server());
+    if (any(24) == 0) kill_server(destination);
+}
+
+/* the servers along an array of path bytes, for the writer; gives how many */
+static size_t along(uint32_t source, uint32_t destination) {
+    uint8_t array[ARRAY];
+    size_t count = 0;
+    make_array(source, destination, array);
+    for (met[count++] = source; count < 9 && met[count - 1] != destination; count++)
+        met[count] = after(met[count - 1], array[count - 1]);
+    return count;
+}
+
+/* a question that is right, or nearly */
+static struct question any_question(enum call call) {
+    uint32_t source = any_server(), destination = another(source);
+    uint8_t routes[BCUBE_LIST_BYTES];
+    struct question q = about(call, source, destination, 0, 0);
+    if (call <= BETWEEN || call == BUILD) {
+        if (call == BOUND) q.number[0] = any(k + 1);
+        if (call == ADDRESS)
+            for (uint32_t i = 0; i < 4; i++) q.number[i] = i <= k ? any(n) : 0;
+        if (call == DIGIT || call == SWITCH || call == NEIGHBOUR) q.number[1] = any(k + 1);
+        if (call == NEIGHBOUR) q.number[2] = any(n);
+        if (call == BETWEEN && any(2)) q.number[1] = after(source, any_hop(source));
+    } else if (call == READ || call == REVERSE) {
+        make_array(source, destination, path);
+        lend(&q, 0, path, ARRAY);
+    } else if (call == WRITE) {
+        lend(&q, 0, met, along(source, destination));
+    } else if (call == STEP || call == STEP_MAC) {
+        make_array(source, destination, path);
+        q.number[2] = any(ARRAY + 2);
+        if (any(8) == 0) q.number[1] = q.number[0];
+        lend(&q, 0, path, ARRAY);
+        lend(&q, 1, neighbours, BCUBE_TABLE_BYTES);
+    } else {
+        if (call == FAILED_LINK || call == MARK_LINK || call == CLEAR_LINK) q.number[1] = any(k + 1);
+        make_table(source, destination);
+        lend(&q, 0, failed, servers);
+        plain_build(n, k, source, destination, routes);
+        if (call == CHECK || call == PICK) lend(&q, 1, fresh, make_list(source, destination, routes, fresh));
+        if (call == PICK) lend(&q, 2, kept, make_list(source, destination, routes, kept));
+    }
+    return q;
+}
+
+static void damage_number(struct question *q) {
+    switch (any(8)) {
+    case 0: q->n = odd(); break;
+    case 1: q->k = odd(); break;
+    case 2: q->n = 9 + any(56), q->k = 2 + any(2); break;
+    case 3: q->number[1] = q->number[0]; break;
+    case 4: q->number[any(4)] = servers + any(2); break;
+    case 5: q->number[any(4)] += UINT32_C(1) << (8 + any(24)); break;
+    default: q->number[any(4)] = odd();
+    }
+}
+
+/* a length that is not right: shorter, longer, none, or as far off as the buffer has room */
+static size_t wrong_length(enum call call, const void *at, size_t len) {
+    size_t room = at == failed ? MOST + ARRAY : at == neighbours ? sizeof neighbours : call == WRITE ? 16 : 64;
+    switch (any(6)) {
+    case 0: return 0;
+    case 1: return len > 0 ? len - 1 : 1;
+    case 2: return len < room ? len + 1 : room;
+    case 3: return len + ARRAY <= room ? len + ARRAY : room;
+    case 4: return len >= ARRAY ? len - ARRAY : room;
+    default: return any((uint32_t)room + 1);
+    }
+}
+
+/* servers to write: another one, the first as the last, or one that is none, each or together */
+static void damage_servers(uint32_t count) {
+    if (any(2)) met[any(count)] = any_server();
+    if (any(2)) met[count - 1] = met[0];
+    if (any(2)) met[any(count)] = odd();
+}
+
+static void damage_buffer(struct question *q) {
+    int i = (int)any(3);
+    if (!q->lent[i].at) i = 0;
+    if (!q->lent[i].at) return;
+    const void *at = q->lent[i].at;
+    if (any(2)) q->lent[i].len = wrong_length(q->call, at, q->lent[i].len);
+    else if (at == failed) failed[any(3) ? any_server() : any(2) ? 0 : servers - 1] |= (uint8_t)(1u << any(8));
+    else if (at == path) path[any(ARRAY)] = (uint8_t)any(256);
+    else if (at == fresh) fresh[any(64)] = (uint8_t)any(256);
+    else if (at == kept) kept[any(64)] = (uint8_t)any(256);
+    else if (at == met && q->lent[i].len) damage_servers((uint32_t)q->lent[i].len);
+    else neighbours[BCUBE_ENTRY_BYTES * path[q->number[2] % ARRAY] + BCUBE_ENTRY_FLAG] = (uint8_t)any(4);
+}
+
+static void any_room(void) {
+    static const uint32_t large[][2] = {{8, 3}, {16, 2}, {64, 1}, {64, 0}, {7, 3}, {6, 3}, {5, 3}, {4, 3}, {3, 3}, {2, 3}};
+    uint32_t ports, levels;
+    if (any(4) == 0) {
+        uint32_t i = any(10);
+        enter(large[i][0], large[i][1]);
+        return;
+    }
+    do {
+        levels = any(8) ? 1 + any(3) : 0;
+        ports = 2 + any(levels == 1 ? 63 : levels == 2 ? 15 : levels == 3 ? 7 : 63);
+    } while (any(2) && power(ports, levels + 1) > 256);
+    enter(ports, levels);
+}
+
+/* questions of every call; the searches are fewer in large rooms, where each takes long */
+static void any_questions(uint32_t count) {
+    fill_neighbours();
+    for (uint32_t i = 0; i < count; i++) {
+        if (i % 4 == 0) any_room();
+        enum call call = (enum call)any(CALLS);
+        if ((call == FIND || call == SELECT) && servers > 256 && any(12)) continue;
+        struct question q = any_question(call);
+        if (any(2))
+            for (uint32_t times = 1 + any(3); times > 0; times--) (any(2) ? damage_number : damage_buffer)(&q);
+        ask(&q);
+    }
+}
+
+/* lengths that are right in their low 32 bits, over memory that is there */
+static void vast_lengths(void) {
+    const size_t over = (size_t)1 << 32;
+    const void *vast = vast_area();
+    if (!vast) {
+        printf("this machine gives no 4 GiB of addresses: lengths above 2^32 are left out\n");
+        return;
+    }
+    for (int i = 0; i < 400; i++) {
+        any_room();
+        struct question q = any_question((enum call)any(CALLS));
+        int lent = 0;
+        while (lent < 3 && q.lent[lent].at) lent++;
+        if (lent == 0 || (servers > 256 && (q.call == FIND || q.call == SELECT))) continue;
+        lent = (int)any((uint32_t)lent);
+        q.lent[lent].len += over;
+        if (q.call == WRITE) q.lent[lent].len = over / 4 + 2;
+        q.lent[lent].at = vast;
+        ask(&q);
+    }
+}
+
+/* a large room: pairs, with every path byte at one of them */
+static void large_room(uint32_t ports, uint32_t levels, uint32_t pairs) {
+    enter(ports, levels);
+    fill_neighbours();
+    for (uint32_t i = 0; i < pairs; i++) {
+        uint32_t source = any_server(), destination = another(source);
+        make_table(source, destination);
+        one_pair(source, destination);
+    }
+    make_table(0, 1);
+    every_byte(any_server(), any_server());
+}
+
+/* lists in rooms of live links, most of them of routes that read: what is left is whether they are parallel */
+static void any_lists(uint32_t lists) {
+    for (uint32_t i = 0; i < lists; i++) {
+        uint8_t routes[BCUBE_LIST_BYTES], list[BCUBE_LIST_BYTES] = {0};
+        if (i % 16 == 0) enter(2 + any(2), 3);
+        uint32_t source = any_server(), destination = another(source), count = 2 + any(3);
+        plain_build(n, k, source, destination, routes);
+        if (any(2))
+            by_way_of_one(source, destination, list, count);
+        else
+            with_repeats(routes, list, count);
+        ask_check(source, destination, list, ARRAY * count);
+    }
+}
+
+static void one_round(void) {
+    any_questions(30000);
+    any_lists(10000);
+    vast_lengths();
+    large_room(8, 3, 12);
+    large_room(16, 2, 8);
+    large_room(64, 1, 8);
+    large_room(64, 0, 8);
+    for (int i = 0; i < 6; i++) large_room(3 + any(5), 3, 8);
+    for (int i = 0; i < 6; i++) large_room(5 + any(11), 2, 8);
+    for (int i = 0; i < 6; i++) large_room(9 + any(55), 1, 8);
+    enter(2 + any(3), 2);
+    fail_links(2 + any(12));
+    every_pair(1);
+}
+
+/* ---- the run */
+
+static void progress(unsigned long round, unsigned long rounds) {
+    static time_t said;
+    int seen = isatty(1);
+    if (time(NULL) - said < (seen ? 1 : 60) && round != rounds) return;
+    said = time(NULL);
+    printf("%sround %lu of %lu: %lu comparisons, %lu differ%s", seen ? "\r" : "", round, rounds, comparisons(),
+           differences(), seen && round != rounds ? "" : "\n");
+    fflush(stdout);
+}
+
+int main(int count, char **words) {
+    unsigned long rounds = count > 1 ? strtoul(words[1], NULL, 10) : 1;
+    open_both();
+    worked_addresses();
+    worked_routes();
+    worked_refusals();
+    worked_picking();
+    part("worked by hand");
+    every_shape();
+    part("every shape and more");
+    small_rooms(every_server, 1);
+    small_rooms(every_digit, 1);
+    small_rooms(every_link, 1);
+    part("rooms of at most 64 servers: every server, level and value");
+    small_rooms(pairs_under_tables, 1);
+    part("rooms of at most 64 servers: every ordered pair");
+    small_rooms(every_hop, 31);
+    part("rooms of at most 64 servers: every path byte");
+    for (unsigned long round = 1; round <= rounds; round++) {
+        one_round();
+        if (rounds > 1) progress(round, rounds);
+    }
+    part("rooms of every size, right and damaged");
+    int amiss = print_counts();
+    if (amiss) printf("%d of these counts are amiss\n", amiss);
+    printf("%lu comparisons, %lu differ\n", comparisons(), differences());
+    return differences() != 0 || amiss != 0;
+}

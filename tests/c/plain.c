@@ -1,0 +1,678 @@
+/* The rules of document 01 in plain C, to hold the proved library to. It is written for the eye: a server is an
+ * array of digits, two servers are neighbours and two switches are the same when their digits say so, and a
+ * call makes its tests in the order in which the rules name them.
+ *
+ * The least route is found by trying all routes: of one hop, then of two, and so on to eight, in the order
+ * of the rules (higher level first, then lower value), until one arrives. A branch is given up when it
+ * cannot arrive in the hops that are left:
+ *   - in rooms of at most 64 servers, when more digits differ from the destination's than hops are left (each
+ *     hop changes one), or when every link of the destination is failed or leads to an avoided switch;
+ *   - in larger rooms, so that the search ends, when the destination is farther than the hops left, by a
+ *     table of distances to it over usable hops. */
+#include "plain.h"
+
+#include <string.h>
+
+enum { LEVELS = 4, HOPS = 8, ARRAY = 8, MOST_SERVERS = 4096, SMALL_ROOM = 64, FAR = 255 };
+
+/* ---- result words */
+
+static uint64_t refused_at(uint32_t number, uint32_t route, uint32_t hop) {
+    return (uint64_t)number | (uint64_t)route << 8 | (uint64_t)hop << 16;
+}
+
+static uint64_t refused(uint32_t number) { return refused_at(number, 0, 0); }
+
+static uint64_t answered(uint32_t value) { return (uint64_t)value << 32; }
+
+/* ---- rooms, places and switches */
+
+struct room {
+    uint32_t n, k, servers;
+};
+
+/* a server by its digits; those above k are zero */
+struct place {
+    uint32_t digit[LEVELS];
+};
+
+/* makes the room, and gives the refusal of its shape, or 0 */
+static uint32_t enter(struct room *room, uint32_t n, uint32_t k) {
+    if (n < 2 || n > 64) return 1;
+    if (k > 3) return 2;
+    uint32_t servers = 1;
+    for (uint32_t level = 0; level <= k; level++) servers *= n;
+    if (servers > MOST_SERVERS) return 3;
+    room->n = n;
+    room->k = k;
+    room->servers = servers;
+    return 0;
+}
+
+static struct place place_of(const struct room *room, uint32_t address) {
+    struct place place = {{0}};
+    for (uint32_t level = 0; level <= room->k; level++) {
+        place.digit[level] = address % room->n;
+        address /= room->n;
+    }
+    return place;
+}
+
+static uint32_t address_of(const struct room *room, const struct place *place) {
+    uint32_t address = 0;
+    for (uint32_t level = room->k + 1; level-- > 0;) address = address * room->n + place->digit[level];
+    return address;
+}
+
+/* the place with one digit changed */
+static struct place moved(struct place place, uint32_t level, uint32_t value) {
+    place.digit[level] = value;
+    return place;
+}
+
+static uint32_t differing(const struct place *one, const struct place *other) {
+    uint32_t count = 0;
+    for (uint32_t level = 0; level < LEVELS; level++) count += one->digit[level] != other->digit[level];
+    return count;
+}
+
+static int same_place(const struct place *one, const struct place *other) { return differing(one, other) == 0; }
+
+/* the level of the first digit that differs; there has to be one */
+static uint32_t first_differing(const struct place *one, const struct place *other) {
+    uint32_t level = 0;
+    while (one->digit[level] == other->digit[level]) level++;
+    return level;
+}
+
+/* the digits with one struck out and the rest closed up, as a number */
+static uint32_t switch_number(const struct room *room, const struct place *place, uint32_t level) {
+    uint32_t number = 0;
+    for (uint32_t i = room->k + 1; i-- > 0;)
+        if (i != level) number = number * room->n + place->digit[i];
+    return number;
+}
+
+/* whether two servers have the same switch, one at one level, the other at another */
+static int same_switch(const struct place *one, uint32_t one_level, const struct place *other, uint32_t other_level) {
+    if (one_level != other_level) return 0;
+    for (uint32_t level = 0; level < LEVELS; level++)
+        if (level != one_level && one->digit[level] != other->digit[level]) return 0;
+    return 1;
+}
+
+/* ---- tests of arguments: each gives a refusal's number, or 0 */
+
+static uint32_t ends_refusal(const struct room *room, uint32_t source, uint32_t destination) {
+    if (source >= room->servers || destination >= room->servers) return 4;
+    if (source == destination) return 5;
+    return 0;
+}
+
+static uint32_t table_refusal(const struct room *room, const uint8_t *table, size_t table_len) {
+    if (table_len != room->servers) return 6;
+    for (size_t i = 0; i < table_len; i++)
+        if (table[i] >> (room->k + 1) != 0) return 6;
+    return 0;
+}
+
+static uint32_t link_refusal(const struct room *room, uint32_t server, uint32_t level, const uint8_t *table,
+                             size_t table_len) {
+    if (server >= room->servers) return 4;
+    if (level > room->k) return 20;
+    return table_refusal(room, table, table_len);
+}
+
+static uint32_t list_refusal(const struct room *room, size_t list_len) {
+    return list_len % ARRAY != 0 || list_len > ARRAY * (room->k + 1) ? 7 : 0;
+}
+
+static int link_failed(const struct room *room, const uint8_t *table, const struct place *place, uint32_t level) {
+    return table[address_of(room, place)] >> level & 1;
+}
+
+/* ---- routes: the places met, and the level of each hop between them */
+
+struct route {
+    uint32_t hops;
+    struct place met[HOPS + 1];
+    uint32_t level[HOPS];
+};
+
+static void begin(struct route *route, struct place source) {
+    route->hops = 0;
+    route->met[0] = source;
+}
+
+static struct place last(const struct route *route) { return route->met[route->hops]; }
+
+static void append(struct route *route, uint32_t level, uint32_t value) {
+    route->level[route->hops] = level;
+    route->met[route->hops + 1] = moved(route->met[route->hops], level, value);
+    route->hops++;
+}
+
+static int meets(const struct route *route, const struct place *place) {
+    for (uint32_t i = 0; i <= route->hops; i++)
+        if (same_place(&route->met[i], place)) return 1;
+    return 0;
+}
+
+static int uses_switch(const struct route *route, const struct place *place, uint32_t level) {
+    for (uint32_t i = 0; i < route->hops; i++)
+        if (same_switch(&route->met[i], route->level[i], place, level)) return 1;
+    return 0;
+}
+
+static int parallel(const struct route *one, const struct route *other) {
+    for (uint32_t i = 0; i < one->hops; i++)
+        if (uses_switch(other, &one->met[i], one->level[i])) return 0;
+    for (uint32_t i = 1; i < one->hops; i++)
+        for (uint32_t j = 1; j < other->hops; j++)
+            if (same_place(&one->met[i], &other->met[j])) return 0;
+    return 1;
+}
+
+static int crosses_failed(const struct room *room, const uint8_t *table, const struct route *route) {
+    for (uint32_t i = 0; i < route->hops; i++)
+        if (link_failed(room, table, &route->met[i], route->level[i]) ||
+            link_failed(room, table, &route->met[i + 1], route->level[i]))
+            return 1;
+    return 0;
+}
+
+static void put_bytes(const struct route *route, uint8_t bytes[ARRAY]) {
+    memset(bytes, 0, ARRAY);
+    for (uint32_t i = 0; i < route->hops; i++)
+        bytes[i] = (uint8_t)(64 * route->level[i] + route->met[i + 1].digit[route->level[i]]);
+}
+
+/* ---- reading path bytes */
+
+/* one more hop, by its path byte; without a table every link is live */
+static uint32_t hop_refusal(const struct room *room, const uint8_t *table, struct route *route, uint8_t byte) {
+    uint32_t level = byte / 64, value = byte % 64;
+    struct place from = last(route);
+    if (level > room->k) return 8;
+    if (value >= room->n) return 9;
+    if (from.digit[level] == value) return 10;
+    struct place to = moved(from, level, value);
+    if (table && (link_failed(room, table, &from, level) || link_failed(room, table, &to, level))) return 11;
+    if (meets(route, &to) || uses_switch(route, &from, level)) return 12;
+    append(route, level, value);
+    return 0;
+}
+
+/* the array as route number `number` of its list; gives the result word of a refusal, or 0 */
+static uint64_t read_array(const struct room *room, const uint8_t *table, uint32_t source, uint32_t destination,
+                           const uint8_t *array, uint32_t number, struct route *route) {
+    struct place goal = place_of(room, destination);
+    begin(route, place_of(room, source));
+    for (uint32_t i = 0; i < HOPS; i++) {
+        uint32_t why = hop_refusal(room, table, route, array[i]);
+        if (why) return refused_at(why, number, i + 1);
+        struct place here = last(route);
+        if (!same_place(&here, &goal)) continue;
+        for (uint32_t j = i + 1; j < HOPS; j++)
+            if (array[j] != 0) return refused_at(14, number, j + 1);
+        return 0;
+    }
+    return refused_at(13, number, HOPS);
+}
+
+/* ---- built routes */
+
+static void correct(struct route *route, const struct place *goal, uint32_t level) {
+    if (last(route).digit[level] != goal->digit[level]) append(route, level, goal->digit[level]);
+}
+
+static struct route built_route(const struct room *room, const struct place *source, const struct place *goal,
+                                uint32_t slot) {
+    struct route route;
+    begin(&route, *source);
+    int detour = source->digit[slot] == goal->digit[slot];
+    if (detour)
+        append(&route, slot, (source->digit[slot] + 1) % room->n);
+    else
+        correct(&route, goal, slot);
+    for (uint32_t level = slot; level-- > 0;) correct(&route, goal, level);
+    for (uint32_t level = room->k; level > slot; level--) correct(&route, goal, level);
+    if (detour) correct(&route, goal, slot);
+    return route;
+}
+
+/* ---- the least route */
+
+struct search {
+    const struct room *room;
+    const uint8_t *table;
+    struct place goal;
+    uint8_t shut_server[MOST_SERVERS], shut_switch[LEVELS][MOST_SERVERS];
+    uint8_t distance[MOST_SERVERS]; /* to the goal, in hops; only in rooms above SMALL_ROOM */
+};
+
+static void begin_search(struct search *search, const struct room *room, const uint8_t *table, uint32_t destination) {
+    search->room = room;
+    search->table = table;
+    search->goal = place_of(room, destination);
+    memset(search->shut_server, 0, sizeof search->shut_server);
+    memset(search->shut_switch, 0, sizeof search->shut_switch);
+}
+
+/* the search avoids the switches and the middle servers of this route */
+static void avoid(struct search *search, const struct route *route) {
+    for (uint32_t i = 0; i < route->hops; i++)
+        search->shut_switch[route->level[i]][switch_number(search->room, &route->met[i], route->level[i])] = 1;
+    for (uint32_t i = 1; i < route->hops; i++) search->shut_server[address_of(search->room, &route->met[i])] = 1;
+}
+
+/* whether a route may leave or enter this server at this level */
+static int open_at(const struct search *search, const struct place *place, uint32_t level) {
+    return !link_failed(search->room, search->table, place, level) &&
+           !search->shut_switch[level][switch_number(search->room, place, level)];
+}
+
+static int enterable(const struct search *search) {
+    for (uint32_t level = 0; level <= search->room->k; level++)
+        if (open_at(search, &search->goal, level)) return 1;
+    return 0;
+}
+
+/* whether a route may go from one server to its neighbour at this level, having left the first */
+static int may_enter(const struct search *search, const struct place *to, uint32_t level) {
+    return !link_failed(search->room, search->table, to, level) && !search->shut_server[address_of(search->room, to)];
+}
+
+/* gives the distance to every neighbour of a server that has none yet */
+static void spread(struct search *search, uint32_t address, uint8_t distance) {
+    struct place here = place_of(search->room, address);
+    for (uint32_t level = 0; level <= search->room->k; level++) {
+        if (!open_at(search, &here, level)) continue;
+        for (uint32_t value = 0; value < search->room->n; value++) {
+            struct place there = moved(here, level, value);
+            uint8_t *known = &search->distance[address_of(search->room, &there)];
+            if (*known == FAR && may_enter(search, &there, level)) *known = distance;
+        }
+    }
+}
+
+static void measure(struct search *search, uint32_t source) {
+    memset(search->distance, FAR, sizeof search->distance);
+    search->distance[address_of(search->room, &search->goal)] = 0;
+    for (uint8_t distance = 1; distance <= HOPS && search->distance[source] == FAR; distance++)
+        for (uint32_t address = 0; address < search->room->servers; address++)
+            if (search->distance[address] == distance - 1) spread(search, address, distance);
+}
+
+/* no route from here arrives in fewer hops */
+static uint32_t fewest_left(const struct search *search, const struct place *here) {
+    if (search->room->servers <= SMALL_ROOM) return differing(here, &search->goal);
+    return search->distance[address_of(search->room, here)];
+}
+
+/* carries the route on to the goal in exactly so many hops, the first way in the order of the rules; 0 if there
+ * is none, and the route is then as it was */
+static int extend(const struct search *search, struct route *route, uint32_t left) {
+    struct place here = last(route);
+    if (same_place(&here, &search->goal)) return left == 0;
+    if (fewest_left(search, &here) > left) return 0;
+    for (uint32_t level = search->room->k + 1; level-- > 0;) {
+        if (!open_at(search, &here, level) || uses_switch(route, &here, level)) continue;
+        for (uint32_t value = 0; value < search->room->n; value++) {
+            struct place there = moved(here, level, value);
+            if (value == here.digit[level] || !may_enter(search, &there, level) || meets(route, &there)) continue;
+            append(route, level, value);
+            if (extend(search, route, left - 1)) return 1;
+            route->hops--;
+        }
+    }
+    return 0;
+}
+
+/* 1 and the least route from the source to the goal, or 0 */
+static int least_route(struct search *search, uint32_t source, struct route *route) {
+    begin(route, place_of(search->room, source));
+    if (search->room->servers > SMALL_ROOM)
+        measure(search, source);
+    else if (!enterable(search))
+        return 0;
+    for (uint32_t hops = 1; hops <= HOPS; hops++)
+        if (extend(search, route, hops)) return 1;
+    return 0;
+}
+
+/* ---- the calls: shapes and addresses */
+
+uint64_t plain_shape(uint32_t n, uint32_t k) {
+    struct room room;
+    return refused(enter(&room, n, k));
+}
+
+uint64_t plain_servers(uint32_t n, uint32_t k) {
+    struct room room;
+    uint32_t why = enter(&room, n, k);
+    if (why) return refused(why);
+    return answered(room.servers);
+}
+
+uint64_t plain_bound(uint32_t n, uint32_t k, uint32_t level) {
+    struct room room;
+    uint32_t why = enter(&room, n, k);
+    if (why) return refused(why);
+    if (level > k) return refused(20);
+    return answered(n);
+}
+
+uint64_t plain_digits(uint32_t n, uint32_t k, uint32_t server, uint32_t digits[4]) {
+    struct room room;
+    uint32_t why = enter(&room, n, k);
+    if (why) return refused(why);
+    if (server >= room.servers) return refused(4);
+    struct place place = place_of(&room, server);
+    for (uint32_t level = 0; level < LEVELS; level++) digits[level] = place.digit[level];
+    return answered(0);
+}
+
+uint64_t plain_digit(uint32_t n, uint32_t k, uint32_t server, uint32_t level) {
+    struct room room;
+    uint32_t why = enter(&room, n, k);
+    if (why) return refused(why);
+    if (server >= room.servers) return refused(4);
+    if (level > k) return refused(20);
+    return answered(place_of(&room, server).digit[level]);
+}
+
+uint64_t plain_address(uint32_t n, uint32_t k, uint32_t d0, uint32_t d1, uint32_t d2, uint32_t d3) {
+    struct room room;
+    struct place place = {{d0, d1, d2, d3}};
+    uint32_t why = enter(&room, n, k);
+    if (why) return refused(why);
+    for (uint32_t level = 0; level < LEVELS; level++)
+        if (level <= k ? place.digit[level] >= n : place.digit[level] != 0) return refused(21);
+    return answered(address_of(&room, &place));
+}
+
+uint64_t plain_switch(uint32_t n, uint32_t k, uint32_t server, uint32_t level) {
+    struct room room;
+    uint32_t why = enter(&room, n, k);
+    if (why) return refused(why);
+    if (server >= room.servers) return refused(4);
+    if (level > k) return refused(20);
+    struct place place = place_of(&room, server);
+    return answered(switch_number(&room, &place, level));
+}
+
+uint64_t plain_neighbour(uint32_t n, uint32_t k, uint32_t server, uint32_t level, uint32_t value) {
+    struct room room;
+    uint32_t why = enter(&room, n, k);
+    if (why) return refused(why);
+    if (server >= room.servers) return refused(4);
+    if (level > k) return refused(20);
+    if (value >= n) return refused(21);
+    struct place there = moved(place_of(&room, server), level, value);
+    return answered(address_of(&room, &there));
+}
+
+uint64_t plain_between(uint32_t n, uint32_t k, uint32_t one, uint32_t other) {
+    struct room room;
+    uint32_t why = enter(&room, n, k);
+    if (why) return refused(why);
+    if (one >= room.servers || other >= room.servers) return refused(4);
+    struct place here = place_of(&room, one), there = place_of(&room, other);
+    return answered(differing(&here, &there) == 1 ? first_differing(&here, &there) + 1 : 0);
+}
+
+/* ---- the calls: the failed-link table */
+
+uint64_t plain_failed_link(uint32_t n, uint32_t k, uint32_t server, uint32_t level, const uint8_t *table,
+                           size_t table_len) {
+    struct room room;
+    uint32_t why = enter(&room, n, k);
+    if (!why) why = link_refusal(&room, server, level, table, table_len);
+    if (why) return refused(why);
+    return answered(table[server] >> level & 1);
+}
+
+uint64_t plain_mark_link(uint32_t n, uint32_t k, uint32_t server, uint32_t level, uint8_t *table, size_t table_len) {
+    struct room room;
+    uint32_t why = enter(&room, n, k);
+    if (!why) why = link_refusal(&room, server, level, table, table_len);
+    if (why) return refused(why);
+    table[server] = (uint8_t)(table[server] | 1u << level);
+    return answered(0);
+}
+
+uint64_t plain_clear_link(uint32_t n, uint32_t k, uint32_t server, uint32_t level, uint8_t *table, size_t table_len) {
+    struct room room;
+    uint32_t why = enter(&room, n, k);
+    if (!why) why = link_refusal(&room, server, level, table, table_len);
+    if (why) return refused(why);
+    table[server] = (uint8_t)(table[server] & ~(1u << level));
+    return answered(0);
+}
+
+/* ---- the calls: path bytes */
+
+/* what reading and reversal have in common: gives the result word of a refusal, or 0 and the route */
+static uint64_t read_single(uint32_t n, uint32_t k, uint32_t source, uint32_t destination, const uint8_t *path,
+                            size_t path_len, struct room *room, struct route *route) {
+    uint32_t why = enter(room, n, k);
+    if (!why) why = ends_refusal(room, source, destination);
+    if (!why && path_len != ARRAY) why = 7;
+    if (why) return refused(why);
+    return read_array(room, NULL, source, destination, path, 1, route);
+}
+
+uint64_t plain_read(uint32_t n, uint32_t k, uint32_t source, uint32_t destination, const uint8_t *path,
+                    size_t path_len, uint32_t servers[9]) {
+    struct room room;
+    struct route route;
+    uint64_t refusal = read_single(n, k, source, destination, path, path_len, &room, &route);
+    if (refusal) return refusal;
+    for (uint32_t i = 0; i <= HOPS; i++) servers[i] = i <= route.hops ? address_of(&room, &route.met[i]) : 0;
+    return answered(route.hops + 1);
+}
+
+uint64_t plain_write(uint32_t n, uint32_t k, const uint32_t *servers, size_t servers_len, uint8_t path[8]) {
+    struct room room;
+    struct route route;
+    uint32_t why = enter(&room, n, k);
+    if (why) return refused(why);
+    if (servers_len < 2 || servers_len > HOPS + 1) return refused(22);
+    for (size_t i = 0; i < servers_len; i++)
+        if (servers[i] >= room.servers) return refused(4);
+    if (servers[0] == servers[servers_len - 1]) return refused(5);
+    begin(&route, place_of(&room, servers[0]));
+    for (uint32_t i = 1; i < servers_len; i++) {
+        struct place from = last(&route), to = place_of(&room, servers[i]);
+        if (differing(&from, &to) != 1) return refused_at(23, 1, i);
+        uint32_t level = first_differing(&from, &to);
+        if (meets(&route, &to) || uses_switch(&route, &from, level)) return refused_at(12, 1, i);
+        append(&route, level, to.digit[level]);
+    }
+    put_bytes(&route, path);
+    return answered(0);
+}
+
+uint64_t plain_reverse(uint32_t n, uint32_t k, uint32_t source, uint32_t destination, const uint8_t *path,
+                       size_t path_len, uint8_t reversed[8]) {
+    struct room room;
+    struct route route, back;
+    uint64_t refusal = read_single(n, k, source, destination, path, path_len, &room, &route);
+    if (refusal) return refusal;
+    begin(&back, last(&route));
+    for (uint32_t i = route.hops; i-- > 0;) append(&back, route.level[i], route.met[i].digit[route.level[i]]);
+    put_bytes(&back, reversed);
+    return answered(0);
+}
+
+/* the routes of a list, each and in pairs; gives the result word of a refusal, or 0 */
+static uint64_t check_routes(const struct room *room, uint32_t source, uint32_t destination, const uint8_t *table,
+                             const uint8_t *list, uint32_t count) {
+    struct route route[LEVELS];
+    for (uint32_t i = 0; i < count; i++) {
+        uint64_t refusal = read_array(room, table, source, destination, list + ARRAY * i, i + 1, &route[i]);
+        if (refusal) return refusal;
+    }
+    for (uint32_t i = 0; i < count; i++)
+        for (uint32_t j = i + 1; j < count; j++)
+            if (!parallel(&route[i], &route[j])) return refused_at(15, j + 1, 0);
+    return 0;
+}
+
+uint64_t plain_check(uint32_t n, uint32_t k, uint32_t source, uint32_t destination, const uint8_t *table,
+                     size_t table_len, const uint8_t *list, size_t list_len) {
+    struct room room;
+    uint32_t why = enter(&room, n, k);
+    if (!why) why = ends_refusal(&room, source, destination);
+    if (!why) why = table_refusal(&room, table, table_len);
+    if (!why) why = list_len == 0 ? 7 : list_refusal(&room, list_len);
+    if (why) return refused(why);
+    return check_routes(&room, source, destination, table, list, (uint32_t)(list_len / ARRAY));
+}
+
+/* ---- the calls: routes */
+
+uint64_t plain_build(uint32_t n, uint32_t k, uint32_t source, uint32_t destination, uint8_t routes[32]) {
+    struct room room;
+    uint32_t why = enter(&room, n, k), count = 0;
+    if (!why) why = ends_refusal(&room, source, destination);
+    if (why) return refused(why);
+    struct place from = place_of(&room, source), to = place_of(&room, destination);
+    memset(routes, 0, ARRAY * LEVELS);
+    for (uint32_t slot = k + 1; slot-- > 0;) {
+        struct route route = built_route(&room, &from, &to, slot);
+        put_bytes(&route, routes + ARRAY * count++);
+    }
+    return answered(count);
+}
+
+uint64_t plain_find(uint32_t n, uint32_t k, uint32_t source, uint32_t destination, const uint8_t *table,
+                    size_t table_len, uint8_t path[8]) {
+    struct room room;
+    struct search search;
+    struct route route;
+    uint32_t why = enter(&room, n, k);
+    if (!why) why = ends_refusal(&room, source, destination);
+    if (!why) why = table_refusal(&room, table, table_len);
+    if (why) return refused(why);
+    begin_search(&search, &room, table, destination);
+    if (!least_route(&search, source, &route)) route.hops = 0;
+    put_bytes(&route, path);
+    return answered(route.hops);
+}
+
+/* the alternate for a slot: avoids the settled routes, and the built routes of the lower slots */
+static int alternate(const struct room *room, const uint8_t *table, uint32_t source, uint32_t destination,
+                     const struct route *settled, uint32_t count, const struct route *built, uint32_t slot,
+                     struct route *route) {
+    struct search search;
+    begin_search(&search, room, table, destination);
+    for (uint32_t i = 0; i < count; i++) avoid(&search, &settled[i]);
+    for (uint32_t lower = 0; lower < slot; lower++) avoid(&search, &built[lower]);
+    return least_route(&search, source, route);
+}
+
+uint64_t plain_select(uint32_t n, uint32_t k, uint32_t source, uint32_t destination, const uint8_t *table,
+                      size_t table_len, uint8_t routes[32]) {
+    struct room room;
+    struct route built[LEVELS], settled[LEVELS];
+    uint32_t why = enter(&room, n, k), count = 0;
+    if (!why) why = ends_refusal(&room, source, destination);
+    if (!why) why = table_refusal(&room, table, table_len);
+    if (why) return refused(why);
+    struct place from = place_of(&room, source), to = place_of(&room, destination);
+    for (uint32_t slot = 0; slot <= k; slot++) built[slot] = built_route(&room, &from, &to, slot);
+    for (uint32_t slot = k + 1; slot-- > 0;) {
+        if (!crosses_failed(&room, table, &built[slot]))
+            settled[count++] = built[slot];
+        else if (alternate(&room, table, source, destination, settled, count, built, slot, &settled[count]))
+            count++;
+    }
+    if (count == 0) return refused(16);
+    memset(routes, 0, ARRAY * LEVELS);
+    for (uint32_t i = 0; i < count; i++) put_bytes(&settled[i], routes + ARRAY * i);
+    return answered(count);
+}
+
+/* ---- the calls: picking */
+
+/* the place of the first usable route of a list, counted from 1; 0 if there is none */
+static uint32_t first_usable(const struct room *room, uint32_t source, uint32_t destination, const uint8_t *table,
+                             const uint8_t *list, size_t list_len) {
+    for (uint32_t i = 0; i < list_len / ARRAY; i++)
+        if (check_routes(room, source, destination, table, list + ARRAY * i, 1) == 0) return i + 1;
+    return 0;
+}
+
+uint64_t plain_pick(uint32_t n, uint32_t k, uint32_t source, uint32_t destination, const uint8_t *table,
+                    size_t table_len, const uint8_t *fresh, size_t fresh_len, const uint8_t *kept, size_t kept_len) {
+    struct room room;
+    uint32_t why = enter(&room, n, k), place;
+    if (!why) why = ends_refusal(&room, source, destination);
+    if (!why) why = table_refusal(&room, table, table_len);
+    if (!why) why = list_refusal(&room, fresh_len);
+    if (!why) why = list_refusal(&room, kept_len);
+    if (why) return refused(why);
+    place = first_usable(&room, source, destination, table, fresh, fresh_len);
+    if (place) return answered(256 * 1 + place);
+    place = first_usable(&room, source, destination, table, kept, kept_len);
+    if (place) return answered(256 * 2 + place);
+    return refused(16);
+}
+
+/* ---- the calls: one forwarding step */
+
+struct step {
+    uint32_t refusal, hop, delivered, index, next;
+    uint8_t mac[6], port;
+};
+
+static struct step step_refused(uint32_t number, uint32_t hop) {
+    struct step step = {.refusal = number, .hop = hop};
+    return step;
+}
+
+static struct step one_step(uint32_t n, uint32_t k, uint32_t here, uint32_t destination, uint32_t index,
+                            const uint8_t *path, size_t path_len, const uint8_t *table, size_t table_len) {
+    struct room room;
+    struct step step = {0};
+    uint32_t why = enter(&room, n, k);
+    if (!why && (here >= room.servers || destination >= room.servers)) why = 4;
+    if (!why && table_len != 2048) why = 17;
+    if (!why && path_len != ARRAY) why = 7;
+    if (why) return step_refused(why, 0);
+    if (here == destination) {
+        step.delivered = 1;
+        return step;
+    }
+    if (index >= ARRAY) return step_refused(18, 0);
+    uint32_t level = path[index] / 64, value = path[index] % 64;
+    struct place from = place_of(&room, here);
+    if (level > k) return step_refused(8, index + 1);
+    if (value >= n) return step_refused(9, index + 1);
+    if (from.digit[level] == value) return step_refused(10, index + 1);
+    const uint8_t *entry = table + 8 * path[index];
+    if (entry[7] != 1) return step_refused(19, index + 1);
+    struct place to = moved(from, level, value);
+    step.index = index + 1;
+    step.next = address_of(&room, &to);
+    memcpy(step.mac, entry, 6);
+    step.port = entry[6];
+    return step;
+}
+
+uint64_t plain_step(uint32_t n, uint32_t k, uint32_t here, uint32_t destination, uint32_t index, const uint8_t *path,
+                    size_t path_len, const uint8_t *table, size_t table_len) {
+    struct step step = one_step(n, k, here, destination, index, path, path_len, table, table_len);
+    return step.refusal | (uint64_t)step.hop << 8 | (uint64_t)step.delivered << 16 | (uint64_t)step.index << 24 |
+           (uint64_t)step.next << 32 | (uint64_t)step.port << 48;
+}
+
+uint64_t plain_step_mac(uint32_t n, uint32_t k, uint32_t here, uint32_t destination, uint32_t index,
+                        const uint8_t *path, size_t path_len, const uint8_t *table, size_t table_len) {
+    struct step step = one_step(n, k, here, destination, index, path, path_len, table, table_len);
+    uint64_t mac = 0;
+    for (uint32_t i = 0; i < 6; i++) mac = mac << 8 | step.mac[i];
+    return mac;
+}
