@@ -1,9 +1,9 @@
 /* bcube.h: the routes of a BCube room, for a driver in C or C++.
  *
  * Link the static library libbcube.a (x86-64 Linux; `./library FOLDER` puts it and this file into FOLDER).
- * It needs no other library, keeps no state and no pointer, allocates nothing, and may be called from any
- * thread, by many at once. What each function answers is proved for every argument, so no argument has to
- * be tested before a call: a call answers, or it refuses with a number.
+ * It needs nothing but memcpy and memset, keeps no state and no pointer, allocates nothing, and may be
+ * called from any thread, by many at once. What each function answers is proved for every argument, so no
+ * argument has to be tested before a call: a call answers, or it refuses with a number.
  *
  * THE ROOM. Every call begins with the room's shape:
  *   n, k         n ports a switch (2 to 64), levels 0 to k (k is 0 to 3); N = n^(k+1), the number of
