@@ -76,8 +76,9 @@ extern "C" {
 /* ---- the refusals, one name each
  *
  * Where one arises: 8 to 12 and 23 have the route and the hop at which they were found (a step's, and its
- * 19, the hop index + 1); 13 has hop 8; 14 the place of the first byte that is not zero; 15 the later route
- * of the pair, and hop 0. A single array is route 1. All others have route 0 and hop 0. */
+ * 19, the hop index + 1); 13 has hop 8; 14 the place of the first byte after the arrival that is not
+ * zero; 15 the later route of the pair, and hop 0. A single array, and the servers to write, are route 1. All
+ * others have route 0 and hop 0. */
 #define BCUBE_NONE 0            /* no refusal */
 #define BCUBE_PORTS 1           /* n is not among 2 to 64 */
 #define BCUBE_LEVELS 2          /* k is above 3 */
@@ -96,7 +97,7 @@ extern "C" {
 #define BCUBE_NOT_ZERO 14       /* a byte after the arrival is not zero */
 #define BCUBE_NOT_PARALLEL 15   /* two routes share a switch, or a server that is not an end */
 #define BCUBE_NO_ROUTE 16       /* there is no route to give */
-#define BCUBE_TABLE 17          /* the neighbour table is not 2,048 bytes */
+#define BCUBE_NEIGHBOUR_TABLE 17 /* the neighbour table is not 2,048 bytes */
 #define BCUBE_INDEX 18          /* the index is 8 or more, and the packet has not arrived */
 #define BCUBE_UNAVAILABLE 19    /* the next neighbour's flag is not 1 */
 #define BCUBE_LEVEL 20          /* a level is above k */
@@ -190,7 +191,7 @@ uint64_t bcube_reverse(uint32_t n, uint32_t k, uint32_t source, uint32_t destina
                        size_t path_len, uint8_t reversed[8]);
 
 /* Checks a list of 1 to k+1 routes from source to destination: each reads over live links, and every two are
- * parallel. Refuses 1, 2, 3, 4 (either end), 5, 6, 7 (none, too); then route by route, hop by hop 8, 9, 10,
+ * parallel. Refuses 1, 2, 3, 4 (either end), 5, 6, 7 (an empty list too); then route by route, hop by hop 8, 9, 10,
  * 11, 12, with 13 after the eighth hop and 14 on the arrival; then 15, by first, then by second route.
  * Value: 0. */
 uint64_t bcube_check(uint32_t n, uint32_t k, uint32_t source, uint32_t destination, const uint8_t *table,
@@ -224,7 +225,7 @@ uint64_t bcube_select(uint32_t n, uint32_t k, uint32_t source, uint32_t destinat
 
 /* Picks one route: the first usable one of the fresh list, else the first usable one of the kept list. Usable
  * means that bcube_check would take it as a list of one. Either list may be empty (length 0, and not a null
- * pointer). Refuses 1, 2, 3, 4 (either end), 5, 6, 7 (either list; none is allowed here); and last 16, when
+ * pointer). Refuses 1, 2, 3, 4 (either end), 5, 6, 7 (either list; an empty list is allowed); and last 16, when
  * no route of either list is usable. Value: which route it is; read it by the three functions below. */
 uint64_t bcube_pick(uint32_t n, uint32_t k, uint32_t source, uint32_t destination, const uint8_t *table,
                     size_t table_len, const uint8_t *fresh, size_t fresh_len, const uint8_t *kept,

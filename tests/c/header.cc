@@ -42,7 +42,7 @@ uint64_t taken(const uint8_t *path, const uint8_t *table) {
 static_assert(BCUBE_NONE == 0 && BCUBE_PORTS == 1 && BCUBE_LEVELS == 2 && BCUBE_SERVERS == 3 && BCUBE_ADDRESS == 4
         && BCUBE_SAME_ENDS == 5 && BCUBE_FAILED_TABLE == 6 && BCUBE_PATH == 7 && BCUBE_POSITION == 8 && BCUBE_VALUE == 9
         && BCUBE_NO_CHANGE == 10 && BCUBE_FAILED_LINK == 11 && BCUBE_REPEATED == 12 && BCUBE_NOT_ARRIVED == 13
-        && BCUBE_NOT_ZERO == 14 && BCUBE_NOT_PARALLEL == 15 && BCUBE_NO_ROUTE == 16 && BCUBE_TABLE == 17
+        && BCUBE_NOT_ZERO == 14 && BCUBE_NOT_PARALLEL == 15 && BCUBE_NO_ROUTE == 16 && BCUBE_NEIGHBOUR_TABLE == 17
         && BCUBE_INDEX == 18 && BCUBE_UNAVAILABLE == 19 && BCUBE_LEVEL == 20 && BCUBE_DIGIT == 21 && BCUBE_COUNT == 22
         && BCUBE_NOT_NEIGHBOURS == 23, "a refusal has another number");
 static_assert(BCUBE_MOST_PORTS == 64 && BCUBE_MOST_LEVEL == 3 && BCUBE_ENTRY_BYTES == 8 && BCUBE_ENTRY_PORT == 6
