@@ -1,39 +1,30 @@
-// Digits, bounds and neighbours of a room that has been tested.
+// Digits, bounds and hops of a room that has been tested.
 ghost use mathlib.Core.Path.{_≡_};
 ghost use Prim.Native.Nat.{_≤_, _<_};
-ghost use Rattle.room.specs.Shapes.{Link, Value};
-ghost use Rattle.room.specs.Addresses.{digit, withDigit};
+ghost use Rattle.room.specs.Shapes.{Valid, Server};
+ghost use Rattle.room.specs.Digits.{padded};
+ghost use Rattle.room.specs.Addresses.{digits};
 ghost use Rattle.path.specs.Routes.{byteOf};
 ghost use Rattle.build.specs.Built.{next, plusOne};
 use room::Shape;
 use room::bound_of;
-use room::digit_of;
-use room::neighbour_of;
+use room::digits_of;
 
-// The digit of a server at a level.
-pub(crate) fn value_at(shape: Shape, server: usize, level: usize) -> usize
-    requires { ⌜ Link shape server level ⌝ }
-    ensures { λ r. ⌜ r ≡ digit shape level server ⌝ }
+// The digits of a server in four places, digit 0 at place 0.
+pub(crate) fn places_of(shape: Shape, server: usize) -> [usize; 4]
+    requires { ⌜ Server shape server ⌝ }
+    ensures { λ r. ⌜ r ≡ padded (digits shape server) ⌝ }
 {
-    digit_of(shape, server, level).value
+    digits_of(shape, server).places
 }
 
-// The server with the digit of a level set to a value.
-pub(crate) fn server_with(shape: Shape, server: usize, level: usize, value: usize) -> usize
-    requires { ⌜ Value shape server level value ⌝ }
-    ensures { λ r. ⌜ r ≡ withDigit shape level value server ⌝ }
+// The value after a value of a level, and 0 after the last that the level has.
+pub(crate) fn value_after(shape: Shape, level: usize, value: usize) -> usize
+    requires { ⌜ Valid shape × (level ≤ shape .k) × (value < 64) ⌝ }
+    ensures { λ r. ⌜ r ≡ plusOne shape level value ⌝ }
 {
-    neighbour_of(shape, server, level, value).value
-}
-
-// The value after a server's own at a level, and 0 after the last that the level has.
-pub(crate) fn value_after(shape: Shape, server: usize, level: usize) -> usize
-    requires { ⌜ Link shape server level ⌝ }
-    ensures { λ r. ⌜ r ≡ plusOne shape level (digit shape level server) ⌝ }
-{
-    let own = value_at(shape, server, level);
     let most = bound_of(shape, level).value;
-    (own + 1) % most
+    (value + 1) % most
 }
 
 // The level after a level in the order of correcting: the next lower one, and k after 0.

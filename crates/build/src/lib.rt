@@ -5,7 +5,7 @@ use crate::places::placed_at;
 use room::Refusal;
 // routes.rt: all the built routes of two servers
 mod routes;
-// hops.rt: digits, bounds and neighbours of a room that has been tested
+// hops.rt: digits, bounds and hops of a room that has been tested
 mod hops;
 // places.rt: eight bytes put among thirty-two
 mod places;

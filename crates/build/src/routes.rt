@@ -6,6 +6,7 @@ ghost use Rattle.build.specs.Sets.{setOf};
 ghost use Rattle.build.specs.Answers.{noBuilding, buildAnswer};
 use crate::Building;
 use crate::RouteSet;
+use crate::hops::places_of;
 use crate::slots::route_bytes;
 use path::ends_refusal;
 use room::Refusal;
@@ -26,12 +27,14 @@ fn all_routes(shape: Shape, source: usize, destination: usize) -> RouteSet
     requires { ⌜ endsRefusal shape source destination ≡ 0 ⌝ }
     ensures { λ r. ⌜ r ≡ setOf (builtArrays shape source destination) ⌝ }
 {
+    let from = places_of(shape, source);
+    let to = places_of(shape, destination);
     let mut set = RouteSet::new();
     let k = shape.k;
     let mut place: usize = 0;
     while place <= k {
         let slot = k - place;
-        let route = route_bytes(shape, slot, source, destination);
+        let route = route_bytes(shape, slot, from, to);
         let more = set.with_route(route);
         set = more;
         place += 1;

@@ -1,11 +1,11 @@
 -- `build::hops::value_after` meets its contract. Assumes nothing.
 use borrow.Author.Needs.{needs}
 use native.Mathlib.Omega.{arith}
-use mathlib.Core.Path.{ap, ap₂}
+use mathlib.Core.Path.{ap}
 use Prim.Native.Nat.{ℕ, _+_, _%_}
 use Rattle.room.specs.declared.Number.{Number}
 use Rattle.room.proofs.AnswerLaws.{bound-answered}
-use Rattle.room.proofs.RoomLaws.{bound-two, bound-le, digit-lt}
+use Rattle.room.proofs.RoomLaws.{bound-two}
 use Rattle.build.specs.Built.{plusOne}
 use Rattle.build.proofs.hops.value_after.Statement.{statement}
 use Rattle.build.proofs.hops.value_after.Tie as tie
@@ -16,7 +16,6 @@ value-after-spec =
     tie.close
     (tie.spec
     (λ c κs. search needs)
-    (λ c κs. search needs)
-    (λ c. let h = c .before .before .pre in let b = ap (λ (x : Number). x .value) (bound-answered (h .server .valid) (h .level) _ (c .bound-of .ensures)) in omega (arith, c .before .value-at .ensures, digit-lt (h .server) _ (h .level), bound-le (h .server .valid) (c .before .before .args .level)))
-    (λ c. let h = c .before .before .pre in let b = ap (λ (x : Number). x .value) (bound-answered (h .server .valid) (h .level) _ (c .bound-of .ensures)) in omega (arith, bound-two (h .server .valid) (c .before .before .args .level)))
-    (λ c. let h = c .before .before .pre in let b = ap (λ (x : Number). x .value) (bound-answered (h .server .valid) (h .level) _ (c .bound-of .ensures)) in ap₂ (λ (x y : ℕ). (x + 1) % y) (c .before .value-at .ensures) b))
+    (λ c. let h = c .before .pre in omega arith)
+    (λ c. let h = c .before .pre in let b = ap (λ (x : Number). x .value) (bound-answered (h .0) (h .1) _ (c .bound-of .ensures)) in omega (arith, bound-two (h .0) (c .before .args .level)))
+    (λ c. let h = c .before .pre in let b = ap (λ (x : Number). x .value) (bound-answered (h .0) (h .1) _ (c .bound-of .ensures)) in ap (λ (y : ℕ). (c .before .args .value + 1) % y) b))
