@@ -21,10 +21,10 @@ use Rattle.path.specs.declared.Walked.{Walked}
 use Rattle.path.specs.Lists.{isIn, filled}
 use Rattle.path.specs.Routes.{switchAt}
 use Rattle.path.specs.Walks.{Walk, stopped, arrived, hopTo, hopRefusal, fault, ended, walkFrom, walk}
-use Rattle.path.specs.Answers.{noHop, aHop, endsRefusal, arrayRefusal, walked}
+use Rattle.path.specs.Answers.{endsRefusal, arrayRefusal, walked}
 use Rattle.path.specs.Inside.{hopFrom, noTry, adds, newly, tried}
 use Rattle.path.proofs.ListSteps.{left, filled-is, rest-on, taken-on}
-use Rattle.path.proofs.HopSteps.{answer-chain, hop-value, hop-server}
+use Rattle.path.proofs.HopSteps.{answer-chain, hop-value, hop-server, hop-number, hop-next}
 
 -- ---- tests that two numbers are the same, or not
 
@@ -57,19 +57,6 @@ module _ (met used : List ℕ) (b w : ℕ) where
   both-new x y e h f g = rw (← e, h, ← f, g)
 
 -- ---- trying a hop: 8, 9, 10, then 11, then 12
-
-hop-number : (s : Shape) (a b : ℕ) (x : Hop) → x ≡ hopFrom s a b → x .number ≡ hopRefusal s a b
-unfolding hopFrom
-hop-number s a b x e = ap (λ (y : Hop). y .number) e ∙ go (hopRefusal s a b)
-  where
-    go : (q : ℕ) → answer q noHop (aHop (hopTo s a b)) .number ≡ q
-    go zero = refl
-    go (suc q) = refl
-
-hop-next : (s : Shape) (a b : ℕ) (x : Hop) → x ≡ hopFrom s a b → x .number ≡ 0 → x .next ≡ hopTo s a b
-unfolding hopFrom
-hop-next s a b x e z =
-    ap (λ (y : Hop). y .next) (answered (λ (y : Hop). y .number) noHop (λ r. refl) (hopRefusal s a b) x (aHop (hopTo s a b)) e z .1)
 
 pub try-link : (s : Shape) (a b : ℕ) (h : Hop) → h ≡ hopFrom s a b → h .number ≡ 0 → Server s a → linkRefusal s a (b / 64) ≡ 0
 try-link s a b h e z v = sym (link-none (hop-value s a b v (sym (hop-number s a b h e) ∙ z) .link))

@@ -1,15 +1,13 @@
 // One hop, by its byte.
 ghost use mathlib.Core.Path.{_≡_};
+ghost use Rattle.room.specs.Shapes.{bound};
 ghost use Rattle.room.specs.Refusals.{serverRefusal};
-ghost use Rattle.path.specs.Walks.{hopRefusal};
 ghost use Rattle.path.specs.Answers.{noHop, hopAnswer};
 ghost use Rattle.path.specs.Inside.{hopFrom};
 use crate::Hop;
+use crate::powers::power;
 use room::Refusal;
 use room::Shape;
-use room::bound_of;
-use room::digit_of;
-use room::neighbour_of;
 use room::server_refusal;
 
 fn no_hop(number: usize) -> Hop
@@ -18,40 +16,35 @@ fn no_hop(number: usize) -> Hop
     Hop { number, next: 0 }
 }
 
-// The first of 8, 9, 10 that refuses the hop by a byte, or 0.
-fn hop_refusal(shape: Shape, server: usize, byte: u8) -> usize
-    requires { ⌜ serverRefusal shape server ≡ 0 ⌝ }
-    ensures { λ r. ⌜ r ≡ hopRefusal shape server byte ⌝ }
+// The digit of a level is below this.
+fn digit_bound(shape: Shape, level: usize) -> usize
+    ensures { λ r. ⌜ r ≡ bound shape level ⌝ }
 {
-    let level = byte as usize / 64;
-    let value = byte as usize % 64;
-    if shape.k < level {
-        return Refusal::POSITION;
-    }
-    let most = bound_of(shape, level);
-    if most.value <= value {
-        return Refusal::VALUE;
-    }
-    let own = digit_of(shape, server, level);
-    if own.value == value {
-        return Refusal::NO_CHANGE;
-    }
-    0
+    let _level = level;
+    shape.n
 }
 
-// Where the hop by a byte leads from a server of the room. Refusals 8, 9, 10.
+// Where the hop by a byte leads from a server of the room, by one power of n. Refusals 8, 9, 10.
 pub(crate) fn hop_from(shape: Shape, server: usize, byte: u8) -> Hop
     requires { ⌜ serverRefusal shape server ≡ 0 ⌝ }
     ensures { λ r. ⌜ r ≡ hopFrom shape server byte ⌝ }
 {
-    let number = hop_refusal(shape, server, byte);
-    if number != 0 {
-        return no_hop(number);
+    let level = byte as usize / 64;
+    let value = byte as usize % 64;
+    if shape.k < level {
+        return no_hop(Refusal::POSITION);
     }
-    let there = neighbour_of(shape, server, byte as usize / 64, byte as usize % 64);
+    if digit_bound(shape, level) <= value {
+        return no_hop(Refusal::VALUE);
+    }
+    let weight = power(shape.n, level);
+    let own = server / weight % shape.n;
+    if own == value {
+        return no_hop(Refusal::NO_CHANGE);
+    }
     Hop {
         number: 0,
-        next: there.value,
+        next: server - own * weight + value * weight,
     }
 }
 

@@ -2,6 +2,8 @@
 use room::Refusal;
 // hops.rt: one hop, by its byte
 mod hops;
+// powers.rt: powers of n
+mod powers;
 // readings.rt: plain reading
 mod readings;
 // repeats.rt: servers and switches already on the route

@@ -1,27 +1,22 @@
 -- Laws of one step: what each test tells, which refusals arise at the hop, and the step from the next server.
-use Prim.Native.Nat.{ℕ, zero, suc, _+_, _-_, _*_, _/_, _%_, _^_, _≤_, _<_}
+use Prim.Native.Nat.{ℕ, zero, suc, _+_, _/_, _%_, _≤_, _<_}
 use mathlib.Core.Path.{_≡_, refl, sym, ap, _∙_}
 use mathlib.Core.Logic.{_≢_}
 use mathlib.Core.List.{List}
 use mathlib.Core.Bool.{Bool, true, false, not, cond, _&&_}
 use native.Mathlib.Omega.{arith}
-use native.Mathlib.Nat.{mod-add-div, mul-add, mul-comm, mul-le-mul-left}
 use lib.ListN.{length, getD}
 use lib.Dec.{ltb, leb, eqb}
-use borrow.Author.Tests.{lt-ltb, le-ltb, le-leb, lt-leb, ltb-true, eq-eqb, ne-eqb, eqb-true}
+use borrow.Author.Tests.{lt-ltb, le-ltb, ltb-true, eq-eqb, ne-eqb, eqb-true}
 use Rattle.room.specs.declared.Shape.{Shape}
 use Rattle.room.specs.declared.Refusal.{Refusal}
 use Rattle.room.specs.declared.Number.{Number}
-use Rattle.room.specs.Shapes.{serversOf, bound, Valid, Server, Value}
-use Rattle.room.specs.Addresses.{digit, withDigit}
+use Rattle.room.specs.Shapes.{serversOf, bound, Valid, Server}
+use Rattle.room.specs.Addresses.{digit}
 use Rattle.room.specs.Refusals.{none, plain, refusedAt, shapeRefusal, serverRefusal, pairRefusal, _or-else_, _unless_}
 use Rattle.room.specs.Answers.{answer, aNumber}
-use Rattle.room.proofs.DigitLaws.{pow-small}
 use Rattle.room.proofs.RefusalLaws.{or-else-zero, chain-stops, chain-goes, test-held, valid-none, server-none, pair-of, pair-none, answered}
-use Rattle.room.proofs.RoomLaws.{bound-le, digit-closed-at, with-closed-at}
-use Rattle.path.specs.declared.Hop.{Hop}
 use Rattle.path.specs.Walks.{hopTo, hopRefusal}
-use Rattle.path.specs.Answers.{noHop, hopAnswer}
 use Rattle.step.specs.declared.Step.{Step}
 use Rattle.step.specs.Steps.{macAt, portAt, flagAt, givenRefusal, byteRefusal, awayRefusal, stepRefusal, atHop, placed, stopped, noStep, delivery, forwarded, stepAnswer, nextAnswer}
 
@@ -40,76 +35,6 @@ pub ends-there : {s : Shape} {a : ℕ} (d : ℕ) → Server s a → serversOf s 
 unfolding pairRefusal serverRefusal
 ends-there {s} {a} d v h =
     chain-goes _ _ _ _ (server-none v) refl (chain-goes _ _ _ _ (valid-none (v .valid)) refl (simp (le-ltb d (serversOf s) h)))
-
--- ---- one hop, with the power p of n at hand
-
--- a number with one digit set: its own value at the place taken off, the new one put there
-pub record Moved (s : Shape) (a l v p : ℕ) : Type 0 where
-  pub own-le : a / p % s .n * p ≤ a
-  pub new-le : v * p ≤ 1073741824
-  pub whole : a - a / p % s .n * p + v * p ≡ withDigit s l v a
-
-pub moved : {s : Shape} {a l v : ℕ} → Value s a l v → (p : ℕ) → p ≡ s .n ^ l → Moved s a l v p
-moved {s} {a} {l} {v} h p e =
-    let n = s .n in
-    let q = a / p in
-    let x : p * q ≡ p * (q % n) + p * (n * (q / n)) = ap (λ (y : ℕ). p * y) (sym (mod-add-div q n)) ∙ mul-add p (q % n) (n * (q / n)) in
-    let y = mul-add p v (n * (q / n)) in
-    let w = with-closed-at h p e in
-    let z = mul-comm (q % n) p in
-    let u = mul-comm v p in
-    let t = mod-add-div a p in
-    let k : p ≤ 16777216 = rw e (pow-small n l (h .link .server .valid .ports) (omega (arith, h .link .level, h .link .server .valid .levels))) in
-    let f : v < 64 = omega (arith, h .value, bound-le (h .link .server .valid) l, h .link .server .valid .ports) in
-    record { own-le = omega arith; new-le = omega (arith, mul-le-mul-left v k); whole = omega arith }
-
-module _ {s : Shape} {a : ℕ} (h : Server s a) (b : ℕ) where
-  hop-number : (r : ℕ) → hopRefusal s a b ≡ suc r → noHop (suc r) ≡ hopAnswer s a b
-  unfolding hopAnswer _or-else_
-  hop-number r e = rw (← server-none h, e)
-
-  hop-found : (x : ℕ) → hopRefusal s a b ≡ 0 → x ≡ hopTo s a b → _≡_ {A = Hop} (record { number = 0; next = x }) (hopAnswer s a b)
-  unfolding hopAnswer _or-else_
-  hop-found x e g = rw (← server-none h, e, g)
-
-  pub hop-eight : s .k < b / 64 → noHop 8 ≡ hopAnswer s a b
-  unfolding hopRefusal _or-else_
-  hop-eight p = hop-number 7 (rw (lt-leb (b / 64) (s .k) p))
-
-  module _ (m : ℕ) (level : b / 64 ≤ s .k) (most : m ≡ bound s (b / 64)) where
-    pub hop-nine : m ≤ b % 64 → noHop 9 ≡ hopAnswer s a b
-    unfolding hopRefusal _or-else_
-    hop-nine q = let r : bound s (b / 64) ≤ b % 64 = omega arith in hop-number 8 (rw (le-leb (b / 64) (s .k) level, le-ltb (b % 64) (bound s (b / 64)) r))
-
-    module _ (q : b % 64 < m) (p : ℕ) (power : p ≡ s .n ^ (b / 64)) where
-      pub hop-value : Value s a (b / 64) (b % 64)
-      hop-value = record { link = record { server = h; level = level }; value = omega arith }
-
-      pub hop-ten : a / p % s .n ≡ b % 64 → noHop 10 ≡ hopAnswer s a b
-      unfolding hopRefusal _or-else_
-      hop-ten e =
-          hop-number 9
-          (rw (le-leb (b / 64) (s .k) level, lt-ltb (b % 64) (bound s (b / 64)) (hop-value .value), eq-eqb (digit s (b / 64) a) (b % 64) (sym (digit-closed-at (hop-value .link) p power) ∙ e)))
-
-      pub hop-goes : a / p % s .n ≢ b % 64 → _≡_ {A = Hop} (record { number = 0; next = a - a / p % s .n * p + b % 64 * p }) (hopAnswer s a b)
-      unfolding hopRefusal hopTo _or-else_
-      hop-goes e =
-          hop-found _
-          (rw (le-leb (b / 64) (s .k) level, lt-ltb (b % 64) (bound s (b / 64)) (hop-value .value), ne-eqb (digit s (b / 64) a) (b % 64) (λ f. e (digit-closed-at (hop-value .link) p power ∙ f))))
-          (moved hop-value p power .whole)
-
--- for a caller: the number is that of the byte, and with none the hop leads where it says
-pub hop-answered : {s : Shape} {a : ℕ} (b : ℕ) (x : Hop) → Server s a → x ≡ hopAnswer s a b → x .number ≡ hopRefusal s a b
-unfolding hopAnswer _or-else_
-hop-answered {s} {a} b x h e = let g : x ≡ answer (hopRefusal s a b) noHop (record { number = 0; next = hopTo s a b }) = rw (← server-none h) at e in go (hopRefusal s a b) g
-  where
-    go : (q : ℕ) → x ≡ answer q noHop (record { number = 0; next = hopTo s a b }) → x .number ≡ q
-    go zero g = ap (λ (y : Hop). y .number) g
-    go (suc q) g = ap (λ (y : Hop). y .number) g
-
-pub hop-next : {s : Shape} {a : ℕ} (b : ℕ) (x : Hop) → Server s a → x ≡ hopAnswer s a b → x .number ≡ 0 → x .next ≡ hopTo s a b
-unfolding hopAnswer
-hop-next {s} {a} b x h e z = ap (λ (y : Hop). y .next) (answered (λ (y : Hop). y .number) noHop (λ r. refl) (serverRefusal s a or-else hopRefusal s a b) x _ e z .1)
 
 -- ---- what a step is given
 

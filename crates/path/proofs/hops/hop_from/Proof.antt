@@ -1,25 +1,29 @@
 -- `path::hops::hop_from` meets its contract. Assumes nothing.
+use native.Mathlib.Omega.{arith}
 use borrow.Author.Needs.{needs}
-use mathlib.Core.Path.{sym, ap, _∙_}
-use Prim.Native.Nat.{ℕ}
-use Rattle.room.proofs.RefusalLaws.{server-of, answer-refused, answer-given}
-use Rattle.path.specs.Walks.{hopTo}
-use Rattle.path.specs.Answers.{noHop, aHop}
-use Rattle.path.specs.Inside.{hopFrom}
-use Rattle.path.proofs.HopSteps.{neighbour-found, hop-value}
+use mathlib.Core.Path.{_≡_, _∙_}
+use Rattle.room.proofs.RefusalLaws.{server-of}
+use Rattle.room.proofs.RoomLaws.{weight-pos}
+use Rattle.path.proofs.HopSteps.{hop-eight, hop-nine, hop-moved, hop-ten, hop-goes}
 use Rattle.path.proofs.hops.hop_from.Statement.{statement}
 use Rattle.path.proofs.hops.hop_from.Tie as tie
 
 pub hop-from-spec : {M : Type 1} → statement M
-unfolding hopFrom hopTo
 hop-from-spec =
     tie.close
     (tie.spec
     (λ c κs. search needs)
+    (λ c. c .no-hop .ensures ∙ hop-eight _ _ _ (c .before .if1 .taken))
     (λ c κs. search needs)
-    (λ c. answer-refused _ _ noHop _ _ (c .no-hop .ensures) (c .before .before .hop-refusal .ensures) (c .before .if1 .taken))
     (λ c κs. search needs)
-    (λ c.
-    let z = sym (c .before .before .hop-refusal .ensures) ∙ c .before .if1 .left in
-    answer-given _ _ noHop _ _ (c .before .before .hop-refusal .ensures) (c .before .if1 .left)
-    (ap aHop (neighbour-found (hop-value _ _ _ (server-of _ _ (c .before .before .before .pre)) z) _ (c .neighbour-of .ensures)))))
+    (λ c. c .no-hop2 .ensures ∙ hop-nine _ _ _ _ (c .before .before .before .if1 .left) (c .before .before .digit-bound .ensures) (c .before .if2 .taken))
+    (λ c κs. let h = server-of _ _ (c .before .before .before .before .pre) in (omega arith, omega arith))
+    (λ c. let h = server-of _ _ (c .before .before .before .before .before .pre) in weight-pos (h .valid) _ _ (c .power .ensures))
+    (λ c. let h = server-of _ _ (c .before .before .before .before .before .before .pre) in omega arith)
+    (λ c κs. search needs)
+    (λ c. let h = server-of _ _ (c .before .before .before .before .before .before .before .before .pre) in c .no-hop3 .ensures ∙ hop-ten _ _ _ _ (c .before .before .before .before .before .before .if1 .left) (c .before .before .before .before .before .digit-bound .ensures) (c .before .before .before .before .if2 .left) h _ (c .before .before .before .power .ensures) (c .before .if3 .taken))
+    (λ c. let h = server-of _ _ (c .before .before .before .before .before .before .before .pre) in let m = hop-moved _ _ (c .before .before .before .before .before .before .before .args .byte) _ (c .before .before .before .before .before .if1 .left) (c .before .before .before .before .digit-bound .ensures) (c .before .before .before .if2 .left) h _ (c .before .before .power .ensures) in omega arith)
+    (λ c. let h = server-of _ _ (c .before .before .before .before .before .before .before .pre) in let m = hop-moved _ _ (c .before .before .before .before .before .before .before .args .byte) _ (c .before .before .before .before .before .if1 .left) (c .before .before .before .before .digit-bound .ensures) (c .before .before .before .if2 .left) h _ (c .before .before .power .ensures) in omega arith)
+    (λ c. let h = server-of _ _ (c .before .before .before .before .before .before .before .pre) in let m = hop-moved _ _ (c .before .before .before .before .before .before .before .args .byte) _ (c .before .before .before .before .before .if1 .left) (c .before .before .before .before .digit-bound .ensures) (c .before .before .before .if2 .left) h _ (c .before .before .power .ensures) in omega arith)
+    (λ c. let h = server-of _ _ (c .before .before .before .before .before .before .before .pre) in let m = hop-moved _ _ (c .before .before .before .before .before .before .before .args .byte) _ (c .before .before .before .before .before .if1 .left) (c .before .before .before .before .digit-bound .ensures) (c .before .before .before .if2 .left) h _ (c .before .before .power .ensures) in omega arith)
+    (λ c. let h = server-of _ _ (c .before .before .before .before .before .before .before .pre) in hop-goes _ _ _ _ (c .before .before .before .before .before .if1 .left) (c .before .before .before .before .digit-bound .ensures) (c .before .before .before .if2 .left) h _ (c .before .before .power .ensures) (c .if3 .left)))
