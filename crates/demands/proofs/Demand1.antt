@@ -1,7 +1,6 @@
 -- Demand 1, proved.
 use Prim.Native.Nat.{ℕ, zero, suc, _+_, _*_, _/_, _%_, _≤_}
 use mathlib.Core.Path.{_≡_, refl, sym, ap, _∙_, subst}
-use mathlib.Core.Logic.{_≢_}
 use mathlib.Core.Bool.{Bool, true, false, not, cond, _&&_}
 use mathlib.Core.List.{List, [], _∷_, _++_, map}
 use native.Mathlib.Omega.{arith}
@@ -16,7 +15,7 @@ use Rattle.room.specs.Addresses.{differing}
 use Rattle.room.specs.Answers.{answer, onlyLevel, serversAnswer, boundAnswer, digitsAnswer, digitAnswer, addressAnswer, switchAnswer, neighbourAnswer, betweenAnswer}
 use Rattle.room.proofs.RefusalLaws.{or-else-zero, test-held, both-held}
 use Rattle.links.specs.Table.{tableRefusal}
-use Rattle.links.specs.Answers.{failedAnswer, linkAnswer, markedTable, clearedTable}
+use Rattle.links.specs.Answers.{failedAnswer, linkAnswer}
 use Rattle.path.specs.Lists.{isIn}
 use Rattle.path.specs.Routes.{encode}
 use Rattle.path.specs.Walks.{Walk, stopped, arrived, walk, hopTo}
@@ -34,8 +33,7 @@ use Rattle.pick.proofs.Promises.{empty-exactly}
 use Rattle.step.specs.declared.Step.{Step}
 use Rattle.step.specs.Steps.{flagAt, givenRefusal, byteRefusal, awayRefusal, stepRefusal, atHop, placed, noStep, delivery, forwarded, stepAnswer}
 use Rattle.step.proofs.PackLaws.{hop-le}
-use Rattle.driver.proofs.WordLaws.{left-lent}
-use Rattle.demands.specs.Demand1.{whole, at-hop, Placed, OneOf, nought, listed, RefusalOf, NumberOf, DigitsOf, SwitchOf, BetweenOf, AskedOf, WalkedOf, ReadingOf, WritingOf, BuildingOf, FoundOf, SelectionOf, PlaceOf, StepOf, HopOf, ofTheWhole, ofAHop, EveryCall, EveryBuffer}
+use Rattle.demands.specs.Demand1.{whole, at-hop, Placed, OneOf, nought, listed, RefusalOf, NumberOf, DigitsOf, SwitchOf, BetweenOf, AskedOf, WalkedOf, ReadingOf, WritingOf, BuildingOf, FoundOf, SelectionOf, PlaceOf, StepOf, HopOf, ofTheWhole, ofAHop, EveryCall}
 use Rattle.demands.proofs.Refusing.{test-one, chain-one, one-of, all, all-at, given-refuses, bare-refuses, answer-refuses, plain-placed}
 use Rattle.demands.proofs.Numbers.{shape-numbers, level-numbers, server-numbers, pair-numbers, link-numbers, value-numbers, places-numbers, table-numbers, table-link-numbers, ends-numbers, array-numbers, room-numbers, list-numbers, hop-numbers, fault-numbers, plain-numbers, write-numbers}
 use Rattle.demands.proofs.Stops.{StopsAt, array-stops, write-stops, arrays-stop, arrays-long, pairs-stop, first-of}
@@ -334,13 +332,3 @@ every-call =
       step-once = step-once;
       step-hop = step-hop;
     }
-
--- ---- lent buffers
-
-pub every-buffer : EveryBuffer
-unfolding linkAnswer markedTable clearedTable
-every-buffer = record { marked = λ s t a l n. kept _ t _ n; cleared = λ s t a l n. kept _ t _ n; from-c = λ r lent written n. sym (left-lent r lent written n) }
-  where
-    kept : (q : ℕ) (t u : List ℕ) → q ≢ 0 → answer q (λ r. t) u ≡ t
-    kept zero t u n = absurd (n refl)
-    kept (suc q) t u n = refl

@@ -1,24 +1,41 @@
 -- Demand 2, proved.
-use Prim.Native.Nat.{ℕ, zero, suc, _+_, _-_, _*_, _^_, _≤_, _<_}
+use Prim.Native.Nat.{ℕ, suc, _*_, _/_, _%_, _^_}
 use mathlib.Core.Path.{_≡_, refl, sym, ap, subst, _∙_}
-use mathlib.Core.List.{List, [], _∷_, _++_}
+use mathlib.Core.Bool.{Bool, true, false, cond}
+use mathlib.Core.List.{List, [], _∷_, _++_, reverse}
 use native.Mathlib.Omega.{arith}
 use native.Mathlib.Nat.{pow-suc, pow-zero, mul-zero, mul-add, mul-assoc, mul-comm, one-mul}
-use lib.ListN.{length}
+use lib.Dec.{eqb}
+use lib.ListN.{length, getD, take}
+use borrow.Author.Tests.{eq-eqb, ne-eqb}
 use Rattle.room.specs.declared.Shape.{Shape}
-use Rattle.room.specs.Shapes.{Server, Link}
+use Rattle.room.specs.Shapes.{Server}
 use Rattle.room.specs.Digits.{addressOf}
-use Rattle.room.specs.Addresses.{digits}
+use Rattle.room.specs.Addresses.{digits, digit}
+use Rattle.room.specs.Refusals.{none}
+use Rattle.room.proofs.RefusalLaws.{answered}
 use Rattle.room.proofs.RoomLaws as rooms
+use Rattle.links.specs.Answers.{linkAnswer}
+use Rattle.links.proofs.TableLaws as tables
+use Rattle.links.proofs.AnswerLaws.{marked-answered, cleared-answered, mark-again, clear-again}
+use Rattle.path.specs.declared.Reading.{Reading}
+use Rattle.path.specs.Lists.{filled}
+use Rattle.path.specs.Walks.{hopTo, hopRefusal}
+use Rattle.path.proofs.ListLaws.{take-filled}
+use Rattle.path.proofs.HopLaws.{hop-exactly, hop-server, hop-neighbours}
 use Rattle.path.proofs.CodecLaws as codec
 use Rattle.path.proofs.CodecLaws.{Ends, ends-of}
 use Rattle.build.specs.Built.{builtRoute, builtHops}
 use Rattle.build.proofs.BuiltLaws as built
-use Rattle.select.specs.declared.Selection.{Selection}
 use Rattle.select.specs.Selection.{Slot, kept, replaced, nothing}
 use Rattle.select.proofs.SelectLaws as selected
 use Rattle.select.proofs.SelectLaws.{gives, At, slots-at}
-use Rattle.demands.specs.Demand2.{weighed, AddressesExactly, DigitsExactly, SwitchesExactly, SwitchesNumbered, NeighboursExactly, BuiltExactly, ReadExactly, WriteExactly, ReadThenWrite, WriteThenRead, ReverseTwice, SlotGives, BrokenGivesWay, NoRouteExactly}
+use Rattle.pick.specs.Picks.{pickAnswer}
+use Rattle.pick.proofs.Promises.{sixteen-exactly}
+use Rattle.step.specs.declared.Step.{Step}
+use Rattle.step.specs.Steps.{stepRefusal, placed, noStep, delivery, forwarded, stepAnswer}
+use Rattle.step.proofs.StepLaws.{placed-number, goes-of}
+use Rattle.demands.specs.Demand2.{weighed, AddressesExactly, DigitsExactly, SwitchesExactly, SwitchesNumbered, NeighboursExactly, BuiltExactly, ReadExactly, WriteExactly, ReadThenWrite, WriteThenRead, ReverseThenRead, ReverseTwice, SlotGives, BrokenGivesWay, NoRouteExactly, NonePickedExactly, Changes, Marking, Clearing, Goes, StepGoes, StepDelivers}
 
 -- ---- addresses, switches and built routes
 
@@ -75,6 +92,13 @@ read-then-write = codec.read-then-write
 
 pub write-then-read : WriteThenRead
 write-then-read = codec.write-then-read
+
+pub reverse-then-read : ReverseThenRead
+reverse-then-read s a d bs e =
+    let p = codec.reverse-exactly s a d bs .0 e in
+    codec.reverse-then-read (p .1)
+    ∙ ap (λ (l : List ℕ). record { refusal = none; count = length (p .0); servers = filled 9 (reverse l) }) (sym (take-filled 9 (p .0)))
+    ∙ ap (λ (x : Reading). record { refusal = none; count = x .count; servers = filled 9 (reverse (take (x .count) (x .servers))) }) (sym (codec.read-given (p .1)))
 
 pub reverse-twice : ReverseTwice
 reverse-twice = codec.reverse-twice
@@ -133,4 +157,81 @@ broken-gives-way s t a d r f z =
     }
 
 pub no-route-exactly : NoRouteExactly
-no-route-exactly = selected.sixteen-exactly
+no-route-exactly s t a d r f = (
+  λ n. let e = selected.sixteen-only s t a d r f n in (e, selected.sixteen-exactly s t a d r e f .0 n),
+  λ p. selected.sixteen-exactly s t a d r (p .0) f .1 (p .1),
+)
+
+pub none-picked-exactly : NonePickedExactly
+unfolding pickAnswer
+none-picked-exactly s t a d fs ks = sixteen-exactly s t a d fs ks
+
+-- ---- the failed-link table
+
+pub marking : Marking
+unfolding linkAnswer
+marking s t a l z =
+    let p = tables.table-link-of s t a l z in
+    let e = marked-answered (p .0) (p .1) in (
+      subst (Changes s t a l true) (sym e)
+          (record {
+            own = tables.marked-own a l t (omega (arith, p .0 .server .below, p .1 .long));
+            other = λ b m q. tables.marked-other a l b m t q;
+            bytes = λ b q. tables.marked-byte a l b t q;
+            long = tables.marked-long a l t;
+            table = tables.marked-table (p .1) a l (p .0 .level);
+          }),
+      mark-again s t a l,
+    )
+
+pub clearing : Clearing
+unfolding linkAnswer
+clearing s t a l z =
+    let p = tables.table-link-of s t a l z in
+    let e = cleared-answered (p .0) (p .1) in (
+      subst (Changes s t a l false) (sym e)
+          (record {
+            own = tables.cleared-own a l t (omega (arith, p .0 .server .below, p .1 .long));
+            other = λ b m q. tables.cleared-other a l b m t q;
+            bytes = λ b q. tables.cleared-byte a l b t q;
+            long = tables.cleared-long a l t;
+            table = tables.cleared-table (p .1) a l;
+          }),
+      clear-again s t a l,
+    )
+
+-- ---- one forwarding step
+
+step-answered : (s : Shape) (a d i : ℕ) (bs e : List ℕ) → stepAnswer s a d i bs e .refusal .number ≡ 0 → (stepRefusal s a d i bs e ≡ 0) × (stepAnswer s a d i bs e ≡ cond (eqb a d) delivery (forwarded s a i e (getD bs i 0)))
+unfolding stepAnswer
+step-answered s a d i bs e z =
+    answered (λ (x : Step). x .refusal .number) (λ r. noStep (placed i r)) (λ r. placed-number i r) (stepRefusal s a d i bs e) (stepAnswer s a d i bs e) _ refl z
+
+hop-digit : {s : Shape} {a : ℕ} → Server s a → (b : ℕ) → hopRefusal s a b ≡ 0 → digit s (b / 64) (hopTo s a b) ≡ b % 64
+unfolding hopTo
+hop-digit h b t = rooms.with-same (hop-exactly h b .0 t .0)
+
+pub step-goes : StepGoes
+step-goes s a d i bs e n z =
+    let p = step-answered s a d i bs e z in
+    let g = goes-of s a d i bs e (p .0) n in
+    let b = getD bs i 0 in
+    let h = g .given .here in
+    let q : stepAnswer s a d i bs e ≡ forwarded s a i e b = p .1 ∙ ap (λ (x : Bool). cond x delivery (forwarded s a i e b)) (ne-eqb a d n) in (
+      g .index,
+      subst (Goes s a i e b) (sym q)
+          (record {
+            refusal = refl;
+            delivered = refl;
+            server = hop-server h b (g .taken);
+            neighbour = hop-neighbours h b (g .taken);
+            value = hop-digit h b (g .taken);
+            index = refl;
+            mac = refl;
+            port = refl;
+          }),
+    )
+
+pub step-delivers : StepDelivers
+step-delivers s a d i bs e q z =
+    step-answered s a d i bs e z .1 ∙ ap (λ (x : Bool). cond x delivery (forwarded s a i e (getD bs i 0))) (eq-eqb a d q)

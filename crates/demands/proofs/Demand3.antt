@@ -1,28 +1,56 @@
 -- Demand 3, proved.
-use Prim.Native.Nat.{ℕ, zero, suc, _-_, _<_}
-use mathlib.Core.Path.{_≡_, refl, sym, ap, ap₂, _∙_}
-use mathlib.Core.List.{List, [], _++_, map}
+use Prim.Native.Nat.{ℕ, zero, suc, _+_, _-_, _*_, _≤_, _<_, suc-le-suc, zero-le}
+use mathlib.Core.Path.{_≡_, refl, sym, ap, ap₂, subst, _∙_}
+use mathlib.Core.List.{List, [], _∷_, _++_, map}
 use native.Mathlib.Omega.{arith}
-use native.Mathlib.Nat.{le-of-suc-le-suc, le-refl}
-use lib.ListN.{length, getD}
+use native.Mathlib.Nat.{le-of-suc-le-suc, le-refl, zero-add, suc-add}
+use lib.ListN.{length, getD, take, drop, replicate, length-append}
+use lib.Seq.{take-at}
 use Rattle.room.specs.declared.Shape.{Shape}
-use Rattle.room.proofs.RefusalLaws.{chain-goes}
-use Rattle.links.specs.Table.{live}
-use Rattle.path.specs.Routes.{RouteTo, Parallel, encode}
-use Rattle.path.proofs.CodecLaws.{Ends, ends-of}
-use Rattle.verdict.specs.Checks.{roomRefusal}
+use Rattle.room.specs.declared.Refusal.{Refusal}
+use Rattle.room.specs.Refusals.{none, plain}
+use Rattle.room.proofs.RefusalLaws.{chain-goes, or-else-zero, answered}
+use Rattle.links.specs.Table.{live, tableRefusal}
+use Rattle.path.specs.declared.Reading.{Reading}
+use Rattle.path.specs.Lists.{filled}
+use Rattle.path.specs.Routes.{RouteTo, Parallel, Encodes, encode}
+use Rattle.path.specs.Answers.{endsRefusal, readAnswer}
+use Rattle.path.proofs.ListLaws.{take-filled}
+use Rattle.path.proofs.ReverseLaws.{source-server, dest-server, ends-differ, route-to-plain}
+use Rattle.path.proofs.CodecLaws.{Ends, ends-of, ends-none, encode-long, read-given}
+use Rattle.verdict.specs.Checks.{roomRefusal, listRefusal, checkAnswer}
 use Rattle.verdict.specs.Accepted.{encodeAll, Accepted}
-use Rattle.verdict.proofs.AcceptLaws.{accept-exactly, of-accepted}
+use Rattle.verdict.proofs.AcceptLaws.{accepted-of, of-accepted, encoded-long}
+use Rattle.build.specs.declared.Building.{Building}
 use Rattle.build.specs.Built.{downFrom, builtRoute, builtBytes, builtArrays}
-use Rattle.build.specs.Sets.{joined}
+use Rattle.build.specs.Sets.{joined, setOf, held}
+use Rattle.build.specs.Answers.{buildAnswer, noBuilding, aBuilding}
+use Rattle.build.proofs.ArrayLaws.{arrays-count}
 use Rattle.build.proofs.BuiltLaws.{built-route, built-encode, built-parallel}
 use Rattle.select.proofs.SelectLaws.{selection-checked}
-use Rattle.step.specs.declared.Step.{Step}
+use Rattle.step.specs.Delivery.{Tables}
 use Rattle.step.proofs.DeliveryLaws.{each-hop, then-delivered}
-use Rattle.demands.specs.Demand3.{AcceptedExactly, Healthy, BuiltAccepted, SelectionAccepted, Delivery}
+use Rattle.demands.specs.Demand3.{arrayAt, serversRead, AcceptedExactly, Healthy, BuiltAccepted, SelectionAccepted, Delivers, Delivery}
+
+-- a list that is accepted is not refused as a whole
+checked-room : (s : Shape) (t : List ℕ) (a d : ℕ) (bs : List ℕ) → checkAnswer s t a d bs ≡ none → tableRefusal s t ≡ 0
+unfolding checkAnswer listRefusal roomRefusal
+checked-room s t a d bs e =
+    let z = answered (λ (r : Refusal). r .number) plain (λ r. refl) (listRefusal s t a d bs) (checkAnswer s t a d bs) _ refl (ap (λ (r : Refusal). r .number) e) in
+    or-else-zero (endsRefusal s a d) (tableRefusal s t) (or-else-zero (roomRefusal s t a d) _ (z .0) .0) .1
+
+-- the ends of an accepted list are servers, and differ
+accepted-room : (s : Shape) (t : List ℕ) (a d : ℕ) (bs : List ℕ) → tableRefusal s t ≡ 0 → Accepted s t a d bs → roomRefusal s t a d ≡ 0
+unfolding roomRefusal
+accepted-room s t a d bs e h =
+    let r = h .each 0 (h .some) in
+    sym (chain-goes _ _ _ _ (ends-none (record { source = source-server r; dest = dest-server r; differ = ends-differ r })) refl (sym e))
 
 pub accepted-exactly : AcceptedExactly
-accepted-exactly = accept-exactly
+accepted-exactly s t a d bs = (
+  λ e. (checked-room s t a d bs e, accepted-of s t a d bs e),
+  λ p. of-accepted s t a d bs (accepted-room s t a d bs (p .0) (p .1)) (p .1),
+)
 
 -- a route is one over every table in which no link is failed
 healthy-route : {s : Shape} {t vs : List ℕ} {a d : ℕ} → Healthy s t → RouteTo s [] a d vs → RouteTo s t a d vs
@@ -81,20 +109,89 @@ built-list s t a d e h = record { routes = R; some = omega (arith, R-long); most
         rw (R-at i (omega arith), R-at j q)
         (built-parallel s a d (e .source) (e .dest) (e .differ) (suc (s .k) - suc i) (suc (s .k) - suc j) (omega arith) (omega arith) (λ z. omega (arith, R-long)))
 
+-- the list of the arrays that building puts into a set
+joined-long : (s : Shape) (a d m : ℕ) → ((i : ℕ) → i < m → length (builtBytes s i a d) ≡ 8) → length (joined (map (λ i. builtBytes s i a d) (downFrom m))) ≡ 8 * m
+unfolding joined
+joined-long s a d zero h = refl
+joined-long s a d (suc m) h =
+    length-append (builtBytes s m a d) (joined (map (λ i. builtBytes s i a d) (downFrom m)))
+    ∙ omega (arith, h m (le-refl (suc m)), joined-long s a d m (λ i p. h i (omega arith)))
+
+built-held : (s : Shape) (a d : ℕ) → Ends s a d → held (setOf (builtArrays s a d)) ≡ joined (builtArrays s a d)
+unfolding setOf filled builtArrays
+built-held s a d e =
+    take-at (joined (builtArrays s a d)) (replicate (32 - length (joined (builtArrays s a d))) 0) (8 * length (builtArrays s a d))
+    (joined-long s a d (suc (s .k)) long ∙ ap (λ (m : ℕ). 8 * m) (sym (arrays-count s a d)))
+  where
+    long : (i : ℕ) → i < suc (s .k) → length (builtBytes s i a d) ≡ 8
+    long i p =
+        let q = le-of-suc-le-suc p in
+        sym (ap length (built-encode s a d (e .source) (e .dest) (e .differ) i q))
+        ∙ encode-long s (builtRoute s i a d) (built-route s a d (e .source) (e .dest) (e .differ) i q .route .few)
+
 pub built-accepted : BuiltAccepted
-unfolding roomRefusal
-built-accepted s t a d e h =
-    of-accepted s t a d (joined (builtArrays s a d)) (sym (chain-goes _ _ _ _ refl e (sym (h .table))))
-    (built-list s t a d (ends-of s a d e) h)
+unfolding roomRefusal buildAnswer setOf
+built-accepted s t a d z h =
+    let p = answered (λ (x : Building). x .refusal .number) noBuilding (λ r. refl) (endsRefusal s a d) (buildAnswer s a d) (aBuilding (setOf (builtArrays s a d))) refl z in
+    let e = ends-of s a d (p .0) in
+    let q : checkAnswer s t a d (held (setOf (builtArrays s a d))) ≡ none =
+    ap (checkAnswer s t a d) (built-held s a d e)
+    ∙ of-accepted s t a d (joined (builtArrays s a d)) (sym (chain-goes _ _ _ _ refl (p .0) (sym (h .table)))) (built-list s t a d e h) in (
+      ap (λ (x : Building). x .routes .count) (p .1) ∙ arrays-count s a d,
+      ap (λ (x : Building). checkAnswer s t a d (held (x .routes))) (p .1) ∙ q,
+    )
 
 pub selection-accepted : SelectionAccepted
 selection-accepted = selection-checked
 
+-- ---- delivery
+
+-- bytes that are those of a route over live links
+pub encoded-delivery : (s : Shape) (t : List ℕ) (a d : ℕ) (bs vs : List ℕ) (tables : ℕ → List ℕ) → Encodes s t a d bs vs → Tables s t tables → Delivers s d bs tables a vs
+encoded-delivery s t a d bs vs tables e h = record { hop = each-hop e h; delivered = then-delivered e h }
+
+-- the array at a place of an encoded list is that of the route there
+encoded-at : (s : Shape) (vss : List (List ℕ)) → ((i : ℕ) → i < length vss → length (getD vss i []) ≤ 9) → (i : ℕ) → i < length vss → arrayAt i (encodeAll s vss) ≡ encode s (getD vss i [])
+unfolding encodeAll
+encoded-at s [] h i p = let z : ⊥ = omega arith in absurd z
+encoded-at s (vs ∷ vss) h zero p = take-at (encode s vs) (encodeAll s vss) 8 (encode-long s vs (h zero p))
+encoded-at s (vs ∷ vss) h (suc i) p =
+    let l : length (encode s vs) ≡ 8 = encode-long s vs (h zero (suc-le-suc zero-le)) in
+    let m : 8 * suc i ≡ 8 + 8 * i = omega arith in
+    ap (λ (j : ℕ). take 8 (drop j (encode s vs ++ encodeAll s vss))) m
+    ∙ ap (take 8) (past (encode s vs) (encodeAll s vss) 8 (8 * i) l)
+    ∙ encoded-at s vss (λ j q. h (suc j) (suc-le-suc q)) i (le-of-suc-le-suc p)
+  where
+    past : (xs ys : List ℕ) (m j : ℕ) → length xs ≡ m → drop (m + j) (xs ++ ys) ≡ drop j ys
+    past [] ys zero j l = rw (zero-add j)
+    past [] ys (suc m) j l = let z : ⊥ = omega arith in absurd z
+    past (x ∷ xs) ys zero j l = let z : ⊥ = omega arith in absurd z
+    past (x ∷ xs) ys (suc m) j l = rw (suc-add m j) (past xs ys m j (omega (arith, l)))
+
 pub delivery : Delivery
-delivery s t a d bs vs tables e h =
-    record {
-      next = λ i p. ap (λ (x : Step). x .next) (each-hop e h i p);
-      index = λ i p. ap (λ (x : Step). x .index) (each-hop e h i p);
-      under-way = λ i p. ap (λ (x : Step). x .delivered) (each-hop e h i p);
-      delivered = ap (λ (x : Step). x .delivered) (then-delivered e h);
-    }
+delivery s t a d bs tables e h i p =
+    (rw (ap (λ (x : Reading). x .count) g) (v .route .route .some), long, subst (Delivers s d (arrayAt i bs) tables a) (sym same) (encoded-delivery s t a d (arrayAt i bs) vs tables v h))
+  where
+    A : Accepted s t a d bs
+    A = accepted-of s t a d bs e
+
+    few : (j : ℕ) → j < length (A .routes) → length (getD (A .routes) j []) ≤ 9
+    few j q = A .each j q .route .few
+
+    vs : List ℕ
+    vs = getD (A .routes) i []
+
+    inside : i < length (A .routes)
+    inside = omega (arith, ap length (A .bytes) ∙ encoded-long s (A .routes) few)
+
+    v : Encodes s t a d (arrayAt i bs) vs
+    v = record { route = A .each i inside; bytes = ap (arrayAt i) (A .bytes) ∙ encoded-at s (A .routes) few i inside }
+
+    g : readAnswer s a d (arrayAt i bs) ≡ record { refusal = none; count = length vs; servers = filled 9 vs }
+    g = read-given (record { route = route-to-plain (v .route); bytes = v .bytes })
+
+    same : serversRead s a d (arrayAt i bs) ≡ vs
+    same = ap (λ (x : Reading). take (x .count) (x .servers)) g ∙ take-filled 9 vs
+
+    long : length (serversRead s a d (arrayAt i bs)) ≡ readAnswer s a d (arrayAt i bs) .count
+    long = ap length same ∙ sym (ap (λ (x : Reading). x .count) g)

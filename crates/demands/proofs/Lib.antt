@@ -2,6 +2,8 @@ pub mod Refusing
 pub mod Numbers
 pub mod Stops
 pub mod Demand1
+pub mod Exactly
+pub mod Buffers
 pub mod Places
 pub mod Hops
 pub mod Demand2

@@ -1,14 +1,18 @@
 -- Demand 2: addresses, switches, built routes and path bytes are the paper's; servers to bytes and bytes to servers undo each other; a
--- broken route gives way to the alternate where one exists; "no route" is said exactly when there is none.
-use Prim.Native.Nat.{ℕ, suc, _+_, _-_, _*_, _^_, _≤_, _<_}
+-- broken route gives way to the alternate where one exists; "no route" is said exactly when there is none; marking, clearing and one
+-- step change what document 01 says.
+use Prim.Native.Nat.{ℕ, suc, _+_, _-_, _*_, _/_, _%_, _^_, _≤_, _<_}
 use mathlib.Core.Path.{_≡_}
 use mathlib.Core.Logic.{_↔_, _≢_}
-use mathlib.Core.List.{List, [], _∷_, _++_, map}
+use mathlib.Core.Bool.{Bool, true, false}
+use mathlib.Core.List.{List, [], _∷_, _++_, map, reverse}
 use lib.ListN.{length, getD, take}
 use Rattle.room.specs.declared.Shape.{Shape}
 use Rattle.room.specs.Shapes.{Valid, Server, Link}
 use Rattle.room.specs.Addresses.{digits, digit, switchOf, switchesAt, differing, Written, Beside, Neighbours}
 use Rattle.room.specs.Refusals.{none}
+use Rattle.links.specs.Table.{failed, TableOf}
+use Rattle.links.specs.Answers.{linkAnswer, markedTable, clearedTable}
 use Rattle.path.specs.Lists.{filled}
 use Rattle.path.specs.Routes.{Route, RouteTo, encode, Encodes}
 use Rattle.path.specs.Answers.{endsRefusal, readAnswer, writeAnswer, reverseAnswer}
@@ -17,6 +21,10 @@ use Rattle.build.specs.Sets.{setOf}
 use Rattle.select.specs.declared.Selection.{Selection}
 use Rattle.select.specs.Avoided.{avoided, Avoids}
 use Rattle.select.specs.Selection.{Unbroken, Replaces, selectRefusal, Selecting}
+use Rattle.pick.specs.Picks.{listsRefusal, pickAnswer}
+use Rattle.pick.specs.Chosen.{NoneUsable}
+use Rattle.step.specs.declared.Step.{Step}
+use Rattle.step.specs.Steps.{macAt, portAt, delivery, stepAnswer}
 
 -- ---- addresses, switches and built routes
 
@@ -89,6 +97,14 @@ WriteThenRead =
     readAnswer s (getD vs 0 0) (getD vs (length vs - 1) 0) (writeAnswer s vs .bytes)
     ≡ record { refusal = none; count = length vs; servers = filled 9 vs }
 
+-- what reversing answers, reading turns into the same servers backwards
+abbrev pub ReverseThenRead : Type 0
+ReverseThenRead =
+    (s : Shape) (a d : ℕ) (bs : List ℕ) →
+    reverseAnswer s a d bs .refusal .number ≡ 0 →
+    readAnswer s d a (reverseAnswer s a d bs .bytes)
+    ≡ record { refusal = none; count = readAnswer s a d bs .count; servers = filled 9 (reverse (take (readAnswer s a d bs .count) (readAnswer s a d bs .servers))) }
+
 -- reversing twice gives the first bytes again
 abbrev pub ReverseTwice : Type 0
 ReverseTwice =
@@ -124,10 +140,69 @@ pub record Slots (s : Shape) (t : List ℕ) (a d : ℕ) (r : Selection) : Type 0
 abbrev pub BrokenGivesWay : Type 0
 BrokenGivesWay = (s : Shape) (t : List ℕ) (a d : ℕ) (r : Selection) → Selecting s t a d r → r .refusal .number ≡ 0 → Slots s t a d r
 
--- where refusals 1 to 6 do not apply, selection says 16 exactly when no route of eight hops or fewer crosses only live links
+-- selection says 16 exactly when refusals 1 to 6 do not apply and no route of eight hops or fewer crosses only live links
 abbrev pub NoRouteExactly : Type 0
 NoRouteExactly =
     (s : Shape) (t : List ℕ) (a d : ℕ) (r : Selection) →
-    selectRefusal s t a d ≡ 0 →
     Selecting s t a d r →
-    (r .refusal .number ≡ 16) ↔ ((vs : List ℕ) → RouteTo s t a d vs → ⊥)
+    (r .refusal .number ≡ 16) ↔ ((selectRefusal s t a d ≡ 0) × ((vs : List ℕ) → RouteTo s t a d vs → ⊥))
+
+-- picking says 16 exactly when refusals 1 to 7 do not apply and no array of either list is usable
+abbrev pub NonePickedExactly : Type 0
+NonePickedExactly =
+    (s : Shape) (t : List ℕ) (a d : ℕ) (fs ks : List ℕ) →
+    (pickAnswer s t a d fs ks .number ≡ 16) ↔ ((listsRefusal s t a d fs ks ≡ 0) × (NoneUsable s t a d fs × NoneUsable s t a d ks))
+
+-- ---- the failed-link table
+
+-- table u is table t but for the link of server a at level l, which is failed in u if `now`; it is a table of the room
+pub record Changes (s : Shape) (t : List ℕ) (a l : ℕ) (now : Bool) (u : List ℕ) : Type 0 where
+  pub own : failed u a l ≡ now
+  pub other : (b m : ℕ) → (b ≡ a → m ≡ l → ⊥) → failed u b m ≡ failed t b m
+  pub bytes : (b : ℕ) → b ≢ a → getD u b 0 ≡ getD t b 0
+  pub long : length u ≡ length t
+  pub table : TableOf s u
+
+-- marking sets its own bit and no other; again it changes nothing
+abbrev pub Marking : Type 0
+Marking =
+    (s : Shape) (t : List ℕ) (a l : ℕ) →
+    linkAnswer s t a l .number ≡ 0 →
+    Changes s t a l true (markedTable s t a l) × (markedTable s (markedTable s t a l) a l ≡ markedTable s t a l)
+
+-- clearing resets its own bit and no other; again it changes nothing
+abbrev pub Clearing : Type 0
+Clearing =
+    (s : Shape) (t : List ℕ) (a l : ℕ) →
+    linkAnswer s t a l .number ≡ 0 →
+    Changes s t a l false (clearedTable s t a l) × (clearedTable s (clearedTable s t a l) a l ≡ clearedTable s t a l)
+
+-- ---- one forwarding step
+
+-- the step by byte b at server a goes to the neighbour at the byte's level whose digit there is the byte's value, with the next index
+-- and the MAC and OutPort that the table holds for the byte
+pub record Goes (s : Shape) (a i : ℕ) (e : List ℕ) (b : ℕ) (x : Step) : Type 0 where
+  pub refusal : x .refusal ≡ none
+  pub delivered : x .delivered ≡ false
+  pub server : Server s (x .next)
+  pub neighbour : Neighbours s (b / 64) a (x .next)
+  pub value : digit s (b / 64) (x .next) ≡ b % 64
+  pub index : x .index ≡ i + 1
+  pub mac : x .mac ≡ macAt e b
+  pub port : x .port ≡ portAt e b
+
+-- away from the destination a step that is not refused goes by the byte that its index names
+abbrev pub StepGoes : Type 0
+StepGoes =
+    (s : Shape) (a d i : ℕ) (bs e : List ℕ) →
+    a ≢ d →
+    stepAnswer s a d i bs e .refusal .number ≡ 0 →
+    (i < 8) × Goes s a i e (getD bs i 0) (stepAnswer s a d i bs e)
+
+-- at the destination a step that is not refused is a delivery, whatever its index
+abbrev pub StepDelivers : Type 0
+StepDelivers =
+    (s : Shape) (a d i : ℕ) (bs e : List ℕ) →
+    a ≡ d →
+    stepAnswer s a d i bs e .refusal .number ≡ 0 →
+    stepAnswer s a d i bs e ≡ delivery

@@ -1,44 +1,43 @@
--- Demand 3: a list is accepted exactly when it meets the declarative words; what the builder writes in a healthy room, and all that
+-- Demand 3: a list is accepted exactly when it meets the declarative words; what the builder answers in a healthy room, and all that
 -- selection writes, is accepted; stepping an accepted route delivers after exactly its hops.
-use Prim.Native.Nat.{ℕ, suc, _+_, _-_, _<_}
+use Prim.Native.Nat.{ℕ, suc, _+_, _-_, _*_, _/_, _≤_, _<_}
 use mathlib.Core.Path.{_≡_}
 use mathlib.Core.Logic.{_↔_}
-use mathlib.Core.Bool.{true, false}
+use mathlib.Core.Bool.{false}
 use mathlib.Core.List.{List}
-use lib.ListN.{length, getD}
+use lib.ListN.{length, getD, take, drop}
 use Rattle.room.specs.declared.Shape.{Shape}
 use Rattle.room.specs.Refusals.{none}
 use Rattle.links.specs.Table.{failed, tableRefusal}
-use Rattle.path.specs.Answers.{endsRefusal}
-use Rattle.verdict.specs.Checks.{roomRefusal, checkAnswer}
+use Rattle.path.specs.Answers.{readAnswer}
+use Rattle.verdict.specs.Checks.{checkAnswer}
 use Rattle.verdict.specs.Accepted.{Accepted}
-use Rattle.build.specs.Built.{builtArrays}
-use Rattle.build.specs.Sets.{joined, held}
-use Rattle.path.specs.Routes.{Encodes}
+use Rattle.build.specs.Sets.{held}
+use Rattle.build.specs.Answers.{buildAnswer}
 use Rattle.select.specs.declared.Selection.{Selection}
 use Rattle.select.specs.Selection.{Selecting}
+use Rattle.step.specs.Steps.{macAt, portAt, delivery}
 use Rattle.step.specs.Delivery.{Tables, stepAfter}
 
--- where refusals 1 to 6 do not apply, a list is accepted exactly when it is 1 to k + 1 arrays, each the encoding of a
--- route from source to destination over live links, every two of them parallel
+-- a list is accepted exactly when the table is one of the room, and the list is 1 to k + 1 arrays, each the encoding of a route
+-- from source to destination over live links, every two of them parallel
 abbrev pub AcceptedExactly : Type 0
 AcceptedExactly =
     (s : Shape) (t : List ℕ) (a d : ℕ) (bs : List ℕ) →
-    roomRefusal s t a d ≡ 0 →
-    (checkAnswer s t a d bs ≡ none) ↔ Accepted s t a d bs
+    (checkAnswer s t a d bs ≡ none) ↔ ((tableRefusal s t ≡ 0) × Accepted s t a d bs)
 
 -- a failed-link table of the room in which no link is failed
 pub record Healthy (s : Shape) (t : List ℕ) : Type 0 where
   pub table : tableRefusal s t ≡ 0
   pub all : (a l : ℕ) → failed t a l ≡ false
 
--- what the builder writes in a healthy room is accepted
+-- what the builder answers in a healthy room is k + 1 arrays, and the list of them is accepted
 abbrev pub BuiltAccepted : Type 0
 BuiltAccepted =
     (s : Shape) (t : List ℕ) (a d : ℕ) →
-    endsRefusal s a d ≡ 0 →
+    buildAnswer s a d .refusal .number ≡ 0 →
     Healthy s t →
-    checkAnswer s t a d (joined (builtArrays s a d)) ≡ none
+    (buildAnswer s a d .routes .count ≡ suc (s .k)) × (checkAnswer s t a d (held (buildAnswer s a d .routes)) ≡ none)
 
 -- all that selection writes is accepted, on every shape, table and pair
 abbrev pub SelectionAccepted : Type 0
@@ -48,17 +47,29 @@ SelectionAccepted =
     r .refusal .number ≡ 0 →
     checkAnswer s t a d (held (r .routes)) ≡ none
 
--- stepping an accepted route, with tables that agree, gives at each hop the next server of the route and the next index,
--- and after exactly its hops a delivery
+-- stepping an array of path bytes from server a with index 0, each step made where the one before it led, with that server's table:
+-- at each hop no refusal, the next of these servers, the next index, and the MAC and OutPort that the table holds for the hop's byte;
+-- after exactly their hops a delivery
 pub record Delivers (s : Shape) (d : ℕ) (bs : List ℕ) (tables : ℕ → List ℕ) (a : ℕ) (vs : List ℕ) : Type 0 where
-  pub next : (i : ℕ) → suc i < length vs → stepAfter s d bs tables i a 0 .next ≡ getD vs (suc i) 0
-  pub index : (i : ℕ) → suc i < length vs → stepAfter s d bs tables i a 0 .index ≡ i + 1
-  pub under-way : (i : ℕ) → suc i < length vs → stepAfter s d bs tables i a 0 .delivered ≡ false
-  pub delivered : stepAfter s d bs tables (length vs - 1) a 0 .delivered ≡ true
+  pub hop : (i : ℕ) → suc i < length vs → stepAfter s d bs tables i a 0 ≡ record { refusal = none; delivered = false; next = getD vs (suc i) 0; index = i + 1; mac = macAt (tables (getD vs i 0)) (getD bs i 0); port = portAt (tables (getD vs i 0)) (getD bs i 0) }
+  pub delivered : stepAfter s d bs tables (length vs - 1) a 0 ≡ delivery
 
+-- the array at place i of a list, the first counted as 0
+abbrev pub arrayAt : ℕ → List ℕ → List ℕ
+arrayAt i bs = take 8 (drop (8 * i) bs)
+
+-- the servers that reading answers for an array
+abbrev pub serversRead : Shape → ℕ → ℕ → List ℕ → List ℕ
+serversRead s a d bs = take (readAnswer s a d bs .count) (readAnswer s a d bs .servers)
+
+-- stepping any array of an accepted list, with tables that agree, delivers after exactly the hops that reading counts
 abbrev pub Delivery : Type 0
 Delivery =
-    (s : Shape) (t : List ℕ) (a d : ℕ) (bs vs : List ℕ) (tables : ℕ → List ℕ) →
-    Encodes s t a d bs vs →
+    (s : Shape) (t : List ℕ) (a d : ℕ) (bs : List ℕ) (tables : ℕ → List ℕ) →
+    checkAnswer s t a d bs ≡ none →
     Tables s t tables →
-    Delivers s d bs tables a vs
+    (i : ℕ) →
+    i < length bs / 8 →
+    (2 ≤ readAnswer s a d (arrayAt i bs) .count)
+    × (length (serversRead s a d (arrayAt i bs)) ≡ readAnswer s a d (arrayAt i bs) .count)
+    × Delivers s d (arrayAt i bs) tables a (serversRead s a d (arrayAt i bs))
