@@ -1,11 +1,10 @@
 -- The answer of picking fits the result word.
-use Prim.Native.Nat.{ℕ, suc, _+_, _*_, _%_, _≤_, _<_}
+use Prim.Native.Nat.{ℕ, _+_, _*_, _%_, _≤_}
 use native.Mathlib.Omega.{arith}
 use native.Mathlib.Decide.{ℕ-discrete}
-use mathlib.Core.Path.{_≡_, refl, sym, ap, _∙_, subst}
+use mathlib.Core.Path.{_≡_, refl, sym, subst}
 use mathlib.Core.List.{List}
-use mathlib.Core.Bool.{true, _&&_}
-use lib.Dec.{leb, eqb, lit≤, lit<}
+use lib.Dec.{leb, eqb, lit≤}
 use lib.ListN.{length}
 use borrow.Author.Tests.{leb-true}
 use Rattle.room.specs.declared.Shape.{Shape}
@@ -18,10 +17,10 @@ use Rattle.verdict.specs.Checks.{roomRefusal}
 use Rattle.pick.specs.declared.Place.{Place}
 use Rattle.pick.specs.Picks.{fits, listsRefusal, Source, inFresh, inKept, nowhere, found, pickSource, missing, pickRefusal}
 use Rattle.pick.specs.Chosen.{Chosen}
-use Rattle.pick.specs.Places.{noPlace, placeOf, placeAnswer}
+use Rattle.pick.specs.Places.{placeOf, placeAnswer}
 use Rattle.pick.proofs.PickLaws.{from-refused}
 use Rattle.pick.proofs.Promises.{source-chosen, lists-small}
-use Rattle.driver.specs.Words.{word, Small, placeWord}
+use Rattle.driver.specs.Words.{Small}
 use Rattle.driver.proofs.WordLaws.{chain-le, none-small, plain-small}
 
 module _ (s : Shape) (t : List ℕ) (a d : ℕ) (fs ks : List ℕ) where
@@ -65,8 +64,3 @@ module _ (s : Shape) (t : List ℕ) (a d : ℕ) (fs ks : List ℕ) where
 
   pub pick-small : (x : Place) → x ≡ placeAnswer s t a d fs ks → Small (x .refusal) (256 * x .list + x .route)
   pick-small x e = subst (λ (y : Place). Small (y .refusal) (256 * y .list + y .route)) (sym e) place-answer-small
-
--- what the call says of the place, asked with the shape q
-pub pick-said : {s q : Shape} (t : List ℕ) (a d : ℕ) (fs ks : List ℕ) {w : ℕ} {x : Place} → x ≡ placeAnswer s t a d fs ks → s ≡ q → w ≡ word (x .refusal) (256 * x .list + x .route) → w ≡ placeWord (placeAnswer q t a d fs ks)
-unfolding placeWord
-pick-said t a d fs ks e g h = h ∙ ap placeWord (e ∙ ap (λ (z : Shape). placeAnswer z t a d fs ks) g)

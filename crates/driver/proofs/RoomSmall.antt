@@ -12,7 +12,6 @@ use lib.ListN.{length, getD, replicate}
 use Rattle.room.specs.declared.Shape.{Shape}
 use Rattle.room.specs.declared.Refusal.{Refusal}
 use Rattle.room.specs.declared.Digits.{Digits}
-use Rattle.room.specs.declared.Switch.{Switch}
 use Rattle.room.specs.declared.Between.{Between}
 use Rattle.room.specs.Digits.{addressOf, padded}
 use Rattle.room.specs.Shapes.{serversOf, bound, Server, Link}
@@ -26,7 +25,7 @@ use Rattle.room.proofs.RoomLaws.{bound-le, digits-long as levels-long, digit-lt
 use Rattle.links.specs.declared.Asked.{Asked}
 use Rattle.links.specs.Table.{failed, tableLinkRefusal}
 use Rattle.links.specs.Answers.{notAsked, asked, failedAnswer, linkAnswer}
-use Rattle.driver.specs.Words.{word, left, Small, switchWord, betweenWord, askedWord}
+use Rattle.driver.specs.Words.{word, left, Small, betweenWord, askedWord}
 use Rattle.driver.proofs.WordLaws.{none-small, plain-small, number-small, left-given, left-lent}
 use Rattle.driver.proofs.BoundLaws.{shape-le, level-le, server-le, pair-le, link-le, value-le, places-le, table-link-le}
 
@@ -91,13 +90,6 @@ switch-part (suc r) l w h f = plain-small (suc r) h
 pub switch-small : (s : Shape) (a l : ℕ) → Small (switchAnswer s a l .refusal) (switchAnswer s a l .number)
 unfolding switchAnswer
 switch-small s a l = switch-part (linkRefusal s a l) l (switchOf s l a) (link-le s a l) (λ z. switch-lt-word (link-of s a l z))
-
-pub switch-fits : (y x : Switch) → Small (y .refusal) (y .number) → x ≡ y → Small (x .refusal) (x .number)
-switch-fits y x h e = subst (λ (z : Switch). Small (z .refusal) (z .number)) (sym e) h
-
-pub switch-said : (f : Shape → Switch) {s t : Shape} {x : Switch} {w : ℕ} → w ≡ word (x .refusal) (x .number) → x ≡ f s → s ≡ t → w ≡ switchWord (f t)
-unfolding switchWord
-switch-said f {s} {t} {x} {w} h e g = h ∙ ap switchWord (e ∙ ap f g)
 
 -- ---- the level between two servers
 
@@ -206,9 +198,6 @@ digits-four s a =
 pub digits-long : (s : Shape) (a : ℕ) {x : Digits} → x ≡ digitsAnswer s a → length (x .places) ≡ 4
 digits-long s a {x} e = ap (λ (z : Digits). length (z .places)) e ∙ digits-four s a
 
-pub digits-said : (f : Shape → Digits) {s t : Shape} {x : Digits} {w : ℕ} → w ≡ word (x .refusal) 0 → x ≡ f s → s ≡ t → w ≡ word (f t .refusal) 0
-digits-said f {s} {t} {x} {w} h e g = h ∙ ap (λ (z : Digits). word (z .refusal) 0) (e ∙ ap f g)
-
 -- a buffer that keeps what was lent
 pub digits-kept : (f : Shape → Digits) {s t : Shape} {x : Digits} (lent : List ℕ) → x .refusal .number ≢ 0 → x ≡ f s → s ≡ t → lent ≡ left (f t .refusal .number) lent (f t .places)
 digits-kept f {s} {t} {x} lent h e g =
@@ -260,6 +249,3 @@ link-at s t a l v k = plain-with (tableLinkRefusal s t a l) v (table-link-le s t
 
 pub link-fits : (s : Shape) (t : List ℕ) (a l v : ℕ) {x : Refusal} → v < 4294967296 → x ≡ linkAnswer s t a l → Small x v
 link-fits s t a l v {x} k e = subst (λ (z : Refusal). Small z v) (sym e) (link-at s t a l v k)
-
-pub link-said : (f : Shape → Refusal) {s t : Shape} {x : Refusal} {w : ℕ} → w ≡ word x 0 → x ≡ f s → s ≡ t → w ≡ word (f t) 0
-link-said f {s} {t} {x} {w} h e k = h ∙ ap (λ (z : Refusal). word z 0) (e ∙ ap f k)

@@ -1,17 +1,16 @@
 -- The answers of building, of the search and of selection fit the result word, and what a call says of them.
-use Prim.Native.Nat.{ℕ, zero, suc, _+_, _≤_, _<_}
+use Prim.Native.Nat.{ℕ, zero, suc, _≤_, _<_}
 use native.Mathlib.Omega.{arith}
 use native.Mathlib.Decide.{ℕ-discrete}
 use mathlib.Core.Path.{_≡_, refl, sym, ap, _∙_, subst}
-use mathlib.Core.Logic.{_≢_, ⊎-elim}
+use mathlib.Core.Logic.{⊎-elim}
 use mathlib.Core.List.{List, [], _∷_, map}
 use lib.ListN.{length}
-use lib.Dec.{lit≤, lit<}
+use lib.Dec.{lit≤}
 use Rattle.room.specs.declared.Shape.{Shape}
 use Rattle.room.specs.declared.Refusal.{Refusal}
-use Rattle.room.specs.Refusals.{none, plain}
+use Rattle.room.specs.Refusals.{plain}
 use Rattle.room.specs.Answers.{answer}
-use Rattle.room.proofs.RefusalLaws.{or-else-zero, pair-of}
 use Rattle.path.specs.Answers.{endsRefusal}
 use Rattle.path.specs.Routes.{encode}
 use Rattle.path.proofs.CodecLaws.{Ends, ends-of}
@@ -22,9 +21,8 @@ use Rattle.build.specs.Sets.{setOf}
 use Rattle.build.specs.Answers.{noBuilding, aBuilding, buildAnswer}
 use Rattle.build.proofs.ArrayLaws.{arrays-count}
 use Rattle.finder.specs.declared.Found.{Found}
-use Rattle.finder.specs.Answers.{findRefusal, Finding, notFound}
+use Rattle.finder.specs.Answers.{findRefusal, Finding}
 use Rattle.finder.proofs.AnswerLaws.{given-some, found-refusal, found-or-none}
-use Rattle.finder.proofs.Unique.{finding-unique}
 use Rattle.select.specs.declared.Selection.{Selection}
 use Rattle.select.specs.Selection.{selectRefusal, Selecting, Chosen, selection}
 use Rattle.select.proofs.SelectLaws.{select-ends, select-le, chosen-settled}

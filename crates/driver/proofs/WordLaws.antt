@@ -11,7 +11,7 @@ use Rattle.room.specs.declared.Refusal.{Refusal}
 use Rattle.room.specs.declared.Number.{Number}
 use Rattle.room.specs.Refusals.{none, plain, _or-else_, _unless_}
 use Rattle.room.specs.Answers.{answer, noNumber, aNumber}
-use Rattle.driver.specs.Words.{word, refusalIn, valueIn, Small, left, numberWord}
+use Rattle.driver.specs.Words.{word, refusalIn, valueIn, Small, left}
 
 -- the sum that the code makes is the word
 pub word-made : (r : Refusal) (v : ℕ) → 4294967296 * v + (65536 * r .hop + (256 * r .route + r .number)) ≡ word r v
@@ -48,10 +48,9 @@ value-back r v h =
     let e : (4294967296 * v + (65536 * r .hop + (256 * r .route + r .number))) / 4294967296 ≡ v = omega arith in
     e
 
--- the word of a number that a call of the room answered, with the shape that it was asked of
-pub number-said : (f : Shape → Number) {s t : Shape} {x : Number} {w : ℕ} → w ≡ word (x .refusal) (x .value) → x ≡ f s → s ≡ t → w ≡ numberWord (f t)
-unfolding numberWord
-number-said f {s} {t} {x} {w} h e g = h ∙ ap numberWord (e ∙ ap f g)
+-- what a call says of its answer, where it was asked with a shape that is t
+pub said : {X : Type 0} (says : X → ℕ) (f : Shape → X) {s t : Shape} {x : X} {w : ℕ} → w ≡ says x → x ≡ f s → s ≡ t → w ≡ says (f t)
+said says f h e g = h ∙ ap says (e ∙ ap f g)
 
 -- what is small of an answer is small of what a call answered
 pub number-fits : (y x : Number) → Small (y .refusal) (y .value) → x ≡ y → Small (x .refusal) (x .value)
@@ -92,7 +91,7 @@ pub left-lent : (r : ℕ) (lent written : List ℕ) → r ≢ 0 → lent ≡ lef
 left-lent zero lent written h = absurd (h refl)
 left-lent (suc r) lent written h = refl
 
--- ---- of paths.rt: what a call answered of a shape, told by the word and by the buffer left
+-- ---- what a call answered of a shape, told by the word and by the buffer left
 
 module _ {X : Type 0} (refusal : X → Refusal) (value : X → ℕ) where
   -- what fits of the answer fits of what the call gave
@@ -101,7 +100,7 @@ module _ {X : Type 0} (refusal : X → Refusal) (value : X → ℕ) where
 
   module _ (f : Shape → X) {s t : Shape} {x : X} (e : x ≡ f s) (g : s ≡ t) {w : ℕ} (h : w ≡ word (refusal x) (value x)) where
     pub told-word : w ≡ word (refusal (f t)) (value (f t))
-    told-word = h ∙ ap (λ (z : X). word (refusal z) (value z)) (e ∙ ap f g)
+    told-word = said (λ (z : X). word (refusal z) (value z)) f h e g
 
     module _ (put : X → List ℕ) (lent : List ℕ) where
       pub told-refused : refusal x .number ≢ 0 → (w ≡ word (refusal (f t)) (value (f t))) × (lent ≡ left (refusal (f t) .number) lent (put (f t)))

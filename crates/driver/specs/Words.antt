@@ -39,7 +39,7 @@ left (suc r) lent written = lent
 
 -- ---- the words of the answers, and the buffers left
 
-unfoldable pub numberWord : Number → ℕ
+abbrev pub numberWord : Number → ℕ
 numberWord x = word (x .refusal) (x .value)
 
 -- the digits in the buffer
@@ -50,7 +50,7 @@ abbrev pub digitsLeft : List ℕ → Digits → List ℕ
 digitsLeft lent x = left (x .refusal .number) lent (x .places)
 
 -- the switch's number
-unfoldable pub switchWord : Switch → ℕ
+abbrev pub switchWord : Switch → ℕ
 switchWord x = word (x .refusal) (x .number)
 
 -- the level counted from 1 where two servers are neighbours, else 0
@@ -83,7 +83,7 @@ abbrev pub buildingLeft : List ℕ → Building → List ℕ
 buildingLeft lent x = left (x .refusal .number) lent (x .routes .bytes)
 
 -- the list that holds a picked route, and its place there
-unfoldable pub placeWord : Place → ℕ
+abbrev pub placeWord : Place → ℕ
 placeWord x = word (x .refusal) (256 * x .list + x .route)
 
 -- each number of a list fits four bytes

@@ -1,5 +1,5 @@
 -- The part of a list that a place tells of.
-use Prim.Native.Nat.{ℕ, zero, suc, _+_, _-_, _*_, _/_, _≤_, _<_}
+use Prim.Native.Nat.{ℕ, _+_, _-_, _*_, _/_, _≤_, _<_}
 use mathlib.Core.Path.{_≡_, refl, sym, ap, subst, _∙_}
 use mathlib.Core.Logic.{_≢_}
 use mathlib.Core.List.{List, []}
@@ -8,7 +8,7 @@ use native.Mathlib.Decide.{ℕ-discrete}
 use lib.ListN.{length, take, drop}
 use Rattle.room.specs.declared.Shape.{Shape}
 use Rattle.pick.specs.declared.Place.{Place}
-use Rattle.pick.specs.Picks.{Source, inFresh, inKept, nowhere, listsRefusal, pickSource, missing, pickRefusal, arrayAt, liesAt}
+use Rattle.pick.specs.Picks.{Source, inFresh, inKept, nowhere, listsRefusal, pickSource, pickRefusal, arrayAt, liesAt}
 use Rattle.pick.specs.Chosen.{Chosen}
 use Rattle.pick.specs.Places.{placeOf, placeAnswer}
 use Rattle.pick.proofs.PickLaws.{from-refused, Lies, lies, lies-empty}

@@ -1,7 +1,12 @@
 -- `driver::picks::bcube_pick` meets its contract. Assumes nothing.
 use borrow.Author.Needs.{needs}
 use native.Mathlib.Omega.{arith}
-use Rattle.driver.proofs.PickSmall.{pick-small, pick-said}
+use denote.Ref.{now}
+use Rattle.room.specs.declared.Shape.{Shape}
+use Rattle.pick.specs.Places.{placeAnswer}
+use Rattle.driver.specs.Words.{placeWord}
+use Rattle.driver.proofs.WordLaws.{said}
+use Rattle.driver.proofs.PickSmall.{pick-small}
 use Rattle.driver.proofs.picks.bcube_pick.Statement.{statement}
 use Rattle.driver.proofs.picks.bcube_pick.Tie as tie
 
@@ -14,4 +19,6 @@ bcube-pick-spec =
     (λ c. let h = pick-small _ _ _ _ _ _ _ (c .before .pick-place .ensures) in omega (arith, h .value))
     (λ c. let h = pick-small _ _ _ _ _ _ _ (c .before .before .pick-place .ensures) in omega (arith, h .value))
     (λ c κs. pick-small _ _ _ _ _ _ _ (c .before .before .pick-place .ensures))
-    (λ c. pick-said _ _ _ _ _ (c .before .before .before .pick-place .ensures) (c .before .before .before .before .new .ensures) (c .result-word .ensures)))
+    (λ c.
+    let a = c .before .before .before .before .before .before .before .before .args in
+    said placeWord (λ (s : Shape). placeAnswer s (now (a .table)) (a .source) (a .destination) (now (a .fresh)) (now (a .kept))) (c .result-word .ensures) (c .before .before .before .pick-place .ensures) (c .before .before .before .before .new .ensures)))

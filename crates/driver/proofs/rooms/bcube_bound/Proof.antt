@@ -1,7 +1,8 @@
 -- `driver::rooms::bcube_bound` meets its contract. Assumes nothing.
 use borrow.Author.Needs.{needs}
 use Rattle.room.specs.Answers.{boundAnswer}
-use Rattle.driver.proofs.WordLaws.{number-said, number-fits}
+use Rattle.driver.specs.Words.{numberWord}
+use Rattle.driver.proofs.WordLaws.{said, number-fits}
 use Rattle.driver.proofs.RoomSmall.{bound-small}
 use Rattle.driver.proofs.rooms.bcube_bound.Statement.{statement}
 use Rattle.driver.proofs.rooms.bcube_bound.Tie as tie
@@ -13,4 +14,4 @@ bcube-bound-spec =
     (λ c κs. search needs)
     (λ c κs. search needs)
     (λ c κs. number-fits _ _ (bound-small _ _) (c .bound-of .ensures))
-    (λ c. let a = c .before .before .before .args in number-said (λ s. boundAnswer s (a .level)) (c .result-word .ensures) (c .before .bound-of .ensures) (c .before .before .new .ensures)))
+    (λ c. let a = c .before .before .before .args in said numberWord (λ s. boundAnswer s (a .level)) (c .result-word .ensures) (c .before .bound-of .ensures) (c .before .before .new .ensures)))

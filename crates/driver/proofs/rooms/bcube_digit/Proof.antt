@@ -1,7 +1,8 @@
 -- `driver::rooms::bcube_digit` meets its contract. Assumes nothing.
 use borrow.Author.Needs.{needs}
 use Rattle.room.specs.Answers.{digitAnswer}
-use Rattle.driver.proofs.WordLaws.{number-said, number-fits}
+use Rattle.driver.specs.Words.{numberWord}
+use Rattle.driver.proofs.WordLaws.{said, number-fits}
 use Rattle.driver.proofs.RoomSmall.{digit-small}
 use Rattle.driver.proofs.rooms.bcube_digit.Statement.{statement}
 use Rattle.driver.proofs.rooms.bcube_digit.Tie as tie
@@ -13,4 +14,4 @@ bcube-digit-spec =
     (λ c κs. search needs)
     (λ c κs. search needs)
     (λ c κs. number-fits _ _ (digit-small _ _ _) (c .digit-of .ensures))
-    (λ c. let a = c .before .before .before .args in number-said (λ s. digitAnswer s (a .server) (a .level)) (c .result-word .ensures) (c .before .digit-of .ensures) (c .before .before .new .ensures)))
+    (λ c. let a = c .before .before .before .args in said numberWord (λ s. digitAnswer s (a .server) (a .level)) (c .result-word .ensures) (c .before .digit-of .ensures) (c .before .before .new .ensures)))

@@ -1,7 +1,8 @@
 -- `driver::rooms::bcube_servers` meets its contract. Assumes nothing.
 use borrow.Author.Needs.{needs}
 use Rattle.room.specs.Answers.{serversAnswer}
-use Rattle.driver.proofs.WordLaws.{number-said, number-fits}
+use Rattle.driver.specs.Words.{numberWord}
+use Rattle.driver.proofs.WordLaws.{said, number-fits}
 use Rattle.driver.proofs.RoomSmall.{servers-small}
 use Rattle.driver.proofs.rooms.bcube_servers.Statement.{statement}
 use Rattle.driver.proofs.rooms.bcube_servers.Tie as tie
@@ -13,4 +14,4 @@ bcube-servers-spec =
     (λ c κs. search needs)
     (λ c κs. search needs)
     (λ c κs. number-fits _ _ (servers-small _) (c .servers-of .ensures))
-    (λ c. number-said serversAnswer (c .result-word .ensures) (c .before .servers-of .ensures) (c .before .before .new .ensures)))
+    (λ c. said numberWord serversAnswer (c .result-word .ensures) (c .before .servers-of .ensures) (c .before .before .new .ensures)))
