@@ -6,12 +6,12 @@ use mathlib.Core.Bool.{Bool, true, false, cond, not, _&&_}
 use mathlib.Core.List.{List, [], _∷_, _++_, map, append-assoc, append-nil}
 use native.Mathlib.Omega.{arith}
 use lib.Dec.{eqb, ltb, leb}
-use lib.ListN.{length, getD, take, drop, replicate, length-append, length-replicate}
+use lib.ListN.{length, take, drop, replicate, length-append, length-replicate}
 use Rattle.room.specs.declared.Shape.{Shape}
 use Rattle.room.specs.Shapes.{serversOf, shapeOf}
 use Rattle.room.specs.Refusals.{shapeRefusal, serverRefusal, pairRefusal, _or-else_, _unless_}
 use Rattle.room.specs.Answers.{answer}
-use Rattle.room.proofs.RefusalLaws.{answer-refused, answer-given, answer-none}
+use Rattle.room.proofs.RefusalLaws.{answer-refused, answer-none}
 use Rattle.path.specs.declared.Reading.{Reading}
 use Rattle.path.specs.Answers.{endsRefusal, readAnswer}
 use Rattle.path.proofs.CodecLaws.{read-given}

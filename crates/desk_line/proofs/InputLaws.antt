@@ -1,9 +1,8 @@
 -- What of an input is printed for: its first line alone, its first 65 bytes alone, and at most 76 bytes.
 use Prim.Native.Nat.{ℕ, zero, suc, _+_, _-_, _*_, _≤_, _<_}
 use mathlib.Core.Path.{_≡_, refl, sym, ap, ap₂, _∙_}
-use mathlib.Core.Logic.{_≢_}
 use mathlib.Core.Bool.{Bool, true, false, cond}
-use mathlib.Core.List.{List, [], _∷_, _++_, map}
+use mathlib.Core.List.{List, [], _∷_, _++_}
 use native.Mathlib.Omega.{arith}
 use native.Mathlib.Decide.{ℕ-discrete, decLt}
 use lib.Dec.{leb}
@@ -13,11 +12,10 @@ use Rattle.room.specs.declared.Shape.{Shape}
 use Rattle.room.specs.Shapes.{shapeOf}
 use Rattle.room.specs.Answers.{answer}
 use Rattle.path.specs.Answers.{endsRefusal}
-use Rattle.build.specs.Built.{downFrom}
 use Rattle.build.specs.Sets.{joined}
 use Rattle.build.proofs.ArrayLaws.{ends-of}
 use Rattle.desk_line.specs.declared.Question.{Question}
-use Rattle.desk_line.specs.Lines.{newline, space, before, lineSize}
+use Rattle.desk_line.specs.Lines.{newline, before, lineSize}
 use Rattle.desk_line.specs.Numbers.{parse, noQuestion, questionOf}
 use Rattle.desk_line.specs.Texts.{decimal, inputLine, refusedLine}
 use Rattle.desk_line.specs.Answers.{slotLine, routesText, builtText, deskText}

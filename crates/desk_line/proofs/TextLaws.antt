@@ -1,18 +1,16 @@
 -- Laws of texts: what one byte more, a word more and bytes in hex more make of an answer.
-use Prim.Native.Nat.{ℕ, zero, suc, _+_, _-_, _*_, _/_, _%_, _≤_, _<_}
+use Prim.Native.Nat.{ℕ, suc, _+_, _-_, _*_, _/_, _%_, _≤_, _<_}
 use mathlib.Core.Path.{_≡_, refl, sym, ap, ap₂, _∙_}
-use mathlib.Core.Bool.{Bool, true, false, cond}
 use mathlib.Core.List.{List, [], _∷_, _++_, append-assoc, append-nil}
 use native.Mathlib.Numerals.{add-one}
 use native.Mathlib.Omega.{arith}
-use lib.Dec.{ltb}
 use lib.ListN.{length, getD, set, take, replicate, length-append}
 use lib.Seq.{take-append-seam, take-all, take-suc, length-take-le, set-at}
 use borrow.Author.Tests.{lt-ltb, le-ltb}
 use Rattle.path.specs.Lists.{filled}
 use Rattle.desk_line.specs.declared.Text.{Text}
 use Rattle.desk_line.specs.Lines.{newline, space}
-use Rattle.desk_line.specs.Texts.{hexDigit, hexOf, decimalIn, decimal, inputLine, refusedLine, routeLine, textOf, shown, Room}
+use Rattle.desk_line.specs.Texts.{hexDigit, hexOf, decimalIn, decimal, refusedLine, routeLine, textOf, shown, Room}
 
 abbrev pub textFrom : List ℕ → ℕ → Text
 textFrom bytes length = record { bytes = bytes; length = length }

@@ -1,6 +1,6 @@
 -- The worked line and its answer, and one line of each other kind, from the definitions.
 use mathlib.Core.Path.{_≡_, refl}
-use mathlib.Core.List.{List, [], _∷_, _++_}
+use mathlib.Core.List.{[], _∷_, _++_}
 use Rattle.room.specs.Shapes.{serversOf, bound}
 use Rattle.room.specs.Digits.{digitsOf}
 use Rattle.room.specs.Addresses.{digits}

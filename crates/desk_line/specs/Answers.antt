@@ -1,5 +1,5 @@
 -- The whole answer to an input.
-use Prim.Native.Nat.{ℕ, suc, _-_, _≤_}
+use Prim.Native.Nat.{ℕ, suc, _-_}
 use mathlib.Core.List.{List, map}
 use mathlib.Core.Bool.{cond}
 use lib.ListN.{length}
@@ -9,7 +9,6 @@ use Rattle.room.specs.Answers.{answer}
 use Rattle.path.specs.Answers.{endsRefusal}
 use Rattle.build.specs.Built.{downFrom, builtHops, builtBytes}
 use Rattle.build.specs.Sets.{joined}
-use Rattle.desk_line.specs.declared.Question.{Question}
 use Rattle.desk_line.specs.Numbers.{questionOf}
 use Rattle.desk_line.specs.Texts.{inputLine, refusedLine, routeLine}
 

@@ -1,7 +1,6 @@
 -- Laws of reversal: a list backwards, servers in turn backwards, and what a walk that arrives has met.
 use Prim.Native.Nat.{ℕ, zero, suc, _+_, _-_, _/_, _≤_, _<_}
 use mathlib.Core.Path.{_≡_, refl, sym, ap, ap₂, _∙_}
-use mathlib.Core.Bool.{Bool}
 use mathlib.Core.List.{List, [], _∷_, _++_, append-nil, reverse, reverse-append, reverse-cons}
 use native.Mathlib.Omega.{arith}
 use native.Mathlib.Decide.{decLt, ℕ-discrete}
@@ -9,7 +8,7 @@ use lib.ListN.{length, getD, set, take, drop, replicate, length-set, length-appe
 use lib.Seq.{take-suc, append-snoc, getD-at, take-append-seam, take-at}
 use borrow.Author.Tests.{eq-eqb, ne-eqb}
 use Rattle.room.specs.declared.Shape.{Shape}
-use Rattle.room.specs.Shapes.{Server, Value}
+use Rattle.room.specs.Shapes.{Server}
 use Rattle.room.specs.Addresses.{differing, Neighbours}
 use Rattle.room.specs.Refusals.{plain, _or-else_, _unless_}
 use Rattle.room.specs.Answers.{answer}

@@ -17,7 +17,6 @@ use Rattle.room.proofs.RefusalLaws.{answer-refused, answer-given, or-else-zero,
 use Rattle.links.specs.Table.{live}
 use Rattle.path.specs.declared.Hop.{Hop}
 use Rattle.path.specs.declared.Tried.{Tried}
-use Rattle.path.specs.declared.Walked.{Walked}
 use Rattle.path.specs.Lists.{isIn, filled}
 use Rattle.path.specs.Routes.{switchAt}
 use Rattle.path.specs.Walks.{Walk, stopped, arrived, hopTo, hopRefusal, fault, ended, walkFrom, walk}

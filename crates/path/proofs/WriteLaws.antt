@@ -1,7 +1,7 @@
 -- Laws of writing: the byte of one hop, servers in turn, and what is refused on the way.
 use Prim.Native.Nat.{ℕ, zero, suc, _+_, _-_, _≤_, _<_}
 use mathlib.Core.Path.{_≡_, refl, sym, ap, _∙_}
-use mathlib.Core.Bool.{Bool, true, false, not, _&&_}
+use mathlib.Core.Bool.{true, false, not, _&&_}
 use mathlib.Core.List.{List, [], _∷_, _++_, append-nil}
 use native.Mathlib.Numerals.{add-one}
 use native.Mathlib.Omega.{arith}
@@ -15,15 +15,14 @@ use Rattle.room.specs.declared.Shape.{Shape}
 use Rattle.room.specs.declared.Refusal.{Refusal}
 use Rattle.room.specs.declared.Number.{Number}
 use Rattle.room.specs.declared.Between.{Between}
-use Rattle.room.specs.Shapes.{Valid, Server, Link, Value}
-use Rattle.room.specs.Addresses.{digit, differing, Neighbours}
+use Rattle.room.specs.Shapes.{Server, Link}
+use Rattle.room.specs.Addresses.{digit, differing}
 use Rattle.room.specs.Refusals.{none, refusedAt, shapeRefusal, serverRefusal, linkRefusal, _or-else_, _unless_}
 use Rattle.room.specs.Answers.{answer, onlyLevel, betweenAnswer, digitAnswer}
 use Rattle.room.proofs.RefusalLaws.{answered, or-else-zero, or-else-left, test-held, both-held, server-of, link-none}
 use Rattle.room.proofs.AnswerLaws.{between-answered}
 use Rattle.room.proofs.RoomLaws.{digit-lt, bound-le, neighbours-exactly}
 use Rattle.path.specs.declared.Tried.{Tried}
-use Rattle.path.specs.declared.Writing.{Writing}
 use Rattle.path.specs.Lists.{inTurn, filled}
 use Rattle.path.specs.Routes.{levelTo, switchAt, switchTo, byteTo, encode}
 use Rattle.path.specs.Inside.{Next, Chain}

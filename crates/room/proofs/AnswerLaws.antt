@@ -1,7 +1,7 @@
 -- For the layers above: what the answers of the room are where nothing is refused, and that digits and addresses undo each other.
-use Prim.Native.Nat.{ℕ, suc, _-_, _≤_, _<_}
-use mathlib.Core.Path.{_≡_, refl, sym, ap, _∙_}
-use mathlib.Core.List.{List, [], _∷_}
+use Prim.Native.Nat.{ℕ, suc, _-_, _≤_}
+use mathlib.Core.Path.{_≡_, refl, ap, _∙_}
+use mathlib.Core.List.{List}
 use lib.ListN.{length, take}
 use Rattle.room.specs.declared.Shape.{Shape}
 use Rattle.room.specs.declared.Number.{Number}
@@ -11,11 +11,10 @@ use Rattle.room.specs.declared.Between.{Between}
 use Rattle.room.specs.Digits.{addressOf, padded}
 use Rattle.room.specs.Shapes.{serversOf, bound, Valid, Server, Link, Value}
 use Rattle.room.specs.Addresses.{digits, digit, withDigit, switchOf, differing}
-use Rattle.room.specs.Refusals.{levelRefusal, shapeRefusal}
 use Rattle.room.specs.Answers.{noNumber, aNumber, noDigits, someDigits, noSwitch, aSwitch, noBetween, onlyLevel, serversAnswer, boundAnswer, digitsAnswer, digitAnswer, addressAnswer, switchAnswer, neighbourAnswer, betweenAnswer}
 use Rattle.room.proofs.DigitLaws.{address-padded}
-use Rattle.room.proofs.RefusalLaws.{Places, valid-none, level-none, server-none, pair-none, link-none, value-none, places-none, places-of, answer-none}
-use Rattle.room.proofs.RoomLaws.{read-back, write-back, written-server, places-digits, places-written, places-padded, places-address, digits-long, with-server}
+use Rattle.room.proofs.RefusalLaws.{Places, valid-none, level-none, server-none, pair-none, link-none, value-none, places-none, answer-none}
+use Rattle.room.proofs.RoomLaws.{read-back, write-back, written-server, places-digits, places-written, places-padded, places-address}
 
 -- ---- where nothing is refused, an answer is what was asked for
 

@@ -3,15 +3,15 @@ use Prim.Native.Nat.{ℕ, zero, suc, _+_, _-_, _*_, _/_, _%_, _^_, _≤_, _<_, z
 use mathlib.Core.Path.{_≡_, refl, sym, ap, ap₂, _∙_}
 use mathlib.Core.Logic.{_≢_, _⊎_, inl, inr, ⊎-elim}
 use mathlib.Core.List.{List, [], _∷_, _++_}
-use native.Mathlib.Nat.{mod-lt, mod-add-div, div-lt-iff-lt-mul, pow-zero, pow-suc, pow-succ', mod-eq-of-lt, div-eq-of-lt, zero-div, zero-add, mul-zero, zero-mul, mul-assoc, mul-add, add-assoc, add-comm, mul-comm, mul-one, mul-suc, one-mul, add-mul-mod-self-left, add-mul-div-left, div-div-eq-div-mul, mod-one, div-one, add-mod-mod, mod-mod, pow-le-pow-left, pow-le-pow-right, one-le-pow, mul-le-mul-left, le-of-suc-le-suc, lt-of-lt-of-le, le-trans, le-of-lt, zero-mod, suc-add}
+use native.Mathlib.Nat.{mod-lt, mod-add-div, div-lt-iff-lt-mul, pow-zero, pow-suc, pow-succ', mod-eq-of-lt, div-eq-of-lt, zero-div, zero-add, mul-zero, mul-assoc, mul-add, add-assoc, mul-comm, mul-suc, one-mul, add-mul-mod-self-left, add-mul-div-left, div-div-eq-div-mul, mod-one, div-one, pow-le-pow-left, pow-le-pow-right, one-le-pow, mul-le-mul-left, le-of-suc-le-suc, lt-of-lt-of-le, le-trans, le-of-lt, zero-mod, suc-add}
 use native.Mathlib.Numerals.{add-one}
 use native.Mathlib.Omega.{arith}
 use native.Mathlib.Decide.{decLt, ℕ-discrete}
 use lib.Dec.{lit<}
 use lib.Arith.{mod-mul, lt-one}
-use lib.ListN.{length, getD, take, drop, set, replicate, length-set, length-drop, length-take, drop-of-length-le}
-use lib.Seq.{ext-getD, set-split, getD-set-same, getD-set-other, set-getD, length-take-le, getD-drop, getD-take, drop-cons}
-use Rattle.room.specs.Digits.{digitsOf, addressOf, strike, padded, differFrom, Below}
+use lib.ListN.{length, getD, take, drop, set, replicate, length-set, length-drop}
+use lib.Seq.{ext-getD, set-split, getD-set-same, getD-set-other, length-take-le, getD-drop, drop-cons}
+use Rattle.room.specs.Digits.{digitsOf, addressOf, strike, padded, Below}
 
 below-head : {n d : ℕ} {ds : List ℕ} → Below n (d ∷ ds) → d < n
 below-head h = h .at zero (suc-le-suc zero-le)

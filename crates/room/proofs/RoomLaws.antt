@@ -1,26 +1,24 @@
 -- Laws of the room: digits and addresses undo each other, what setting a digit does, and when two servers share a switch.
 use Prim.Native.Nat.{ℕ, zero, suc, _+_, _-_, _*_, _/_, _%_, _^_, _≤_, _<_, suc-le-suc, zero-le}
 use mathlib.Core.Path.{_≡_, refl, sym, ap, _∙_}
-use mathlib.Core.Logic.{_≢_, _⊎_, inl, inr, ⊎-elim, _↔_}
-use mathlib.Core.Bool.{Bool, true, false, cond}
+use mathlib.Core.Logic.{_≢_, _↔_}
+use mathlib.Core.Bool.{cond}
 use mathlib.Core.List.{List, [], _∷_, _++_}
 use native.Mathlib.Numerals.{add-one}
 use native.Mathlib.Omega.{arith}
 use native.Mathlib.Decide.{decLe, decLt, ℕ-discrete}
-use native.Mathlib.Nat.{one-le-pow, pow-suc, le-refl, mod-add-div, mul-le-mul-left, div-le-self, mul-div-cancel, le-of-suc-le-suc, add-zero, zero-add, add-suc, suc-add}
+use native.Mathlib.Nat.{one-le-pow, pow-suc, le-refl, mul-div-cancel, le-of-suc-le-suc, add-zero, zero-add, add-suc, suc-add}
 use lib.ListN.{length, getD, set, take, drop, replicate, length-set, length-take, length-append, length-replicate, drop-of-length-le, List·getD-eq-default}
-use lib.Seq.{getD-set-same, getD-set-other, set-getD, set-append-left, ext-getD, getD-append-add, take-at, drop-at, length-take-le, drop-cons, getD-take}
-use lib.Dec.{ltb, leb, lit<, eqb}
+use lib.Seq.{getD-set-same, getD-set-other, set-getD, set-append-left, ext-getD, length-take-le, drop-cons, getD-take}
+use lib.Dec.{leb, lit<}
 use lib.Arith.{lt-one}
 use borrow.Author.Tests.{le-leb, lt-leb, eq-eqb, ne-eqb}
 use Rattle.room.specs.declared.Shape.{Shape}
-use Rattle.room.specs.declared.Between.{Between}
 use Rattle.room.specs.Digits.{digitsOf, addressOf, strike, padded, differFrom, Below}
 use Rattle.room.specs.Shapes.{serversOf, bound, Valid, Server, Link, Value}
 use Rattle.room.specs.Addresses.{digits, digit, withDigit, switchOf, switchesAt, differing, Written, Beside, Neighbours}
-use Rattle.room.specs.Refusals.{placeBound, none}
-use Rattle.room.specs.Answers.{onlyLevel, noBetween}
-use Rattle.room.proofs.DigitLaws.{length-digits, digits-below, address-digits, digits-address, address-lt, address-injective, strike-keeps, strike-same, strike-agree, length-strike, set-keeps, digit-closed, with-closed, strike-closed, padded-digits, address-padded, But}
+use Rattle.room.specs.Refusals.{placeBound}
+use Rattle.room.proofs.DigitLaws.{length-digits, digits-below, address-digits, digits-address, address-lt, address-injective, strike-keeps, strike-same, strike-agree, length-strike, set-keeps, digit-closed, with-closed, strike-closed, padded-digits, address-padded}
 use Rattle.room.proofs.RefusalLaws.{Places}
 
 -- ---- the bound of a level, and the number of servers

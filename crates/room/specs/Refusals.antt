@@ -1,7 +1,7 @@
 -- Refusals of the room, by document 01's numbers and in its order. 0 is no refusal.
 use Prim.Native.Nat.{ℕ, zero, suc}
 use mathlib.Core.List.{List, [], _∷_}
-use mathlib.Core.Bool.{Bool, true, false, cond, _&&_}
+use mathlib.Core.Bool.{Bool, true, cond, _&&_}
 use lib.Dec.{ltb, leb}
 use Rattle.room.specs.declared.Shape.{Shape}
 use Rattle.room.specs.declared.Refusal.{Refusal}

@@ -1,10 +1,9 @@
 // The digits of an address, and the address of digits.
 ghost use mathlib.Core.Path.{_≡_};
-ghost use Prim.Native.Nat.{_≤_, _<_};
-ghost use lib.ListN.{length};
+ghost use Prim.Native.Nat.{_≤_};
 ghost use Rattle.room.specs.Digits.{addressOf, padded, Below};
 ghost use Rattle.room.specs.Addresses.{digits, digit};
-ghost use Rattle.room.specs.Refusals.{serverRefusal, linkRefusal};
+ghost use Rattle.room.specs.Refusals.{serverRefusal};
 ghost use Rattle.room.specs.Answers.{digitsAnswer, digitAnswer, addressAnswer};
 use crate::Digits;
 use crate::Number;

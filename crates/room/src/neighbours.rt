@@ -2,7 +2,7 @@
 ghost use mathlib.Core.Path.{_≡_};
 ghost use Rattle.room.specs.Digits.{differFrom};
 ghost use Rattle.room.specs.Addresses.{withDigit};
-ghost use Rattle.room.specs.Refusals.{valueRefusal, pairRefusal};
+ghost use Rattle.room.specs.Refusals.{valueRefusal};
 ghost use Rattle.room.specs.Answers.{neighbourAnswer, betweenAnswer, onlyLevel};
 use crate::Between;
 use crate::Number;

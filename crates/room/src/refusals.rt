@@ -1,7 +1,7 @@
 // What is tested before a call answers: each function gives the number of the first refusal that
 // applies, or 0.
 ghost use mathlib.Core.Path.{_≡_};
-ghost use mathlib.Core.Bool.{Bool, true, false};
+ghost use mathlib.Core.Bool.{true, false};
 ghost use Rattle.room.specs.Refusals.{shapeRefusal, levelRefusal, serverRefusal, pairRefusal, linkRefusal, valueRefusal, placeBound, placesFit, placesRefusal};
 use crate::Refusal;
 use crate::Shape;

@@ -9,7 +9,7 @@ use native.Mathlib.Omega.{arith}
 use native.Mathlib.Nat.{le-of-suc-le-suc}
 use native.Mathlib.Decide.{ℕ-discrete}
 use lib.Dec.{ltb, leb, eqb}
-use lib.ListN.{length, getD, take, replicate, length-append, length-map}
+use lib.ListN.{length, getD, replicate, length-append, length-map}
 use lib.Seq.{append-snoc, take-at, getD-append-seam}
 use Rattle.room.specs.declared.Shape.{Shape}
 use Rattle.room.specs.Shapes.{serversOf}

@@ -2,23 +2,22 @@
 use Prim.Native.Nat.{ℕ, zero, suc, _+_, _-_, _*_, _/_, _%_, _≤_, _<_, suc-le-suc, zero-le}
 use mathlib.Core.Path.{_≡_, refl, sym, ap, ap₂, _∙_}
 use mathlib.Core.Logic.{_≢_, _↔_}
-use mathlib.Core.Bool.{Bool, true, false, not, cond, _&&_}
+use mathlib.Core.Bool.{Bool, true, false, not, cond}
 use mathlib.Core.List.{List, [], _∷_, _++_, map}
 use native.Mathlib.Omega.{arith}
-use native.Mathlib.Nat.{le-of-suc-le-suc, mul-div-cancel-left, mul-mod-right}
+use native.Mathlib.Nat.{le-of-suc-le-suc}
 use native.Mathlib.Decide.{ℕ-discrete}
 use lib.Dec.{leb, eqb}
-use lib.ListN.{length, getD, take, drop, length-append, length-take, length-drop, take-append-drop}
-use lib.Seq.{take-at, drop-at, take-all, length-take-le}
+use lib.ListN.{length, getD, take, drop, length-append, length-drop, take-append-drop}
+use lib.Seq.{take-at, drop-at}
 use borrow.Author.Tests.{eq-eqb, ne-eqb, eqb-true, leb-true, le-leb}
 use Rattle.room.specs.declared.Shape.{Shape}
 use Rattle.room.specs.declared.Refusal.{Refusal}
-use Rattle.room.specs.Refusals.{none, plain, refusedAt, _or-else_, _unless_}
-use Rattle.room.specs.Answers.{answer}
+use Rattle.room.specs.Refusals.{none, plain, refusedAt, _or-else_}
 use Rattle.room.proofs.RefusalLaws.{or-else-zero, chain-goes, test-held, both-held, answered, answer-none}
 use Rattle.path.specs.declared.Walked.{Walked}
 use Rattle.path.specs.Lists.{isIn, middle, filled, inTurn, Apart}
-use Rattle.path.specs.Routes.{Route, RouteTo, Parallel, encode, switchesOf, switchTo}
+use Rattle.path.specs.Routes.{RouteTo, Parallel, encode, switchesOf, switchTo}
 use Rattle.path.specs.Answers.{walkAnswer}
 use Rattle.path.proofs.ListLaws.{Missing, in-missing, missing-in, length-turn, take-filled}
 use Rattle.path.proofs.CodecLaws.{walk-given, walk-exactly, encode-long}

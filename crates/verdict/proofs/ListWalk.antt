@@ -1,13 +1,12 @@
 -- Walking the arrays of a list in turn: what the loop keeps.
-use Prim.Native.Nat.{ℕ, zero, suc, _+_, _-_, _*_, _/_, _≤_, _<_, suc-le-suc, zero-le}
-use mathlib.Core.Path.{_≡_, refl, sym, ap, ap₂, _∙_}
-use mathlib.Core.Bool.{Bool, true, false, cond}
+use Prim.Native.Nat.{ℕ, zero, suc, _+_, _-_, _*_, _/_, _≤_, _<_}
+use mathlib.Core.Path.{_≡_, refl, sym, ap, _∙_}
 use mathlib.Core.List.{List, [], _∷_, _++_, map}
 use native.Mathlib.Omega.{arith}
 use native.Mathlib.Nat.{le-of-suc-le-suc}
 use native.Mathlib.Numerals.{add-one}
 use native.Mathlib.Decide.{decLt}
-use lib.ListN.{length, getD, set, take, drop, length-set, length-take, drop-of-length-le}
+use lib.ListN.{length, getD, set, take, drop, length-set, drop-of-length-le}
 use lib.Seq.{take-suc-set, take-suc, take-all, getD-set-same, getD-set-other, drop-drop}
 use borrow.Author.Tests.{eq-eqb, ne-eqb}
 use Rattle.room.specs.declared.Shape.{Shape}
@@ -15,7 +14,7 @@ use Rattle.room.specs.declared.Refusal.{Refusal}
 use Rattle.room.specs.Refusals.{none, refusedAt}
 use Rattle.path.specs.declared.Walked.{Walked}
 use Rattle.path.specs.Answers.{walkAnswer}
-use Rattle.path.specs.Lists.{filled, inTurn}
+use Rattle.path.specs.Lists.{inTurn}
 use Rattle.path.specs.Routes.{switchesOf, switchTo}
 use Rattle.path.proofs.ListLaws.{length-filled, length-turn}
 use Rattle.path.proofs.CodecLaws.{walk-given, walk-exactly}

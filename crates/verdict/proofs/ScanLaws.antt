@@ -1,19 +1,18 @@
 -- What a loop over a list finds: one law for each way through a turn.
 use Prim.Native.Nat.{ℕ, zero, suc, _+_, _-_, _≤_, _<_}
-use mathlib.Core.Path.{_≡_, refl, sym, ap, ap₂, _∙_}
-use mathlib.Core.Bool.{Bool, true, false, not, _&&_}
+use mathlib.Core.Path.{_≡_, sym, ap, ap₂, _∙_}
+use mathlib.Core.Bool.{Bool, true, false}
 use mathlib.Core.List.{List, [], _∷_}
 use native.Mathlib.Numerals.{add-one}
 use native.Mathlib.Omega.{arith}
 use lib.ListN.{length, getD, drop, take, length-take, drop-of-length-le}
 use lib.Seq.{drop-cons, length-take-le, take-take, getD-take}
-use lib.Dec.{eqb}
 use borrow.Author.Tests.{eq-eqb, ne-eqb}
 use Rattle.room.specs.declared.Refusal.{Refusal}
 use Rattle.room.specs.Refusals.{none, refusedAt}
 use Rattle.path.specs.declared.Walked.{Walked}
 use Rattle.path.specs.Lists.{isIn, middle}
-use Rattle.verdict.specs.Checks.{disjoint, switchesIn, between, parallel, firstMeeting, firstPair, firstOf, firstStop}
+use Rattle.verdict.specs.Checks.{disjoint, switchesIn, between, parallel, firstMeeting, firstPair, firstOf}
 use Rattle.verdict.specs.Arrived.{nowhere, Arrived}
 
 module _ {A : Type 0} where

@@ -1,6 +1,6 @@
 // Every two routes held against each other.
 ghost use mathlib.Core.Path.{_≡_};
-ghost use Prim.Native.Nat.{_≤_, _<_, _+_, suc};
+ghost use Prim.Native.Nat.{_≤_, _<_, _+_};
 ghost use lib.ListN.{take, drop, getD};
 ghost use Rattle.verdict.specs.Checks.{parallel, firstMeeting, firstPair};
 ghost use Rattle.verdict.specs.Arrived.{Arrived, AllArrived, nowhere};

@@ -1,5 +1,4 @@
 -- `desk_line::lines::part_before` meets its contract. Assumes nothing.
-use native.Mathlib.Omega.{arith}
 use borrow.Author.Needs.{needs}
 use Rattle.desk_line.proofs.LineLaws.{found-before, found-long}
 use Rattle.desk_line.proofs.lines.part_before.Statement.{statement}

@@ -1,6 +1,5 @@
 -- `desk_line::texts::hex_digit` meets its contract. Assumes nothing.
 use native.Mathlib.Omega.{arith}
-use borrow.Author.Needs.{needs}
 use Rattle.desk_line.proofs.TextLaws.{hex-small, hex-large}
 use Rattle.desk_line.proofs.texts.hex_digit.Statement.{statement}
 use Rattle.desk_line.proofs.texts.hex_digit.Tie as tie

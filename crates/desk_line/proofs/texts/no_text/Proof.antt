@@ -1,5 +1,4 @@
 -- `desk_line::texts::no_text` meets its contract. Assumes nothing.
-use borrow.Author.Needs.{needs}
 use Rattle.desk_line.proofs.TextLaws.{none-yet}
 use Rattle.desk_line.proofs.texts.no_text.Statement.{statement}
 use Rattle.desk_line.proofs.texts.no_text.Tie as tie

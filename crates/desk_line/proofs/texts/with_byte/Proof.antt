@@ -1,7 +1,5 @@
 -- `desk_line::texts::with_byte` meets its contract. Assumes nothing.
 use native.Mathlib.Omega.{arith}
-use borrow.Author.Needs.{needs}
-use Prim.Native.Nat.{_≤_, _+_}
 use Rattle.desk_line.proofs.TextLaws.{room-length, put-byte}
 use Rattle.desk_line.proofs.texts.with_byte.Statement.{statement}
 use Rattle.desk_line.proofs.texts.with_byte.Tie as tie

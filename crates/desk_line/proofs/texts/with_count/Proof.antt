@@ -1,6 +1,5 @@
 -- `desk_line::texts::with_count` meets its contract. Assumes nothing.
 use native.Mathlib.Omega.{arith}
-use borrow.Author.Needs.{needs}
 use Rattle.desk_line.proofs.TextLaws.{room-less, count-room, counted}
 use Rattle.desk_line.proofs.texts.with_count.Statement.{statement}
 use Rattle.desk_line.proofs.texts.with_count.Tie as tie

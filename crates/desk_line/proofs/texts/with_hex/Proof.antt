@@ -1,6 +1,5 @@
 -- `desk_line::texts::with_hex` meets its contract. Assumes nothing.
 use native.Mathlib.Omega.{arith}
-use borrow.Author.Needs.{needs}
 use mathlib.Core.Path.{_≡_}
 use Prim.Native.Nat.{_≤_, _-_}
 use mathlib.Core.List.{_++_}

@@ -1,6 +1,5 @@
 -- `desk_line::texts::with_route` meets its contract. Assumes nothing.
 use native.Mathlib.Omega.{arith}
-use borrow.Author.Needs.{needs}
 use Rattle.desk_line.proofs.TextLaws.{room-less, route-hex, route-room, routed}
 use Rattle.desk_line.proofs.texts.with_route.Statement.{statement}
 use Rattle.desk_line.proofs.texts.with_route.Tie as tie

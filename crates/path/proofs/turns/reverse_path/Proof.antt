@@ -7,9 +7,8 @@ use mathlib.Core.List.{List}
 use lib.ListN.{length}
 use lib.Seq.{length-take-le}
 use Rattle.path.specs.Routes.{encode}
-use Rattle.path.specs.Inside.{Chain}
 use Rattle.path.specs.Answers.{aWriting}
-use Rattle.path.proofs.TurnLaws.{Met, reverse-refused, reverse-met, turned-is, chain-back}
+use Rattle.path.proofs.TurnLaws.{reverse-refused, reverse-met, turned-is, chain-back}
 use Rattle.path.proofs.turns.reverse_path.Statement.{statement}
 use Rattle.path.proofs.turns.reverse_path.Tie as tie
 

@@ -4,7 +4,6 @@ use mathlib.Core.Path.{ap₂}
 use Prim.Native.Nat.{ℕ}
 use mathlib.Core.List.{List}
 use Rattle.room.specs.declared.Refusal.{Refusal}
-use Rattle.path.specs.declared.Writing.{Writing}
 use Rattle.path.proofs.writings.a_writing.Statement.{statement}
 use Rattle.path.proofs.writings.a_writing.Tie as tie
 

@@ -1,10 +1,9 @@
 -- `path::writings::put_bytes` meets its contract. Assumes nothing.
 use borrow.Author.Needs.{needs}
 use native.Mathlib.Omega.{arith}
-use Prim.Native.Nat.{ℕ, _-_}
+use Prim.Native.Nat.{_-_}
 use native.Mathlib.Numerals.{add-one}
 use lib.ListN.{length}
-use Rattle.path.specs.Inside.{Next}
 use Rattle.path.proofs.WriteLaws.{Putting, put-start, put-next, put-end}
 use Rattle.path.proofs.writings.put_bytes.Statement.{statement}
 use Rattle.path.proofs.writings.put_bytes.Tie as tie

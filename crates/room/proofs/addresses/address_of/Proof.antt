@@ -1,6 +1,6 @@
 -- `room::addresses::address_of` meets its contract. Assumes nothing.
 use borrow.Author.Needs.{needs}
-use mathlib.Core.Path.{_≡_, sym, ap, _∙_}
+use mathlib.Core.Path.{sym, ap, _∙_}
 use Rattle.room.proofs.RefusalLaws.{answer-refused, answer-given, places-of}
 use Rattle.room.proofs.RoomLaws.{places-below}
 use Rattle.room.specs.Answers.{addressAnswer, aNumber, noNumber}

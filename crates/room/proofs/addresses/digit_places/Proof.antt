@@ -1,7 +1,5 @@
 -- `room::addresses::digit_places` meets its contract. Assumes nothing.
 use native.Mathlib.Omega.{arith}
-use borrow.Author.Needs.{needs}
-use mathlib.Core.Path.{refl, sym, _∙_}
 use Rattle.room.proofs.RefusalLaws.{server-of}
 use Rattle.room.proofs.RoomLaws.{digits-four}
 use Rattle.room.specs.Digits.{digitsOf}

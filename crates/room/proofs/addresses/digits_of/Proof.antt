@@ -1,11 +1,9 @@
 -- `room::addresses::digits_of` meets its contract. Assumes nothing.
 use borrow.Author.Needs.{needs}
-use mathlib.Core.Path.{_≡_, sym, ap, _∙_}
 use mathlib.Core.Path.{ap₂}
 use Prim.Native.Nat.{ℕ}
 use mathlib.Core.List.{List}
 use Rattle.room.specs.declared.Refusal.{Refusal}
-use Rattle.room.specs.declared.Digits.{Digits}
 use Rattle.room.proofs.RefusalLaws.{answer-refused, answer-given}
 use Rattle.room.specs.Answers.{digitsAnswer, noDigits}
 use Rattle.room.proofs.addresses.digits_of.Statement.{statement}

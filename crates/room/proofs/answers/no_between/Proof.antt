@@ -2,7 +2,6 @@
 use mathlib.Core.Path.{ap}
 use borrow.Author.Needs.{needs}
 use Rattle.room.specs.declared.Refusal.{Refusal}
-use Rattle.room.specs.declared.Between.{Between}
 use mathlib.Core.Bool.{false}
 use Rattle.room.proofs.answers.no_between.Statement.{statement}
 use Rattle.room.proofs.answers.no_between.Tie as tie

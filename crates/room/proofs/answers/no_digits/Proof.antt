@@ -2,7 +2,6 @@
 use mathlib.Core.Path.{ap}
 use borrow.Author.Needs.{needs}
 use Rattle.room.specs.declared.Refusal.{Refusal}
-use Rattle.room.specs.declared.Digits.{Digits}
 use lib.ListN.{replicate}
 use Rattle.room.proofs.answers.no_digits.Statement.{statement}
 use Rattle.room.proofs.answers.no_digits.Tie as tie

@@ -2,7 +2,6 @@
 use mathlib.Core.Path.{ap}
 use borrow.Author.Needs.{needs}
 use Rattle.room.specs.declared.Refusal.{Refusal}
-use Rattle.room.specs.declared.Number.{Number}
 use Rattle.room.proofs.answers.no_number.Statement.{statement}
 use Rattle.room.proofs.answers.no_number.Tie as tie
 

@@ -1,6 +1,6 @@
 -- `room::neighbours::level_between` meets its contract. Assumes nothing.
 use borrow.Author.Needs.{needs}
-use mathlib.Core.Path.{_≡_, sym, ap, _∙_}
+use mathlib.Core.Path.{sym, ap, _∙_}
 use mathlib.Core.Path.{ap₂}
 use Rattle.room.specs.Digits.{differFrom}
 use Rattle.room.proofs.RefusalLaws.{answer-refused, answer-given, pair-of, server-none}

@@ -1,6 +1,6 @@
 -- `room::neighbours::neighbour_of` meets its contract. Assumes nothing.
 use borrow.Author.Needs.{needs}
-use mathlib.Core.Path.{_≡_, sym, ap, _∙_}
+use mathlib.Core.Path.{ap, _∙_}
 use Rattle.room.proofs.RefusalLaws.{answer-refused, answer-given}
 use Rattle.room.specs.Answers.{neighbourAnswer, aNumber, noNumber}
 use Rattle.room.proofs.neighbours.neighbour_of.Statement.{statement}

@@ -3,12 +3,10 @@ use native.Mathlib.Omega.{arith}
 use borrow.Author.Needs.{needs}
 use mathlib.Core.Path.{_≡_, refl, sym, ap, _∙_}
 use mathlib.Core.Logic.{⊎-elim}
-use Prim.Native.Nat.{ℕ, _≤_, _-_, _+_}
-use mathlib.Core.List.{List, []}
+use Prim.Native.Nat.{_≤_, _-_, _+_}
 use mathlib.Core.Bool.{true}
 use lib.ListN.{length, drop}
 use Rattle.room.specs.declared.Refusal.{Refusal}
-use Rattle.room.specs.declared.Between.{Between}
 use Rattle.room.specs.Digits.{differFrom}
 use Rattle.room.proofs.RoomLaws.{differ-step, differ-here, differ-end}
 use Rattle.room.proofs.FourPlaces.{tally, tally-whole, tally-next, tally-none, tally-one}

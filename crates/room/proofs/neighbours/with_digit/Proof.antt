@@ -5,7 +5,7 @@ use mathlib.Core.Path.{_≡_, sym, ap, _∙_}
 use Prim.Native.Nat.{ℕ}
 use mathlib.Core.List.{List}
 use lib.ListN.{set, length}
-use Rattle.room.specs.Digits.{addressOf, Below}
+use Rattle.room.specs.Digits.{addressOf}
 use Rattle.room.proofs.RefusalLaws.{value-of, server-none}
 use Rattle.room.proofs.RoomLaws.{with-four, with-four-below}
 use Rattle.room.proofs.neighbours.with_digit.Statement.{statement}

@@ -1,10 +1,7 @@
 -- `room::refusals::shape_refusal` meets its contract. Assumes nothing.
-use Prim.Native.Nat.{_≤_}
-use mathlib.Core.Path.{_≡_, _∙_}
 use native.Mathlib.Omega.{arith}
 use Rattle.room.proofs.RefusalLaws.{few-ports, many-ports, many-levels, many-servers, valid-none}
 use Rattle.room.proofs.RoomLaws.{servers-power}
-use Rattle.room.specs.Shapes.{serversOf}
 use Rattle.room.proofs.refusals.shape_refusal.Statement.{statement}
 use Rattle.room.proofs.refusals.shape_refusal.Tie as tie
 

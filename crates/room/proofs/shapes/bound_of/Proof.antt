@@ -1,6 +1,6 @@
 -- `room::shapes::bound_of` meets its contract. Assumes nothing.
 use borrow.Author.Needs.{needs}
-use mathlib.Core.Path.{_≡_, sym, ap, _∙_}
+use mathlib.Core.Path.{ap, _∙_}
 use Rattle.room.proofs.RefusalLaws.{answer-refused, answer-given}
 use Rattle.room.specs.Answers.{boundAnswer, aNumber, noNumber}
 use Rattle.room.proofs.shapes.bound_of.Statement.{statement}

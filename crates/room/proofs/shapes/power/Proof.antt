@@ -1,6 +1,6 @@
 -- `room::shapes::power` meets its contract. Assumes nothing.
-use Prim.Native.Nat.{ℕ, _+_, _≤_, _-_, _^_}
-use mathlib.Core.Path.{_≡_, ap, _∙_, sym}
+use Prim.Native.Nat.{_+_, _≤_, _-_, _^_}
+use mathlib.Core.Path.{_≡_, sym}
 use native.Mathlib.Omega.{arith}
 use native.Mathlib.Nat.{pow-zero}
 use Rattle.room.proofs.DigitLaws.{pow-small, next-power}

@@ -1,6 +1,6 @@
 -- `room::shapes::servers_of` meets its contract. Assumes nothing.
 use borrow.Author.Needs.{needs}
-use mathlib.Core.Path.{_≡_, sym, ap, _∙_}
+use mathlib.Core.Path.{ap, _∙_}
 use Rattle.room.proofs.RefusalLaws.{answer-refused, answer-given}
 use Rattle.room.specs.Answers.{serversAnswer, aNumber, noNumber}
 use Rattle.room.proofs.shapes.servers_of.Statement.{statement}

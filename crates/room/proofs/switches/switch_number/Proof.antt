@@ -1,10 +1,9 @@
 -- `room::switches::switch_number` meets its contract. Assumes nothing.
 use native.Mathlib.Omega.{arith}
-use borrow.Author.Needs.{needs}
-use mathlib.Core.Path.{_≡_, sym, ap, _∙_}
+use mathlib.Core.Path.{sym, ap, _∙_}
 use Prim.Native.Nat.{ℕ}
 use mathlib.Core.List.{List, [], _∷_, _++_}
-use Rattle.room.specs.Digits.{addressOf, strike, Below}
+use Rattle.room.specs.Digits.{addressOf, strike}
 use Rattle.room.proofs.RefusalLaws.{link-of, server-none}
 use Rattle.room.proofs.RoomLaws.{strike-four, strike-four-below}
 use Rattle.room.proofs.switches.switch_number.Statement.{statement}

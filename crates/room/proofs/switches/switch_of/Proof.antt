@@ -1,10 +1,8 @@
 -- `room::switches::switch_of` meets its contract. Assumes nothing.
 use borrow.Author.Needs.{needs}
-use mathlib.Core.Path.{_≡_, sym, ap, _∙_}
 use mathlib.Core.Path.{ap₂}
 use Prim.Native.Nat.{ℕ}
 use Rattle.room.specs.declared.Refusal.{Refusal}
-use Rattle.room.specs.declared.Switch.{Switch}
 use Rattle.room.proofs.RefusalLaws.{answer-refused, answer-given}
 use Rattle.room.specs.Answers.{switchAnswer, noSwitch}
 use Rattle.room.proofs.switches.switch_of.Statement.{statement}

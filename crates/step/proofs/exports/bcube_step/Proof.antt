@@ -1,7 +1,6 @@
 -- `step::exports::bcube_step` meets its contract. Assumes nothing.
 use native.Mathlib.Omega.{arith}
 use borrow.Author.Needs.{needs}
-use mathlib.Core.Path.{_≡_}
 use Rattle.step.specs.Steps.{entry, portAt}
 use Rattle.step.specs.Packed.{packed}
 use Rattle.step.proofs.StepLaws.{step-facts}

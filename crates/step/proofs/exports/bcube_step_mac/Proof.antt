@@ -1,7 +1,7 @@
 -- `step::exports::bcube_step_mac` meets its contract. Assumes nothing.
 use native.Mathlib.Omega.{arith}
 use borrow.Author.Needs.{needs}
-use mathlib.Core.Path.{_≡_, _∙_}
+use mathlib.Core.Path.{_∙_}
 use Rattle.step.specs.declared.Step.{Step}
 use Rattle.step.specs.Packed.{macNumber}
 use Rattle.step.proofs.StepLaws.{step-facts}

@@ -1,7 +1,7 @@
 -- `step::hops::hop_from` meets its contract. Assumes nothing.
 use native.Mathlib.Omega.{arith}
 use borrow.Author.Needs.{needs}
-use mathlib.Core.Path.{_≡_, _∙_}
+use mathlib.Core.Path.{_∙_}
 use Rattle.room.proofs.RefusalLaws.{server-of}
 use Rattle.room.proofs.RoomLaws.{weight-pos}
 use Rattle.path.proofs.HopSteps.{hop-eight, hop-nine, hop-moved, hop-ten, hop-goes, hop-tested}

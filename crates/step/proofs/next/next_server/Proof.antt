@@ -1,7 +1,7 @@
 -- `step::next::next_server` meets its contract. Assumes nothing.
 use native.Mathlib.Omega.{arith}
 use borrow.Author.Needs.{needs}
-use mathlib.Core.Path.{_≡_, sym, ap, _∙_}
+use mathlib.Core.Path.{sym, ap, _∙_}
 use Rattle.room.specs.declared.Refusal.{Refusal}
 use Rattle.room.proofs.RefusalLaws.{server-none}
 use Rattle.path.proofs.HopSteps.{hop-number, hop-next, hop-known}

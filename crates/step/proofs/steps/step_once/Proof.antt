@@ -1,7 +1,7 @@
 -- `step::steps::step_once` meets its contract. Assumes nothing.
 use native.Mathlib.Omega.{arith}
 use borrow.Author.Needs.{needs}
-use mathlib.Core.Path.{_≡_, refl, ap, _∙_}
+use mathlib.Core.Path.{refl, ap, _∙_}
 use mathlib.Core.Bool.{true}
 use Rattle.room.specs.declared.Refusal.{Refusal}
 use Rattle.step.specs.Steps.{entry, portAt, standing}

@@ -1,7 +1,6 @@
 -- `step::tests::ends_refusal` meets its contract. Assumes nothing.
 use native.Mathlib.Omega.{arith}
 use borrow.Author.Needs.{needs}
-use mathlib.Core.Path.{_≡_}
 use Rattle.room.proofs.RefusalLaws.{few-ports, many-ports, many-levels, many-servers, pair-none}
 use Rattle.room.proofs.RoomLaws.{servers-power}
 use Rattle.room.specs.Shapes.{Valid}

@@ -1,8 +1,8 @@
 -- `verdict::checks::check_arrays` meets its contract. Assumes nothing.
 use borrow.Author.Needs.{needs}
 use native.Mathlib.Omega.{arith}
-use mathlib.Core.Path.{_≡_, refl, sym, ap, _∙_}
-use Prim.Native.Nat.{_≤_, _-_, _/_, _<_}
+use mathlib.Core.Path.{_≡_, refl, _∙_}
+use Prim.Native.Nat.{_-_, _/_}
 use lib.ListN.{length}
 use Rattle.verdict.proofs.LengthLaws.{list-few}
 use Rattle.verdict.proofs.ListWalk.{Walking, walking-none, walking-stops, walking-goes, walking-ends}

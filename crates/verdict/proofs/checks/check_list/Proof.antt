@@ -1,7 +1,6 @@
 -- `verdict::checks::check_list` meets its contract. Assumes nothing.
 use borrow.Author.Needs.{needs}
 use Rattle.room.proofs.RefusalLaws.{answer-refused, answer-given}
-use mathlib.Core.Path.{_≡_}
 use Rattle.room.specs.Refusals.{plain}
 use Rattle.verdict.specs.Checks.{checkAnswer}
 use Rattle.verdict.proofs.checks.check_list.Statement.{statement}

@@ -1,7 +1,7 @@
 -- `verdict::pairs::are_parallel` meets its contract. Assumes nothing.
 use native.Mathlib.Omega.{arith}
 use borrow.Author.Needs.{needs}
-use mathlib.Core.Path.{_≡_, refl, sym, _∙_}
+use mathlib.Core.Path.{sym}
 use Prim.Native.Nat.{_-_}
 use lib.Seq.{length-take-le}
 use Rattle.verdict.proofs.ScanLaws.{parallel-not, parallel-by}

@@ -3,7 +3,7 @@ use native.Mathlib.Omega.{arith}
 use borrow.Author.Needs.{needs}
 use mathlib.Core.Path.{_≡_, refl, sym, _∙_}
 use Prim.Native.Nat.{_≤_, _-_, _+_}
-use lib.ListN.{length, drop, take, getD}
+use lib.ListN.{drop, take}
 use Rattle.verdict.specs.Checks.{firstMeeting}
 use Rattle.verdict.proofs.ScanLaws.{meeting-on, meeting-here, meeting-end}
 use Rattle.verdict.proofs.pairs.first_meeting.Statement.{statement}

@@ -1,7 +1,6 @@
 -- `worked::print::items` meets its contract. Assumes nothing.
 use borrow.Author.Needs.{needs}
 use Prim.Native.Nat.{_≤_, _-_}
-use lib.ListN.{length}
 use Rattle.worked.proofs.print.items.Statement.{statement}
 use Rattle.worked.proofs.print.items.Tie as tie
 

@@ -3,7 +3,6 @@ use borrow.Author.Needs.{needs}
 use native.Mathlib.Omega.{arith}
 use Prim.Native.Nat.{_≤_, _-_}
 use lib.ListN.{length}
-use mathlib.Core.Path.{_≡_}
 use mathlib.Core.Logic.{⊎-elim}
 use Rattle.worked.proofs.routes.accepted_from.Statement.{statement}
 use Rattle.worked.proofs.routes.accepted_from.Tie as tie

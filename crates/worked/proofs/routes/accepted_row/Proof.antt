@@ -1,10 +1,7 @@
 -- `worked::routes::accepted_row` meets its contract. Assumes nothing.
 use borrow.Author.Needs.{needs}
-use native.Mathlib.Omega.{arith}
 use Prim.Native.Nat.{_≤_, _-_}
 use lib.ListN.{length}
-use mathlib.Core.Path.{_≡_}
-use mathlib.Core.Logic.{⊎-elim}
 use Rattle.worked.proofs.routes.accepted_row.Statement.{statement}
 use Rattle.worked.proofs.routes.accepted_row.Tie as tie
 

@@ -4,7 +4,6 @@ use native.Mathlib.Omega.{arith}
 use Prim.Native.Nat.{_≤_, _-_}
 use lib.ListN.{length}
 use mathlib.Core.Path.{_≡_}
-use mathlib.Core.Logic.{⊎-elim}
 use Rattle.worked.proofs.routes.arrays.Statement.{statement}
 use Rattle.worked.proofs.routes.arrays.Tie as tie
 
