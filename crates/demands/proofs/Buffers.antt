@@ -11,7 +11,7 @@ use Rattle.room.specs.Refusals.{shapeRefusal}
 use Rattle.room.specs.Answers.{answer, betweenAnswer}
 use Rattle.links.specs.Answers.{failedAnswer, linkAnswer, markedTable, clearedTable}
 use Rattle.step.proofs.PackLaws.{step-unpacks}
-use Rattle.driver.specs.Words.{word, refusalIn, valueIn, Small, numberWord, switchWord, betweenWord, askedWord, placeWord}
+use Rattle.driver.specs.Words.{word, refusalIn, valueIn, Small, betweenWord, askedWord}
 use Rattle.driver.proofs.WordLaws.{refusal-back, value-back, plain-small, left-lent}
 use Rattle.driver.proofs.BoundLaws.{shape-le}
 use Rattle.driver.proofs.RoomSmall.{servers-small, bound-small, digit-small, address-small, neighbour-small, switch-small, between-level, between-fits, digits-fits, asked-fits, link-fits}
@@ -38,7 +38,7 @@ bit-small true = lit< tt
 bit-small false = lit< tt
 
 pub every-word : EveryWord
-unfolding numberWord switchWord betweenWord askedWord placeWord
+unfolding betweenWord askedWord
 every-word =
     record {
       shape = λ s. tells (plain-small (shapeRefusal s) (shape-le s));
