@@ -19,13 +19,13 @@ use Rattle.room.proofs.RefusalLaws.{answer-none}
 use Rattle.path.specs.declared.Walked.{Walked}
 use Rattle.path.specs.declared.Writing.{Writing}
 use Rattle.path.specs.Lists.{inTurn}
-use Rattle.path.specs.Routes.{switchAt, switchTo, byteTo, switchesOf, encode}
+use Rattle.path.specs.Routes.{switchAt, switchTo, byteTo, switchesOf, encode, Prefix}
 use Rattle.path.specs.Walks.{Walk, stopped, arrived, hopTo, fault, walkFrom, walk, writeFault, writeFrom}
 use Rattle.path.specs.Answers.{arrayRefusal, walked, walkAnswer, noWriting, aWriting, writeRefusal, written, onTheWay, writeAnswer}
 use Rattle.path.proofs.ListLaws.{length-snoc, snoc-last, snoc-at, turn-snoc, length-turn}
 use Rattle.path.proofs.HopLaws.{hop-byte, hop-switch}
 use Rattle.path.proofs.CodecLaws.{Ends, array-of, write-step, Servers, listed-of}
-use Rattle.path.proofs.RouteLaws.{lastOf, Prefix, prefix-one, prefix-snoc, Step, switches-snoc, fault-step, walk-refused, walk-arrives, walk-goes}
+use Rattle.path.proofs.RouteLaws.{lastOf, prefix-one, prefix-snoc, Step, switches-snoc, fault-step, walk-refused, walk-arrives, walk-goes}
 use Rattle.demands.specs.Demand1.{OneOf, nought, listed, Arises, HopPlace, NeverArrives, NoArrival, WriteArises, WritePlace}
 use Rattle.demands.proofs.Refusing.{all-at}
 use Rattle.demands.proofs.Places.{stopped-number, stopped-hop, ended-number, refused-number}

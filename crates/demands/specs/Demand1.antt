@@ -25,10 +25,9 @@ use Rattle.path.specs.declared.Walked.{Walked}
 use Rattle.path.specs.declared.Reading.{Reading}
 use Rattle.path.specs.declared.Writing.{Writing}
 use Rattle.path.specs.Lists.{isIn, inTurn}
-use Rattle.path.specs.Routes.{byteTo, switchesOf, Route, RouteTo, Encodes}
+use Rattle.path.specs.Routes.{byteTo, switchesOf, Route, Prefix, RouteTo, Encodes}
 use Rattle.path.specs.Walks.{fault, writeFault}
 use Rattle.path.specs.Answers.{endsRefusal, hopAnswer, walkAnswer, readAnswer, writeAnswer, reverseAnswer}
-use Rattle.path.proofs.RouteLaws.{Prefix}
 use Rattle.verdict.specs.Checks.{parallel, listRefusal, walksOf, checkAnswer}
 use Rattle.verdict.specs.Accepted.{Accepted}
 use Rattle.verdict.specs.Arrived.{nowhere}
@@ -45,8 +44,7 @@ use Rattle.pick.specs.Chosen.{NoneUsable}
 use Rattle.pick.specs.Places.{placeAnswer}
 use Rattle.step.specs.declared.Step.{Step}
 use Rattle.step.specs.Steps.{flagAt, stepAnswer}
-use Rattle.step.specs.Packed.{packed, macNumber, unpacked}
-use Rattle.step.proofs.PackLaws.{Bytes}
+use Rattle.step.specs.Packed.{packed, macNumber, unpacked, Bytes}
 use Rattle.driver.specs.Words.{word, refusalIn, valueIn, numberWord, digitsWord, digitsLeft, switchWord, betweenWord, askedWord, readingWord, readingLeft, writingWord, writingLeft, buildingWord, buildingLeft, placeWord}
 use Rattle.driver.specs.Routes.{FoundWord, SelectedWord}
 
