@@ -1,7 +1,6 @@
 -- Lent buffers and the words of the calls from C, proved.
 use Prim.Native.Nat.{ℕ, zero, suc, _≤_, _<_}
-use mathlib.Core.Path.{_≡_, refl, sym, ap, _∙_}
-use mathlib.Core.Logic.{_≢_}
+use mathlib.Core.Path.{_≡_, refl, sym, ap, subst, _∙_}
 use mathlib.Core.Bool.{Bool, true, false, cond}
 use mathlib.Core.List.{List, [], _∷_}
 use native.Mathlib.Omega.{arith}
@@ -11,14 +10,14 @@ use Rattle.room.specs.Refusals.{shapeRefusal}
 use Rattle.room.specs.Answers.{answer, betweenAnswer}
 use Rattle.links.specs.Answers.{failedAnswer, linkAnswer, markedTable, clearedTable}
 use Rattle.step.proofs.PackLaws.{step-unpacks}
-use Rattle.driver.specs.Words.{word, refusalIn, valueIn, Small, betweenWord, askedWord}
-use Rattle.driver.proofs.WordLaws.{refusal-back, value-back, plain-small, left-lent}
+use Rattle.driver.specs.Words.{word, refusalIn, valueIn, Small, left, betweenWord, askedWord}
+use Rattle.driver.proofs.WordLaws.{refusal-back, value-back, plain-small, left-given, left-lent}
 use Rattle.driver.proofs.BoundLaws.{shape-le}
 use Rattle.driver.proofs.RoomSmall.{servers-small, bound-small, digit-small, address-small, neighbour-small, switch-small, between-level, between-fits, digits-fits, asked-fits, link-fits}
 use Rattle.driver.proofs.PathSmall.{read-small, reverse-small, write-small, check-small}
 use Rattle.driver.proofs.RouteSmall.{build-small, find-small, select-small}
 use Rattle.driver.proofs.PickSmall.{pick-small}
-use Rattle.demands.specs.Demand1.{EveryBuffer, Tells, EveryWord}
+use Rattle.demands.specs.Demand1.{Holds, EveryBuffer, Tells, EveryWord}
 
 -- ---- the words
 
@@ -65,21 +64,31 @@ every-word =
 
 -- ---- lent buffers
 
-kept : (q : ℕ) (t u : List ℕ) → q ≢ 0 → answer q (λ r. t) u ≡ t
-kept zero t u n = absurd (n refl)
-kept (suc q) t u n = refl
+-- what an answer of a refusal's number leaves
+held : (r : ℕ) (lent written : List ℕ) → Holds r lent written (left r lent written)
+held r lent written = record { written = λ e. sym (left-given r lent written e); kept = λ n. sym (left-lent r lent written n) }
+
+-- the same of a word that tells the number, and a buffer that was left so
+told : (w : ℕ) {r : Refusal} (v : ℕ) {lent written now : List ℕ} → Tells w r v → now ≡ left (r .number) lent written → Holds (refusalIn w .number) lent written now
+told w {r} v {lent} {written} {now} h e =
+    subst (λ (m : ℕ). Holds m lent written now) (ap (λ (x : Refusal). x .number) (sym (h .0)))
+    (subst (Holds (r .number) lent written) (sym e) (held (r .number) lent written))
+
+changed : (q : ℕ) (t u : List ℕ) → Holds q t u (answer q (λ r. t) u)
+changed zero t u = record { written = λ e. refl; kept = λ n. absurd (n refl) }
+changed (suc q) t u = record { written = λ e. let z : ⊥ = omega arith in absurd z; kept = λ n. refl }
 
 pub every-buffer : EveryBuffer
 unfolding linkAnswer markedTable clearedTable
 every-buffer =
     record {
-      marked = λ s t a l n. kept _ t _ n;
-      cleared = λ s t a l n. kept _ t _ n;
-      digits = λ s a lent n. sym (left-lent _ lent _ n);
-      read = λ s a d bs lent n. sym (left-lent _ lent _ n);
-      write = λ s vs lent n. sym (left-lent _ lent _ n);
-      reversed = λ s a d bs lent n. sym (left-lent _ lent _ n);
-      build = λ s a d lent n. sym (left-lent _ lent _ n);
-      find = λ s t a d w lent path x n. x .leaves ∙ sym (left-lent _ lent _ (λ z. n (ap (λ (r : Refusal). r .number) (said (x .says) (find-small (x .answer) (x .finding)) .0) ∙ z)));
-      select = λ s t a d w lent routes x n. x .leaves ∙ sym (left-lent _ lent _ (λ z. n (ap (λ (r : Refusal). r .number) (said (x .says) (select-small (x .answer) (x .selecting)) .0) ∙ z)));
+      marked = λ s t a l. changed _ t _;
+      cleared = λ s t a l. changed _ t _;
+      digits = λ s a lent. held _ lent _;
+      read = λ s a d bs lent. held _ lent _;
+      write = λ s vs lent. held _ lent _;
+      reversed = λ s a d bs lent. held _ lent _;
+      build = λ s a d lent. held _ lent _;
+      find = λ s t a d w lent path x. told w _ (said (x .says) (find-small (x .answer) (x .finding))) (x .leaves);
+      select = λ s t a d w lent routes x. told w _ (said (x .says) (select-small (x .answer) (x .selecting))) (x .leaves);
     }

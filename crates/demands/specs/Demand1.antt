@@ -18,7 +18,7 @@ use Rattle.room.specs.Addresses.{digit}
 use Rattle.room.specs.Refusals.{none, plain, refusedAt, shapeRefusal, serverRefusal, linkRefusal}
 use Rattle.room.specs.Answers.{serversAnswer, boundAnswer, digitsAnswer, digitAnswer, addressAnswer, switchAnswer, neighbourAnswer, betweenAnswer}
 use Rattle.links.specs.declared.Asked.{Asked}
-use Rattle.links.specs.Table.{roomTableRefusal, TableOf}
+use Rattle.links.specs.Table.{marked, cleared, roomTableRefusal, TableOf}
 use Rattle.links.specs.Answers.{failedAnswer, linkAnswer, markedTable, clearedTable}
 use Rattle.path.specs.declared.Hop.{Hop}
 use Rattle.path.specs.declared.Walked.{Walked}
@@ -246,20 +246,25 @@ pub record RefusedExactly : Type 0 where
 
 -- ---- lent buffers
 
--- the calls that can write to what they are lent leave it as it was where they refuse; all others are lent it to read
+-- what a call leaves in a lent buffer: what it answers where its refusal's number is 0, else what was lent
+pub record Holds (number : ℕ) (lent answered left : List ℕ) : Type 0 where
+  pub written : number ≡ 0 → left ≡ answered
+  pub kept : number ≢ 0 → left ≡ lent
+
+-- the calls that can write to what they are lent; all others are lent it to read
 pub record EveryBuffer : Type 0 where
-  -- marking and clearing
-  pub marked : (s : Shape) (t : List ℕ) (a l : ℕ) → linkAnswer s t a l .number ≢ 0 → markedTable s t a l ≡ t
-  pub cleared : (s : Shape) (t : List ℕ) (a l : ℕ) → linkAnswer s t a l .number ≢ 0 → clearedTable s t a l ≡ t
-  -- the calls from C, by what their contracts say is left
-  pub digits : (s : Shape) (a : ℕ) (lent : List ℕ) → digitsAnswer s a .refusal .number ≢ 0 → digitsLeft lent (digitsAnswer s a) ≡ lent
-  pub read : (s : Shape) (a d : ℕ) (bs lent : List ℕ) → readAnswer s a d bs .refusal .number ≢ 0 → readingLeft lent (readAnswer s a d bs) ≡ lent
-  pub write : (s : Shape) (vs lent : List ℕ) → writeAnswer s vs .refusal .number ≢ 0 → writingLeft lent (writeAnswer s vs) ≡ lent
-  pub reversed : (s : Shape) (a d : ℕ) (bs lent : List ℕ) → reverseAnswer s a d bs .refusal .number ≢ 0 → writingLeft lent (reverseAnswer s a d bs) ≡ lent
-  pub build : (s : Shape) (a d : ℕ) (lent : List ℕ) → buildAnswer s a d .refusal .number ≢ 0 → buildingLeft lent (buildAnswer s a d) ≡ lent
+  -- marking and clearing: the table with the link marked, and cleared
+  pub marked : (s : Shape) (t : List ℕ) (a l : ℕ) → Holds (linkAnswer s t a l .number) t (marked a l t) (markedTable s t a l)
+  pub cleared : (s : Shape) (t : List ℕ) (a l : ℕ) → Holds (linkAnswer s t a l .number) t (cleared a l t) (clearedTable s t a l)
+  -- the calls from C, by what their contracts say is left: four digits, nine servers, eight path bytes, four arrays
+  pub digits : (s : Shape) (a : ℕ) (lent : List ℕ) → (let x = digitsAnswer s a in Holds (x .refusal .number) lent (x .places) (digitsLeft lent x))
+  pub read : (s : Shape) (a d : ℕ) (bs lent : List ℕ) → (let x = readAnswer s a d bs in Holds (x .refusal .number) lent (x .servers) (readingLeft lent x))
+  pub write : (s : Shape) (vs lent : List ℕ) → (let x = writeAnswer s vs in Holds (x .refusal .number) lent (x .bytes) (writingLeft lent x))
+  pub reversed : (s : Shape) (a d : ℕ) (bs lent : List ℕ) → (let x = reverseAnswer s a d bs in Holds (x .refusal .number) lent (x .bytes) (writingLeft lent x))
+  pub build : (s : Shape) (a d : ℕ) (lent : List ℕ) → (let x = buildAnswer s a d in Holds (x .refusal .number) lent (x .routes .bytes) (buildingLeft lent x))
   -- w is the word that the call gives back, and the last list what it leaves
-  pub find : (s : Shape) (t : List ℕ) (a d w : ℕ) (lent path : List ℕ) → FoundWord s t a d w lent path → refusalIn w .number ≢ 0 → path ≡ lent
-  pub select : (s : Shape) (t : List ℕ) (a d w : ℕ) (lent routes : List ℕ) → SelectedWord s t a d w lent routes → refusalIn w .number ≢ 0 → routes ≡ lent
+  pub find : (s : Shape) (t : List ℕ) (a d w : ℕ) (lent path : List ℕ) (x : FoundWord s t a d w lent path) → Holds (refusalIn w .number) lent (x .answer .bytes) path
+  pub select : (s : Shape) (t : List ℕ) (a d w : ℕ) (lent routes : List ℕ) (x : SelectedWord s t a d w lent routes) → Holds (refusalIn w .number) lent (x .answer .routes .bytes) routes
 
 -- ---- the words that the calls from C give back
 
