@@ -33,6 +33,7 @@ use Rattle.select.specs.Selection.{Unbroken, Replaces, replaced, Selects, selec
 use Rattle.select.proofs.OneAnswer.{selecting-unique}
 use Rattle.demands.specs.ProvedTable.{array}
 use Rattle.demands.specs.TieRows.{Finds, TieRows}
+use Rattle.demands.proofs.Slots.{broken-gives-way, one-selection}
 use Rattle.demands.proofs.ShortRoutes.{noneBefore, noneShorter, least, free-all, free-parallel}
 
 -- ---- a route by its path bytes, its servers and its switches
@@ -191,4 +192,5 @@ tie-rows =
       lower-value = finds lower-value refl refl;
       from-the-source = finds from-the-source refl refl;
       both-broken = λ r. (λ h. selecting-unique h selecting, λ e. subst (Selecting (shapeOf 4 1) broken 0 7) (sym e) selecting);
+      no-other = λ r h. one-selection (shapeOf 4 1) broken 0 7 r _ h (broken-gives-way (shapeOf 4 1) broken 0 7 _ selecting refl);
     }

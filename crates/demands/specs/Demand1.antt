@@ -268,9 +268,23 @@ pub record EveryBuffer : Type 0 where
 
 -- ---- the words that the calls from C give back
 
--- a driver reads this refusal and this number out of a word
-abbrev pub Tells : ℕ → Refusal → ℕ → Type 0
-Tells w r v = (refusalIn w ≡ r) × (valueIn w ≡ v)
+-- a driver reads this refusal and this number out of a word, and the byte between them is zero
+pub record Tells (w : ℕ) (r : Refusal) (v : ℕ) : Type 0 where
+  pub refusal : refusalIn w ≡ r
+  pub value : valueIn w ≡ v
+  pub between : w / 16777216 % 256 ≡ 0
+
+-- the two numbers of a step. The first, from its lowest byte: the refusal's number, its hop, 1 if delivered, the next index, the next server
+-- in two bytes, the OutPort, and nothing above. The second: the MAC, its first byte highest. The route is 1 where there is a hop.
+pub record TellsStep (p m : ℕ) (x : Step) : Type 0 where
+  pub number : p % 256 ≡ x .refusal .number
+  pub hop : p / 256 % 256 ≡ x .refusal .hop
+  pub delivered : p / 65536 % 256 ≡ cond (x .delivered) 1 0
+  pub index : p / 16777216 % 256 ≡ x .index
+  pub next : p / 4294967296 % 65536 ≡ x .next
+  pub port : p / 281474976710656 ≡ x .port
+  pub mac : m / 1099511627776 ∷ m / 4294967296 % 256 ∷ m / 16777216 % 256 ∷ m / 65536 % 256 ∷ m / 256 % 256 ∷ m % 256 ∷ [] ≡ x .mac
+  pub route : x .refusal .route ≡ cond (eqb (x .refusal .hop) 0) 0 1
 
 -- the word of each call gives back the answer's refusal and number; the two numbers of a step, the whole step
 pub record EveryWord : Type 0 where
@@ -293,7 +307,7 @@ pub record EveryWord : Type 0 where
   pub find : (s : Shape) (t : List ℕ) (a d w : ℕ) (lent path : List ℕ) (x : FoundWord s t a d w lent path) → Tells w (x .answer .refusal) (x .answer .hops)
   pub select : (s : Shape) (t : List ℕ) (a d w : ℕ) (lent routes : List ℕ) (x : SelectedWord s t a d w lent routes) → Tells w (x .answer .refusal) (x .answer .routes .count)
   pub pick : (s : Shape) (t : List ℕ) (a d : ℕ) (fs ks : List ℕ) → (let x = placeAnswer s t a d fs ks in Tells (placeWord x) (x .refusal) (256 * x .list + x .route))
-  pub step : (s : Shape) (a d i : ℕ) (bs e : List ℕ) → Bytes e → (let x = stepAnswer s a d i bs e in unpacked (packed x) (macNumber (x .mac)) ≡ x)
+  pub step : (s : Shape) (a d i : ℕ) (bs e : List ℕ) → Bytes e → (let x = stepAnswer s a d i bs e in TellsStep (packed x) (macNumber (x .mac)) x × (unpacked (packed x) (macNumber (x .mac)) ≡ x))
 
 -- ---- the hop of 8 to 12, the writer's hop, the places of 13, 14 and 15
 

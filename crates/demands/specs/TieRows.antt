@@ -13,6 +13,7 @@ use Rattle.finder.specs.declared.Found.{Found}
 use Rattle.finder.specs.Answers.{Finding}
 use Rattle.select.specs.declared.Selection.{Selection}
 use Rattle.select.specs.Selection.{Selecting}
+use Rattle.demands.specs.Demand2.{Selected}
 use Rattle.demands.specs.ProvedTable.{array}
 
 -- the search from a to d answers these hops and nothing else
@@ -31,3 +32,7 @@ pub record TieRows : Type 0 where
   pub both-broken : (r : Selection)
       → Selecting (shapeOf 4 1) (0 ∷ 2 ∷ 0 ∷ 2 ∷ 1 ∷ 0 ∷ 1 ∷ 0 ∷ 0 ∷ 0 ∷ 0 ∷ 1 ∷ 1 ∷ 0 ∷ 0 ∷ 0 ∷ []) 0 7 r
       ↔ (r ≡ record { refusal = none; routes = setOf (array (0x42 ∷ 0x01 ∷ 0x41 ∷ 0x03 ∷ []) ∷ array (0x02 ∷ 0x43 ∷ 0x03 ∷ 0x41 ∷ []) ∷ []) })
+  -- and the words of demand 2 for it admit no other routes
+  pub no-other : (r : Selection)
+      → Selected (shapeOf 4 1) (0 ∷ 2 ∷ 0 ∷ 2 ∷ 1 ∷ 0 ∷ 1 ∷ 0 ∷ 0 ∷ 0 ∷ 0 ∷ 1 ∷ 1 ∷ 0 ∷ 0 ∷ 0 ∷ []) 0 7 r
+      → r .routes ≡ setOf (array (0x42 ∷ 0x01 ∷ 0x41 ∷ 0x03 ∷ []) ∷ array (0x02 ∷ 0x43 ∷ 0x03 ∷ 0x41 ∷ []) ∷ [])
