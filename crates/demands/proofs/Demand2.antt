@@ -10,7 +10,8 @@ use lib.ListN.{length, getD, take, drop}
 use lib.Seq.{take-take}
 use borrow.Author.Tests.{eq-eqb, ne-eqb, eqb-true}
 use Rattle.room.specs.declared.Shape.{Shape}
-use Rattle.room.specs.Shapes.{Server}
+use Rattle.room.specs.Shapes.{Server, Link}
+use Rattle.room.specs.Addresses.{switchOf}
 use Rattle.room.specs.Refusals.{none, serverRefusal, _or-else_}
 use Rattle.room.proofs.RefusalLaws.{or-else-zero, server-of, answered}
 use Rattle.room.proofs.RoomLaws as rooms
@@ -22,24 +23,35 @@ use Rattle.links.proofs.AnswerLaws.{marked-answered, cleared-answered, mark-aga
 use Rattle.path.specs.declared.Hop.{Hop}
 use Rattle.path.specs.declared.Reading.{Reading}
 use Rattle.path.specs.Lists.{filled}
-use Rattle.path.specs.Routes.{byteOf, byteTo}
+use Rattle.path.specs.Routes.{byteOf, switchTo, byteTo}
 use Rattle.path.specs.Walks.{hopTo, hopRefusal}
 use Rattle.path.specs.Answers.{noHop, aHop, hopAnswer}
 use Rattle.path.proofs.ListLaws.{in-exactly, at-in, take-filled}
-use Rattle.path.proofs.HopLaws.{hop-exactly, hop-server, hop-neighbours, level-only}
+use Rattle.path.proofs.HopLaws.{switch-id, hop-exactly, hop-server, hop-neighbours, level-only}
 use Rattle.path.proofs.CodecLaws as codec
 use Rattle.select.proofs.LayLaws.{eight-bytes}
 use Rattle.select.proofs.SelectLaws as selected
 use Rattle.step.specs.declared.Step.{Step}
 use Rattle.step.specs.Steps.{entry, macAt, portAt, flagAt, stepRefusal, placed, noStep, delivery, forwarded, stepAnswer}
 use Rattle.step.proofs.StepLaws.{placed-number, goes-of}
-use Rattle.demands.specs.Demand2.{BytesExactly, Leads, HopExactly, AmongExactly, RoutesAnswered, ReadExactly, WriteExactly, ReadThenWrite, WriteThenRead, ReverseThenRead, ReverseTwice, NoRouteExactly, FailedExactly, AskedExactly, LiveExactly, Changes, Marking, Clearing, Goes, StepGoes, StepDelivers}
+use Rattle.demands.specs.Demand2.{BytesExactly, HopSwitches, Leads, HopExactly, AmongExactly, RoutesAnswered, ReadExactly, WriteExactly, ReadThenWrite, WriteThenRead, ReverseThenRead, ReverseTwice, NoRouteExactly, FailedExactly, AskedExactly, LiveExactly, Changes, Marking, Clearing, Goes, StepGoes, StepDelivers}
 
 -- ---- servers to bytes and bytes to servers
 
 pub bytes-exactly : BytesExactly
 unfolding byteTo byteOf
 bytes-exactly s a b l h g n = rw (level-only h g n)
+
+pub hop-switches : HopSwitches
+unfolding switchTo
+hop-switches s a b l c e m x y =
+    let h : Link s a l = record { server = x .0; level = x .2 .level } in
+    let g : Link s c m = record { server = y .0; level = y .2 .level } in
+    let i = switch-id h g in
+    rw (level-only (x .0) (x .1) (x .2), level-only (y .0) (y .1) (y .2)) (
+      λ q. let p = i .0 q in (p .0, rooms.switch-same h (y .0) (p .1 ∙ ap (λ (j : ℕ). switchOf s j c) (sym (p .0)))),
+      λ p. i .1 (p .0, rooms.same-switch (x .2 .level) (p .1) ∙ ap (λ (j : ℕ). switchOf s j c) (p .0)),
+    )
 
 hop-leads : {s : Shape} {a : ℕ} → Server s a → (b : ℕ) → hopRefusal s a b ≡ 0 → Leads s a b (hopTo s a b)
 unfolding hopTo

@@ -21,7 +21,7 @@ use Rattle.room.proofs.DigitLaws.{address-padded}
 use Rattle.room.proofs.RefusalLaws.{server-of, pair-of, link-of, value-of, answered}
 use Rattle.room.proofs.RoomLaws as rooms
 use Rattle.room.proofs.AnswerLaws.{digits-answered}
-use Rattle.demands.specs.Demand2.{weighed, AddressesExactly, DigitsExactly, SwitchesExactly, SwitchesNumbered, NeighboursExactly, FourPlaces, TellsLevel, RoomAnswers}
+use Rattle.demands.specs.Demand2.{weighed, AddressesExactly, DigitsExactly, DigitExactly, SwitchesExactly, SwitchesNumbered, NeighboursExactly, FourPlaces, TellsLevel, RoomAnswers}
 
 -- a number read from the top is the sum of its digits times their weights
 weighed-from : (n i : ℕ) (ds : List ℕ) → weighed n i ds ≡ n ^ i * addressOf n ds
@@ -39,6 +39,9 @@ pub digits-exactly : DigitsExactly
 digits-exactly s ds v w =
     let e = weighed-sum (s .n) ds in
     (subst (Server s) (sym e) (rooms.written-server v w), ap (digits s) e ∙ rooms.write-back v w)
+
+pub digit-exactly : DigitExactly
+digit-exactly s a l h = sym (rooms.digit-closed-at h (s .n ^ l) refl)
 
 pub switches-exactly : SwitchesExactly
 switches-exactly s l a b h g = rooms.switch-exactly h g

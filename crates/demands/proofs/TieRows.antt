@@ -32,7 +32,7 @@ use Rattle.select.specs.Avoided.{avoided}
 use Rattle.select.specs.Selection.{Unbroken, Replaces, replaced, Selects, selectRefusal, Selecting}
 use Rattle.select.proofs.OneAnswer.{selecting-unique}
 use Rattle.demands.specs.ProvedTable.{array}
-use Rattle.demands.specs.TieRows.{Finds, TieRows}
+use Rattle.demands.specs.TieRows.{Finds, manyFailed, TieRows}
 use Rattle.demands.proofs.Slots.{broken-gives-way, one-selection}
 use Rattle.demands.proofs.ShortRoutes.{noneBefore, noneShorter, least, free-all, free-parallel}
 
@@ -107,9 +107,6 @@ from-the-source = record { ends = refl; table = refl; eight = refl; walked = ref
 
 -- ---- selection, both built routes broken
 
-abbrev broken : List ℕ
-broken = 0 ∷ 2 ∷ 0 ∷ 2 ∷ 1 ∷ 0 ∷ 1 ∷ 0 ∷ 0 ∷ 0 ∷ 0 ∷ 1 ∷ 1 ∷ 0 ∷ 0 ∷ 0 ∷ []
-
 -- the alternates 42 01 41 03 and 02 43 03 41, by their servers
 abbrev high : List ℕ
 high = 0 ∷ 8 ∷ 9 ∷ 5 ∷ 7 ∷ []
@@ -117,7 +114,7 @@ high = 0 ∷ 8 ∷ 9 ∷ 5 ∷ 7 ∷ []
 abbrev low : List ℕ
 low = 0 ∷ 2 ∷ 14 ∷ 15 ∷ 7 ∷ []
 
-alternates : Row (shapeOf 4 1) broken 0 7 (0x42 ∷ 0x01 ∷ 0x41 ∷ 0x03 ∷ []) high (4096 ∷ 2 ∷ 4097 ∷ 1 ∷ []) × Row (shapeOf 4 1) broken 0 7 (0x02 ∷ 0x43 ∷ 0x03 ∷ 0x41 ∷ []) low (0 ∷ 4098 ∷ 3 ∷ 4099 ∷ [])
+alternates : Row (shapeOf 4 1) manyFailed 0 7 (0x42 ∷ 0x01 ∷ 0x41 ∷ 0x03 ∷ []) high (4096 ∷ 2 ∷ 4097 ∷ 1 ∷ []) × Row (shapeOf 4 1) manyFailed 0 7 (0x02 ∷ 0x43 ∷ 0x03 ∷ 0x41 ∷ []) low (0 ∷ 4098 ∷ 3 ∷ 4099 ∷ [])
 unfolding endsRefusal pairRefusal serverRefusal shapeRefusal serversOf tableRefusal bitsFit bound _or-else_ walk walkFrom fault hopRefusal hopTo withDigit digit digits digitsOf addressOf live failed bit isIn switchAt switchOf ended filled bytesOf inTurn byteTo byteOf levelTo differing differFrom
 alternates = (
   record { ends = refl; table = refl; eight = refl; walked = refl; bytes = refl },
@@ -129,11 +126,11 @@ unfolding builtRoute builtHops metBy plusOne bound withDigit digits digitsOf add
 built = (refl, refl)
 
 -- the second hop of each built route crosses a failed link
-high-broken : Unbroken (shapeOf 4 1) broken (0 ∷ 4 ∷ 7 ∷ []) → ⊥
+high-broken : Unbroken (shapeOf 4 1) manyFailed (0 ∷ 4 ∷ 7 ∷ []) → ⊥
 unfolding live failed bit levelTo differing differFrom digits digitsOf
 high-broken u = let e : false ≡ true = u .alive 1 (omega arith) in let z : _≡_ {A = ℕ} 0 1 = cc in omega arith
 
-low-broken : Unbroken (shapeOf 4 1) broken (0 ∷ 3 ∷ 7 ∷ []) → ⊥
+low-broken : Unbroken (shapeOf 4 1) manyFailed (0 ∷ 3 ∷ 7 ∷ []) → ⊥
 unfolding live failed bit levelTo differing differFrom digits digitsOf
 low-broken u = let e : false ≡ true = u .alive 1 (omega arith) in let z : _≡_ {A = ℕ} 0 1 = cc in omega arith
 
@@ -158,15 +155,15 @@ low-parallel =
       servers = disjoint-apart (middle low) (middle high) refl;
     }
 
-high-given : Replaces (shapeOf 4 1) broken 0 7 ((0 ∷ 3 ∷ 7 ∷ []) ∷ []) high
+high-given : Replaces (shapeOf 4 1) manyFailed 0 7 ((0 ∷ 3 ∷ 7 ∷ []) ∷ []) high
 unfolding serversOf live failed bit isIn switchTo switchAt levelTo byteTo byteOf digit differing differFrom switchOf digits digitsOf addressOf
 high-given = replaces (alternates .0) (0 ∷ 4099 ∷ []) built-switches high-parallel refl refl
 
-low-given : Replaces (shapeOf 4 1) broken 0 7 (high ∷ []) low
+low-given : Replaces (shapeOf 4 1) manyFailed 0 7 (high ∷ []) low
 unfolding serversOf live failed bit isIn switchTo switchAt levelTo byteTo byteOf digit differing differFrom switchOf digits digitsOf addressOf
 low-given = replaces (alternates .1) (4096 ∷ 2 ∷ 4097 ∷ 1 ∷ []) (sound (alternates .0) .1) low-parallel refl refl
 
-slots : Selects (shapeOf 4 1) broken 0 7 2 [] (high ∷ low ∷ [])
+slots : Selects (shapeOf 4 1) manyFailed 0 7 2 [] (high ∷ low ∷ [])
 unfolding avoided
 slots = (
   high ∷ [],
@@ -174,7 +171,7 @@ slots = (
   (low ∷ [], replaced (λ u. low-broken (rw (built .1) at u)) low-given, refl),
 )
 
-selecting : Selecting (shapeOf 4 1) broken 0 7 (record { refusal = none; routes = setOf (array (0x42 ∷ 0x01 ∷ 0x41 ∷ 0x03 ∷ []) ∷ array (0x02 ∷ 0x43 ∷ 0x03 ∷ 0x41 ∷ []) ∷ []) })
+selecting : Selecting (shapeOf 4 1) manyFailed 0 7 (record { refusal = none; routes = setOf (array (0x42 ∷ 0x01 ∷ 0x41 ∷ 0x03 ∷ []) ∷ array (0x02 ∷ 0x43 ∷ 0x03 ∷ 0x41 ∷ []) ∷ []) })
 unfolding selectRefusal endsRefusal pairRefusal serverRefusal shapeRefusal serversOf _or-else_ tableRefusal bitsFit encode inTurn byteTo byteOf levelTo digit differing differFrom digits digitsOf filled
 selecting =
     record {
@@ -191,6 +188,6 @@ tie-rows =
       level-then-value = finds level-then-value refl refl;
       lower-value = finds lower-value refl refl;
       from-the-source = finds from-the-source refl refl;
-      both-broken = λ r. (λ h. selecting-unique h selecting, λ e. subst (Selecting (shapeOf 4 1) broken 0 7) (sym e) selecting);
-      no-other = λ r h. one-selection (shapeOf 4 1) broken 0 7 r _ h (broken-gives-way (shapeOf 4 1) broken 0 7 _ selecting refl);
+      both-broken = λ r. (λ h. selecting-unique h selecting, λ e. subst (Selecting (shapeOf 4 1) manyFailed 0 7) (sym e) selecting);
+      no-other = λ r h. one-selection (shapeOf 4 1) manyFailed 0 7 r _ h (broken-gives-way (shapeOf 4 1) manyFailed 0 7 _ selecting refl);
     }

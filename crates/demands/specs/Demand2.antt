@@ -18,7 +18,7 @@ use Rattle.room.specs.Answers.{serversAnswer, boundAnswer, digitsAnswer, digitA
 use Rattle.links.specs.Table.{failed, live, TableOf}
 use Rattle.links.specs.Answers.{failedAnswer, linkAnswer, markedTable, clearedTable}
 use Rattle.path.specs.Lists.{isIn, filled}
-use Rattle.path.specs.Routes.{byteTo, switchesOf, encode, Route, RouteTo, Encodes}
+use Rattle.path.specs.Routes.{switchTo, byteTo, switchesOf, encode, Route, RouteTo, Encodes}
 use Rattle.path.specs.Answers.{hopAnswer, walkAnswer, readAnswer, writeAnswer, reverseAnswer}
 use Rattle.verdict.specs.Checks.{checkAnswer}
 use Rattle.build.specs.declared.RouteSet.{RouteSet}
@@ -48,6 +48,10 @@ AddressesExactly = (s : Shape) (a : ℕ) → Server s a → Written s (digits s 
 abbrev pub DigitsExactly : Type 0
 DigitsExactly =
     (s : Shape) (ds : List ℕ) → Valid s → Written s ds → Server s (weighed (s .n) 0 ds) × (digits s (weighed (s .n) 0 ds) ≡ ds)
+
+-- digit l of a server counts its n^l
+abbrev pub DigitExactly : Type 0
+DigitExactly = (s : Shape) (a l : ℕ) → Link s a l → digit s l a ≡ a / s .n ^ l % s .n
 
 -- two servers have the same switch at a level exactly when they agree in every other digit
 abbrev pub SwitchesExactly : Type 0
@@ -152,6 +156,15 @@ BuiltExactly = (s : Shape) (a d : ℕ) → buildAnswer s a d .refusal .number �
 abbrev pub BytesExactly : Type 0
 BytesExactly = (s : Shape) (a b l : ℕ) → Server s a → Server s b → Neighbours s l a b → byteTo s a b ≡ 64 * l + digit s l b
 
+-- two hops, from a to b at level l and from c to e at level m, use one switch exactly when they are at one level and a and c agree in every
+-- other digit
+abbrev pub HopSwitches : Type 0
+HopSwitches =
+    (s : Shape) (a b l c e m : ℕ) →
+    Server s a × Server s b × Neighbours s l a b →
+    Server s c × Server s e × Neighbours s m c e →
+    (switchTo s a b ≡ switchTo s c e) ↔ ((l ≡ m) × Beside s l a c)
+
 -- byte b leads from server a to the neighbour at the byte's level whose digit there is the byte's value
 pub record Leads (s : Shape) (a b next : ℕ) : Type 0 where
   pub server : Server s next
@@ -167,7 +180,8 @@ abbrev pub AmongExactly : Type 0
 AmongExactly = (x : ℕ) (xs : List ℕ) → (isIn x xs ≡ true) ↔ ((i : ℕ) × (i < length xs) × (getD xs i 0 ≡ x))
 
 -- what is answered for the path bytes bs of a route from a to d that meets the servers vs: walking over the live links of a table, the
--- servers and the switches, with zeros past them; reading, the servers; reversal, the path bytes of the servers backwards
+-- servers and the switches, with zeros past them; reading, the servers; reversal, the path bytes of the servers backwards; writing the servers,
+-- the bytes
 pub record Answered (s : Shape) (a d : ℕ) (bs vs : List ℕ) : Type 0 where
   pub walked : (t : List ℕ) → RouteTo s t a d vs → walkAnswer s t a d bs ≡ record { refusal = none; count = length vs; servers = filled 9 vs; switches = filled 8 (switchesOf s vs) }
   pub read : readAnswer s a d bs ≡ record { refusal = none; count = length vs; servers = filled 9 vs }

@@ -20,6 +20,10 @@ use Rattle.demands.specs.ProvedTable.{array}
 abbrev pub Finds : Shape → List ℕ → ℕ → ℕ → List ℕ → Type 0
 Finds s t a d bs = (r : Found) → Finding s t a d r ↔ (r ≡ record { refusal = none; hops = length bs; bytes = array bs })
 
+-- a failed-link table of the (4,1) room: 01 and 03 have no link at level 1, 10, 12, 23 and 30 none at level 0
+abbrev pub manyFailed : List ℕ
+manyFailed = 0 ∷ 2 ∷ 0 ∷ 2 ∷ 1 ∷ 0 ∷ 1 ∷ 0 ∷ 0 ∷ 0 ∷ 0 ∷ 1 ∷ 1 ∷ 0 ∷ 0 ∷ 0 ∷ []
+
 pub record TieRows : Type 0 where
   -- (3,1), no link failed, 00 to 21: 42 01, where the lower level or the lower value first would be 01 42
   pub level-then-value : Finds (shapeOf 3 1) (replicate 9 0) 0 7 (0x42 ∷ 0x01 ∷ [])
@@ -30,9 +34,9 @@ pub record TieRows : Type 0 where
   pub from-the-source : Finds (shapeOf 2 2) (0 ∷ 0 ∷ 0 ∷ 0 ∷ 0 ∷ 0 ∷ 2 ∷ 0 ∷ []) 0 7 (0x81 ∷ 0x01 ∷ 0x41 ∷ [])
   -- (4,1), 00 to 13, both built routes broken, each of which gives way to its own alternate: 42 01 41 03, then 02 43 03 41
   pub both-broken : (r : Selection)
-      → Selecting (shapeOf 4 1) (0 ∷ 2 ∷ 0 ∷ 2 ∷ 1 ∷ 0 ∷ 1 ∷ 0 ∷ 0 ∷ 0 ∷ 0 ∷ 1 ∷ 1 ∷ 0 ∷ 0 ∷ 0 ∷ []) 0 7 r
+      → Selecting (shapeOf 4 1) manyFailed 0 7 r
       ↔ (r ≡ record { refusal = none; routes = setOf (array (0x42 ∷ 0x01 ∷ 0x41 ∷ 0x03 ∷ []) ∷ array (0x02 ∷ 0x43 ∷ 0x03 ∷ 0x41 ∷ []) ∷ []) })
   -- and the words of demand 2 for it admit no other routes
   pub no-other : (r : Selection)
-      → Selected (shapeOf 4 1) (0 ∷ 2 ∷ 0 ∷ 2 ∷ 1 ∷ 0 ∷ 1 ∷ 0 ∷ 0 ∷ 0 ∷ 0 ∷ 1 ∷ 1 ∷ 0 ∷ 0 ∷ 0 ∷ []) 0 7 r
+      → Selected (shapeOf 4 1) manyFailed 0 7 r
       → r .routes ≡ setOf (array (0x42 ∷ 0x01 ∷ 0x41 ∷ 0x03 ∷ []) ∷ array (0x02 ∷ 0x43 ∷ 0x03 ∷ 0x41 ∷ []) ∷ [])
