@@ -21,7 +21,7 @@ use Rattle.driver.proofs.RoomSmall.{servers-small, bound-small, digit-small, ad
 use Rattle.driver.proofs.PathSmall.{read-small, reverse-small, write-small, check-small}
 use Rattle.driver.proofs.RouteSmall.{build-small, find-small, select-small}
 use Rattle.driver.proofs.PickSmall.{pick-small}
-use Rattle.demands.specs.Demand1.{Holds, EveryBuffer, Tells, TellsStep, EveryWord}
+use Rattle.demands.specs.Buffers.{Holds, EveryBuffer, Tells, TellsStep, EveryWord}
 
 -- ---- the words
 
