@@ -1,0 +1,2 @@
+pub mod Clash
+pub mod Room

@@ -1,0 +1,28 @@
+-- What the wrong answers are given to: tables and path bytes.
+use Prim.Native.Nat.{ℕ}
+use mathlib.Core.List.{List, [], _∷_}
+use lib.ListN.{replicate, set}
+use Rattle.path.specs.Lists.{filled}
+
+-- an array: path bytes, with zeros past them
+abbrev pub array : List ℕ → List ℕ
+array bs = filled 8 bs
+
+-- the failed-link table of the (4,1) room, its 16 servers all live
+abbrev pub healthy : List ℕ
+healthy = replicate 16 0
+
+-- the same with the byte b for server a: 1 where its level-0 link is failed, 2 where its level-1 link is, 3 where it is dead
+abbrev pub failing : ℕ → ℕ → List ℕ
+failing a b = set healthy a b
+
+-- eight hops of the (4,1) room from 00, by 01, 11, 12, 22, 23, 33 and 30 to 20, over all its eight switches
+abbrev pub eightHops : List ℕ
+eightHops = 0x01 ∷ 0x41 ∷ 0x02 ∷ 0x42 ∷ 0x03 ∷ 0x43 ∷ 0x00 ∷ 0x42 ∷ []
+
+-- the built routes from 00 to 13 in the (4,1) room: of slot 1, by server 10, and of slot 0, by server 03
+abbrev pub direct : List ℕ
+direct = array (0x41 ∷ 0x03 ∷ [])
+
+abbrev pub other : List ℕ
+other = array (0x03 ∷ 0x41 ∷ [])

@@ -1,0 +1,3 @@
+pub mod Never
+pub mod Examples
+pub mod Room
