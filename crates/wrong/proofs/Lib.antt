@@ -1,2 +1,3 @@
 pub mod Clash
 pub mod Room
+pub mod Links

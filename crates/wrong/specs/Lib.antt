@@ -1,3 +1,4 @@
 pub mod Never
 pub mod Examples
 pub mod Room
+pub mod Links
