@@ -1,3 +1,4 @@
 pub mod Clash
 pub mod Room
 pub mod Links
+pub mod Path

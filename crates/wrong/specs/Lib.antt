@@ -2,3 +2,4 @@ pub mod Never
 pub mod Examples
 pub mod Room
 pub mod Links
+pub mod Path
