@@ -2,3 +2,4 @@ pub mod Clash
 pub mod Room
 pub mod Links
 pub mod Path
+pub mod Verdict

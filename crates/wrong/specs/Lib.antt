@@ -3,3 +3,4 @@ pub mod Examples
 pub mod Room
 pub mod Links
 pub mod Path
+pub mod Verdict
