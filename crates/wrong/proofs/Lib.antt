@@ -3,3 +3,4 @@ pub mod Room
 pub mod Links
 pub mod Path
 pub mod Verdict
+pub mod Build
