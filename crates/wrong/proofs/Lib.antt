@@ -4,3 +4,4 @@ pub mod Links
 pub mod Path
 pub mod Verdict
 pub mod Build
+pub mod Pick

@@ -1,6 +1,8 @@
--- What the wrong answers are given to: tables and path bytes.
-use Prim.Native.Nat.{ℕ}
-use mathlib.Core.List.{List, [], _∷_}
+-- What the wrong answers are given to: tables, path bytes, texts.
+use Prim.Native.Nat.{ℕ, _*_, _-_}
+use Prim.Native.Char.{code}
+use Prim.Native.String.{String, [] as empty, _∷_ as _then_}
+use mathlib.Core.List.{List, [], _∷_, _++_}
 use lib.ListN.{replicate, set}
 use Rattle.path.specs.Lists.{filled}
 
@@ -26,3 +28,15 @@ direct = array (0x41 ∷ 0x03 ∷ [])
 
 abbrev pub other : List ℕ
 other = array (0x03 ∷ 0x41 ∷ [])
+
+-- a MAC, and the neighbour table whose one entry, of path byte b, has it, OutPort 7 and this StatusFlag
+abbrev pub mac : List ℕ
+mac = 0x02 ∷ 0x00 ∷ 0x5e ∷ 0x10 ∷ 0x00 ∷ 0x04 ∷ []
+
+abbrev pub neighbour : ℕ → ℕ → List ℕ
+neighbour b flag = replicate (8 * b) 0 ++ mac ++ (7 ∷ flag ∷ []) ++ replicate (8 * (255 - b)) 0
+
+-- a text by its characters' numbers, which are its bytes in ASCII
+abbrev pub ascii : String → List ℕ
+ascii empty = []
+ascii (c then cs) = code c ∷ ascii cs
