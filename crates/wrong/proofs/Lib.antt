@@ -5,3 +5,4 @@ pub mod Path
 pub mod Verdict
 pub mod Build
 pub mod Pick
+pub mod Step
