@@ -6,3 +6,4 @@ pub mod Verdict
 pub mod Build
 pub mod Pick
 pub mod Step
+pub mod DeskLine
