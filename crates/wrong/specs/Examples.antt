@@ -40,3 +40,8 @@ neighbour b flag = replicate (8 * b) 0 ++ mac ++ (7 ∷ flag ∷ []) ++ replicat
 abbrev pub ascii : String → List ℕ
 ascii empty = []
 ascii (c then cs) = code c ∷ ascii cs
+
+-- the table of the (2,2) room in which the level-1 link of server 001 is failed: of the routes of three hops from 000 to 111, first is
+-- 81 41 01 by the rule, 01 81 41 with the lower level first, and 41 01 81 by the last hop first
+abbrev pub tied : List ℕ
+tied = 0 ∷ 2 ∷ 0 ∷ 0 ∷ 0 ∷ 0 ∷ 0 ∷ 0 ∷ []

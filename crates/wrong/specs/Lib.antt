@@ -5,6 +5,7 @@ pub mod Links
 pub mod Path
 pub mod Verdict
 pub mod Build
+pub mod Finder
 pub mod Pick
 pub mod Step
 pub mod DeskLine
