@@ -6,6 +6,7 @@ pub mod Path
 pub mod Verdict
 pub mod Build
 pub mod Finder
+pub mod Select
 pub mod Pick
 pub mod Step
 pub mod DeskLine
