@@ -1,9 +1,10 @@
 -- Wrong answers of `finder`, refuted: a route comes before the answer, or the answer is no route.
-use Prim.Native.Nat.{ℕ, _-_, _<_}
+use Prim.Native.Nat.{ℕ, _-_, _≤_, _<_}
 use mathlib.Core.Path.{_≡_, refl, sym, ap, _∙_, subst}
 use mathlib.Core.Logic.{inl, inr}
 use mathlib.Core.List.{List, [], _∷_}
 use native.Mathlib.Omega.{arith}
+use native.Mathlib.Decide.{ℕ-discrete}
 use lib.ListN.{length}
 use Rattle.room.specs.declared.Shape.{Shape}
 use Rattle.room.specs.Shapes.{serversOf, bound}
@@ -32,16 +33,31 @@ module _ {s : Shape} {t : List ℕ} {a d : ℕ} {r : Found} (taken : findRefusal
   bytes = ap (λ (x : Found). x .bytes) (given .answer)
 
   -- the answer is a route
-  no-route : {q i : ℕ} → walk s t a d (r .bytes) ≡ stopped q i → ⊥
+  pub no-route : {q i : ℕ} → walk s t a d (r .bytes) ≡ stopped q i → ⊥
   no-route w = never-stops (given .alternate .route) bytes w
 
   -- no route comes before it
-  beaten : {us ws vs xs : List ℕ} → walk s t a d (r .bytes) ≡ arrived us ws → Walks s t a d vs xs → Before s vs us → ⊥
+  pub beaten : {us ws vs xs : List ℕ} → walk s t a d (r .bytes) ≡ arrived us ws → Walks s t a d vs xs → Before s vs us → ⊥
   beaten {us} {ws} {vs} w k b = given .alternate .first vs (k .route) (subst (Before s vs) (sym (same-route (given .alternate .route) bytes w)) b)
+
+  -- nor has one fewer hops
+  pub fewest : {vs xs : List ℕ} → Walks s t a d vs xs → length vs ≤ r .hops → ⊥
+  fewest {vs} k l =
+      let e : r .hops ≡ length (given .servers) - 1 = ap (λ (x : Found). x .hops) (given .answer) in
+      given .alternate .first vs (k .route) (inl (omega arith))
+
+  -- nothing is refused
+  pub no-refusal : r .refusal .number ≡ 0
+  no-refusal = ap (λ (x : Found). x .refusal .number) (given .answer)
 
   -- its hops are those of the route
   miscounted : {us ws : List ℕ} → walk s t a d (r .bytes) ≡ arrived us ws → r .hops ≡ length us - 1
   miscounted w = ap (λ (x : Found). x .hops) (given .answer) ∙ ap (λ (x : List ℕ). length x - 1) (same-route (given .alternate .route) bytes w)
+
+-- where there is a route, the answer has hops
+pub some-hops : {s : Shape} {t : List ℕ} {a d : ℕ} {r : Found} {vs xs : List ℕ} → findRefusal s t a d ≡ 0 → Walks s t a d vs xs → Finding s t a d r → 0 < r .hops
+some-hops {r = r} {vs} e k h =
+    elim (ℕ-discrete (r .hops) 0) [ yes z ↦ absurd (h .none e z .1 vs (k .route)) | no n ↦ omega arith ]
 
 pub wrong-finder : (o : Loan) → Finder o
 unfolding serversOf bound digitsOf addressOf differFrom digits digit withDigit switchOf differing _or-else_ shapeRefusal serverRefusal pairRefusal bit failed live bitsFit tableRefusal isIn inTurn filled byteOf switchAt levelTo byteTo hopTo hopRefusal fault ended walkFrom walk endsRefusal bytesOf findRefusal

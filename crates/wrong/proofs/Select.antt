@@ -1,8 +1,7 @@
 -- Wrong answers of `select`, refuted: checking does not take the answer, or a slot gives something else.
-use Prim.Native.Nat.{ℕ, zero, suc, _<_, suc-le-suc, zero-le}
+use Prim.Native.Nat.{ℕ, zero, suc, _<_}
 use mathlib.Core.Path.{_≡_, refl, sym, ap, _∙_, subst}
 use mathlib.Core.Logic.{inl, inr}
-use mathlib.Core.Bool.{true, false}
 use mathlib.Core.List.{List, [], _∷_, _++_}
 use native.Mathlib.Omega.{arith}
 use lib.ListN.{length, getD}
@@ -30,7 +29,7 @@ use Rattle.select.proofs.OneAnswer.{slot-unique}
 use Rattle.select.proofs.SelectLaws.{Gives, gives, selection-checked, sixteen-exactly, built-kept}
 use Rattle.wrong.specs.Never.{Loan}
 use Rattle.wrong.specs.Examples.{array, failing, direct}
-use Rattle.wrong.specs.Select.{selecting, Select}
+use Rattle.wrong.specs.Select.{Select}
 use Rattle.wrong.proofs.Clash.{differ, bit as truth}
 use Rattle.wrong.proofs.Routes.{Walks, walks, parallel-walks, same-route}
 
@@ -74,7 +73,7 @@ after {t} {a} {d} h n u =
 
 -- ---- 00 to 13 of (4,1) with server 03 dead
 
-straight : Walks (shapeOf 4 1) (failing 3 3) 0 7 (0 ∷ 4 ∷ 7 ∷ []) (4096 ∷ 1 ∷ [])
+pub straight : Walks (shapeOf 4 1) (failing 3 3) 0 7 (0 ∷ 4 ∷ 7 ∷ []) (4096 ∷ 1 ∷ [])
 unfolding serversOf bound digitsOf addressOf digits digit withDigit switchOf _or-else_ shapeRefusal serverRefusal pairRefusal bit failed live isIn filled switchAt hopTo hopRefusal fault ended walkFrom walk endsRefusal
 straight = walks direct _ _ refl refl refl
 
@@ -103,7 +102,7 @@ avoids = record { each = each }
 
 module _ {r : Selection} (h : Selecting (shapeOf 4 1) (failing 3 3) 0 7 r) (n : r .refusal .number ≡ 0) where
   -- slot 0 gives a route
-  one-route : r .routes .count ≡ 1 → ⊥
+  pub one-route : r .routes .count ≡ 1 → ⊥
   one-route c = let k = after h n unbroken in go (k .0) (k .1)
     where
       go : (g : List (List ℕ)) → After (failing 3 3) 0 7 (given h n .routes) g → ⊥
@@ -121,8 +120,16 @@ module _ {r : Selection} (h : Selecting (shapeOf 4 1) (failing 3 3) 0 7 r) (n : 
           beaten (k .0) broken (around .route) avoids (subst (Before (shapeOf 4 1) (0 ∷ 1 ∷ 9 ∷ 11 ∷ 7 ∷ [])) q b)
       go (v ∷ x ∷ g) k = omega (arith, counted h n, ap length (k .1))
 
+-- slot 1 keeps its route, which comes first
+pub slot-1-first : {r : Selection} → Selecting (shapeOf 4 1) (failing 3 3) 0 7 r → (r .refusal .number ≡ 0) × (arrayAt 0 (r .routes) ≡ direct)
+unfolding serversOf bound digitsOf digits _or-else_ shapeRefusal serverRefusal pairRefusal bitsFit tableRefusal endsRefusal selectRefusal filled byteOf plusOne builtHops builtBytesOf builtBytes
+slot-1-first {r} h =
+    let k = built-kept (shapeOf 4 1) (failing 3 3) 0 7 r refl h 1 (omega arith) unbroken in
+    let z : 0 ≡ k .1 .place = omega (arith, k .1 .few-higher) in
+    (ap (λ (y : Refusal). y .number) (k .0), ap (λ (i : ℕ). arrayAt i (r .routes)) z ∙ k .1 .there)
+
 pub wrong-select : (o : Loan) → Select o
-unfolding serversOf bound digitsOf addressOf differFrom digits digit withDigit switchOf differing _or-else_ shapeRefusal serverRefusal pairRefusal bit failed live bitsFit tableRefusal isIn inTurn middle filled byteOf switchAt levelTo byteTo hopTo hopRefusal fault ended walkFrom walk endsRefusal arrayRefusal walkAnswer arrays disjoint switchesIn between parallel firstStop firstMeeting firstOf firstPair roomRefusal listRefusal walksOf checkAnswer joined setOf arrayAt bytesOf selectRefusal plusOne builtHops builtBytesOf builtBytes
+unfolding serversOf bound digitsOf addressOf differFrom digits digit withDigit switchOf differing _or-else_ shapeRefusal serverRefusal pairRefusal bit failed live bitsFit tableRefusal isIn inTurn middle filled byteOf switchAt levelTo byteTo hopTo hopRefusal fault ended walkFrom walk endsRefusal arrayRefusal walkAnswer arrays disjoint switchesIn between parallel firstStop firstMeeting firstOf firstPair roomRefusal listRefusal walksOf checkAnswer joined setOf arrayAt bytesOf selectRefusal
 wrong-select o =
     record {
       broken-kept = λ κ x h. differ (λ (y : Refusal). y .number) refl (selection-checked _ _ _ _ _ h refl);
@@ -130,14 +137,8 @@ wrong-select o =
       higher-value-first = λ κ x h. not-first h refl refl refl (inr (refl, inl (inr (refl, omega arith))));
       settled-not-avoided = λ κ x h. differ (λ (y : Refusal). y .number) refl (selection-checked _ _ _ _ _ h refl);
       switches-not-avoided = λ κ x h. differ (λ (y : Refusal). y .number) refl (selection-checked _ _ _ _ _ h refl);
-      lower-slots-first = λ κ x h. at-once h;
+      lower-slots-first = λ κ x h. differ (λ (y : List ℕ). getD y 0 0) refl (slot-1-first h .1);
       sixteen-with-a-route = λ κ x h. sixteen-exactly _ _ _ _ _ refl h .0 refl _ (straight .route);
       sixteen-not-told = λ κ x h. differ (λ (y : Refusal). y .number) refl (selection-checked _ _ _ _ _ h refl);
       not-closed-up = λ κ x h. differ (λ (y : Refusal). y .number) refl (selection-checked _ _ _ _ _ h refl);
     }
-  where
-    at-once : Selecting (shapeOf 4 1) (failing 3 3) 0 7 (selecting (array (0x01 ∷ 0x42 ∷ 0x03 ∷ 0x41 ∷ []) ∷ direct ∷ [])) → ⊥
-    at-once h =
-        let k = built-kept (shapeOf 4 1) (failing 3 3) 0 7 _ refl h 1 (omega arith) unbroken .1 in
-        let z : k .place ≡ 0 = omega (arith, k .few-higher) in
-        differ (λ (y : List ℕ). getD y 0 0) refl (ap (λ (i : ℕ). arrayAt i (setOf (array (0x01 ∷ 0x42 ∷ 0x03 ∷ 0x41 ∷ []) ∷ direct ∷ []))) (sym z) ∙ k .there)

@@ -45,3 +45,7 @@ ascii (c then cs) = code c ∷ ascii cs
 -- 81 41 01 by the rule, 01 81 41 with the lower level first, and 41 01 81 by the last hop first
 abbrev pub tied : List ℕ
 tied = 0 ∷ 2 ∷ 0 ∷ 0 ∷ 0 ∷ 0 ∷ 0 ∷ 0 ∷ []
+
+-- what m places of a lent buffer hold before the call
+abbrev pub stale : ℕ → List ℕ
+stale m = replicate m 0xee

@@ -10,3 +10,4 @@ pub mod Select
 pub mod Pick
 pub mod Step
 pub mod DeskLine
+pub mod Driver

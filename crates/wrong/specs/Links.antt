@@ -37,8 +37,8 @@ pub record Links (o : Loan) : Type 0 where
   -- ---- clear_link
   -- level k + 1 cleared
   pub cleared-above-k : Never clear-link.Post (shapeOf 4 1 & o lends healthy & 3 & 2 & tt) none
-  -- a link that is not marked refused as a level above k is
-  pub unmarked-refused : Never clear-link.Post (shapeOf 4 1 & o lends healthy & 3 & 1 & tt) (plain 20)
+  -- 20 tested before 4: level 2 of server 16
+  pub level-before-address : Never clear-link.Post (shapeOf 4 1 & o lends healthy & 16 & 2 & tt) (plain 20)
   -- nothing cleared
   pub clears-nothing : NeverLeaves clear-link.Post (shapeOf 4 1 & o lends failing 3 3 & 3 & 0 & tt) second (failing 3 3)
   -- all links of the server cleared

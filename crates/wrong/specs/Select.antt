@@ -8,7 +8,7 @@ use Rattle.select.specs.declared.Selection.{Selection}
 use Rattle.select.specs.Selection.{noSelection}
 use Rattle.select.proofs.select_routes.Reads as select-routes
 use Rattle.wrong.specs.Never.{Never, Loan, _&_, _lends_}
-use Rattle.wrong.specs.Examples.{array, healthy, failing, direct, other}
+use Rattle.wrong.specs.Examples.{array, failing, direct, other}
 
 -- these arrays in their order
 abbrev pub selecting : List (List ℕ) → Selection
