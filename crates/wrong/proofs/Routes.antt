@@ -26,9 +26,9 @@ walks {s} {t} {a} {d} bs vs ws r l e =
     let z = read-sound t bs vs ws (ends .source) (ends .differ) l e in
     record { route = z .0; switches = z .1 }
 
--- two such that share nothing are parallel
-pub parallel-walks : {s : Shape} {t : List ℕ} {a d : ℕ} {us ws vs xs : List ℕ} → Walks s t a d us ws → Walks s t a d vs xs → disjoint ws xs ≡ true → disjoint (middle us) (middle vs) ≡ true → Parallel s us vs
-parallel-walks {s} {t} {a} {d} {us} {ws} {vs} {xs} h k e f =
+-- two such that share nothing are parallel, each over a table of its own
+pub parallel-walks : {s : Shape} {t u : List ℕ} {a d : ℕ} {us ws vs xs : List ℕ} → Walks s t a d us ws → Walks s u a d vs xs → disjoint ws xs ≡ true → disjoint (middle us) (middle vs) ≡ true → Parallel s us vs
+parallel-walks {us = us} {ws} {vs} {xs} h k e f =
     record { switches = rw (← h .switches, ← k .switches) (disjoint-apart ws xs e); servers = disjoint-apart (middle us) (middle vs) f }
 
 module _ {s : Shape} {t : List ℕ} {a d : ℕ} {bs vs : List ℕ} (r : RouteTo s t a d vs) (e : bs ≡ encode s vs) where

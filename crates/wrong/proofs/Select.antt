@@ -28,7 +28,7 @@ use Rattle.select.proofs.LayLaws.{route-array, set-count}
 use Rattle.select.proofs.OneAnswer.{slot-unique}
 use Rattle.select.proofs.SelectLaws.{Gives, gives, selection-checked, sixteen-exactly, built-kept}
 use Rattle.wrong.specs.Never.{Loan}
-use Rattle.wrong.specs.Examples.{array, failing, direct}
+use Rattle.wrong.specs.Examples.{array, failing, bothBroken, direct, other}
 use Rattle.wrong.specs.Select.{Select}
 use Rattle.wrong.proofs.Clash.{differ, bit as truth}
 use Rattle.wrong.proofs.Routes.{Walks, walks, parallel-walks, same-route}
@@ -43,6 +43,14 @@ beaten {us} (replaced b k) c r f o = k .first us r f o
 -- and a slot gives nothing only where there is none
 denied : {s : Shape} {t : List ℕ} {a d i : ℕ} {settled : List (List ℕ)} {us : List ℕ} → Slot s t a d i settled [] → RouteTo s t a d us → Avoids s (avoided s a d i settled) us → ⊥
 denied {us} (nothing b k) r f = k us r f
+
+-- one route is avoided where the other is parallel to it
+avoids-one : {s : Shape} {us vs : List ℕ} → Parallel s us vs → Avoids s (vs ∷ []) us
+avoids-one {s} {us} {vs} p = record { each = each }
+  where
+    each : (i : ℕ) → i < 1 → Parallel s us (getD (vs ∷ []) i [])
+    each zero q = p
+    each (suc i) q = let z : ⊥ = omega arith in absurd z
 
 -- ---- answers
 
@@ -94,11 +102,7 @@ broken u = differ truth refl (u .alive 0 (omega arith))
 
 avoids : Avoids (shapeOf 4 1) (avoided (shapeOf 4 1) 0 7 0 (builtRoute (shapeOf 4 1) 1 0 7 ∷ [])) (0 ∷ 1 ∷ 9 ∷ 11 ∷ 7 ∷ [])
 unfolding avoided disjoint isIn middle
-avoids = record { each = each }
-  where
-    each : (i : ℕ) → i < 1 → Parallel (shapeOf 4 1) (0 ∷ 1 ∷ 9 ∷ 11 ∷ 7 ∷ []) (getD (builtRoute (shapeOf 4 1) 1 0 7 ∷ []) i [])
-    each zero p = rw (built .0) (parallel-walks around straight refl refl)
-    each (suc i) p = let z : ⊥ = omega arith in absurd z
+avoids = rw (built .0) (avoids-one (parallel-walks around straight refl refl))
 
 module _ {r : Selection} (h : Selecting (shapeOf 4 1) (failing 3 3) 0 7 r) (n : r .refusal .number ≡ 0) where
   -- slot 0 gives a route
@@ -128,12 +132,41 @@ slot-1-first {r} h =
     let z : 0 ≡ k .1 .place = omega (arith, k .1 .few-higher) in
     (ap (λ (y : Refusal). y .number) (k .0), ap (λ (i : ℕ). arrayAt i (r .routes)) z ∙ k .1 .there)
 
+-- ---- 00 to 13 of (4,1) where both built routes are broken
+
+-- the alternates of slot 1 and of slot 0, and the built route of slot 0
+detours : Walks (shapeOf 4 1) bothBroken 0 7 (0 ∷ 8 ∷ 9 ∷ 5 ∷ 7 ∷ []) (4096 ∷ 2 ∷ 4097 ∷ 1 ∷ []) × Walks (shapeOf 4 1) bothBroken 0 7 (0 ∷ 2 ∷ 14 ∷ 15 ∷ 7 ∷ []) (0 ∷ 4098 ∷ 3 ∷ 4099 ∷ []) × Walks (shapeOf 4 1) [] 0 7 (0 ∷ 3 ∷ 7 ∷ []) (0 ∷ 4099 ∷ [])
+unfolding serversOf bound digitsOf addressOf digits digit withDigit switchOf _or-else_ shapeRefusal serverRefusal pairRefusal bit failed live isIn filled switchAt hopTo hopRefusal fault ended walkFrom walk endsRefusal
+detours = (
+  walks (array (0x42 ∷ 0x01 ∷ 0x41 ∷ 0x03 ∷ [])) _ _ refl refl refl,
+  walks (array (0x02 ∷ 0x43 ∷ 0x03 ∷ 0x41 ∷ [])) _ _ refl refl refl,
+  walks other _ _ refl refl refl,
+)
+
+-- each slot gives a route
+two-routes : {r : Selection} (h : Selecting (shapeOf 4 1) bothBroken 0 7 r) (n : r .refusal .number ≡ 0) {ws : List ℕ} → r .routes .count ≡ 1 → walk (shapeOf 4 1) bothBroken 0 7 (arrayAt 0 (r .routes)) ≡ arrived (0 ∷ 8 ∷ 9 ∷ 5 ∷ 7 ∷ []) ws → ⊥
+unfolding avoided disjoint isIn middle
+two-routes h n c w = let k = given h n .slots in go (k .0) (k .2 .0) (k .1) (k .2 .1) (k .2 .2)
+  where
+    go : (g f : List (List ℕ)) → Slot (shapeOf 4 1) bothBroken 0 7 1 [] g → Slot (shapeOf 4 1) bothBroken 0 7 0 g f → g ++ f ≡ given h n .routes → ⊥
+    go [] f k m e =
+        denied k (detours .0 .route) (rw (built .1) (avoids-one (parallel-walks (detours .0) (detours .2) refl refl)))
+    go (v ∷ []) [] k m e =
+        let q : 0 ∷ 8 ∷ 9 ∷ 5 ∷ 7 ∷ [] ≡ v = sym (route-at h n 0 (omega arith) w) ∙ ap (λ (x : List (List ℕ)). getD x 0 []) (sym e) in
+        denied m (detours .1 .route)
+        (avoids-one (subst (Parallel (shapeOf 4 1) (0 ∷ 2 ∷ 14 ∷ 15 ∷ 7 ∷ [])) q (parallel-walks (detours .1) (detours .0) refl refl)))
+    go (v ∷ []) (x ∷ f) k m e = omega (arith, counted h n, ap length e)
+    go (v ∷ x ∷ g) f k m e = omega (arith, counted h n, ap length e)
+
+-- ---- all of them
+
 pub wrong-select : (o : Loan) → Select o
 unfolding serversOf bound digitsOf addressOf differFrom digits digit withDigit switchOf differing _or-else_ shapeRefusal serverRefusal pairRefusal bit failed live bitsFit tableRefusal isIn inTurn middle filled byteOf switchAt levelTo byteTo hopTo hopRefusal fault ended walkFrom walk endsRefusal arrayRefusal walkAnswer arrays disjoint switchesIn between parallel firstStop firstMeeting firstOf firstPair roomRefusal listRefusal walksOf checkAnswer joined setOf arrayAt bytesOf selectRefusal
 wrong-select o =
     record {
       broken-kept = λ κ x h. differ (λ (y : Refusal). y .number) refl (selection-checked _ _ _ _ _ h refl);
       alternate-denied = λ κ x h. one-route h refl refl;
+      second-alternate-denied = λ κ x h. two-routes h refl refl refl;
       higher-value-first = λ κ x h. not-first h refl refl refl (inr (refl, inl (inr (refl, omega arith))));
       settled-not-avoided = λ κ x h. differ (λ (y : Refusal). y .number) refl (selection-checked _ _ _ _ _ h refl);
       switches-not-avoided = λ κ x h. differ (λ (y : Refusal). y .number) refl (selection-checked _ _ _ _ _ h refl);

@@ -49,3 +49,8 @@ tied = 0 ∷ 2 ∷ 0 ∷ 0 ∷ 0 ∷ 0 ∷ 0 ∷ 0 ∷ []
 -- what m places of a lent buffer hold before the call
 abbrev pub stale : ℕ → List ℕ
 stale m = replicate m 0xee
+
+-- a table of the (4,1) room in which both built routes from 00 to 13 are broken, and each slot has an alternate: 42 01 41 03, then
+-- 02 43 03 41
+abbrev pub bothBroken : List ℕ
+bothBroken = 0 ∷ 2 ∷ 0 ∷ 2 ∷ 1 ∷ 0 ∷ 1 ∷ 0 ∷ 0 ∷ 0 ∷ 0 ∷ 1 ∷ 1 ∷ 0 ∷ 0 ∷ 0 ∷ []

@@ -8,7 +8,7 @@ use Rattle.select.specs.declared.Selection.{Selection}
 use Rattle.select.specs.Selection.{noSelection}
 use Rattle.select.proofs.select_routes.Reads as select-routes
 use Rattle.wrong.specs.Never.{Never, Loan, _&_, _lends_}
-use Rattle.wrong.specs.Examples.{array, failing, direct, other}
+use Rattle.wrong.specs.Examples.{array, failing, bothBroken, direct, other}
 
 -- these arrays in their order
 abbrev pub selecting : List (List ℕ) → Selection
@@ -21,6 +21,8 @@ pub record Select (o : Loan) : Type 0 where
   pub broken-kept : Never select-routes.Post (shapeOf 4 1 & o lends failing 3 3 & 0 & 7 & tt) (selecting (direct ∷ other ∷ []))
   -- an alternate that exists denied
   pub alternate-denied : Never select-routes.Post (shapeOf 4 1 & o lends failing 3 3 & 0 & 7 & tt) (selecting (direct ∷ []))
+  -- the second of two alternates denied, both built routes being broken
+  pub second-alternate-denied : Never select-routes.Post (shapeOf 4 1 & o lends bothBroken & 0 & 7 & tt) (selecting (array (0x42 ∷ 0x01 ∷ 0x41 ∷ 0x03 ∷ []) ∷ []))
   -- the tie rule with the higher value first
   pub higher-value-first : Never select-routes.Post (shapeOf 4 1 & o lends failing 3 3 & 0 & 7 & tt) (selecting (direct ∷ array (0x02 ∷ 0x43 ∷ 0x03 ∷ 0x41 ∷ []) ∷ []))
   -- the settled routes not avoided: the route of the fewest hops, which slot 1 has
