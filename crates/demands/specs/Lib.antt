@@ -1,4 +1,6 @@
 pub mod Demand1
+pub mod Tests
+pub mod Refusals
 pub mod Demand2
 pub mod Demand3
 pub mod ProvedTable
