@@ -15,13 +15,13 @@ use Rattle.room.specs.Shapes.{Server}
 use Rattle.room.specs.Refusals.{refusedAt}
 use Rattle.room.proofs.RefusalLaws.{answer-none}
 use Rattle.path.specs.Lists.{inTurn}
-use Rattle.path.specs.Routes.{switchAt, switchTo, byteTo, switchesOf, RouteTo}
+use Rattle.path.specs.Routes.{switchAt, switchTo, byteTo, switchesOf, Prefix, RouteTo}
 use Rattle.path.specs.Walks.{Walk, stopped, arrived, hopTo, fault, ended, walkFrom, walk}
 use Rattle.path.specs.Answers.{walked, walkAnswer}
 use Rattle.path.proofs.ListLaws.{length-snoc, snoc-last, snoc-at, turn-snoc, length-turn}
 use Rattle.path.proofs.HopLaws.{hop-byte, hop-switch}
 use Rattle.path.proofs.CodecLaws.{Ends, array-none, numberOf, arrived-encodes, encodes-walk}
-use Rattle.path.proofs.RouteLaws.{lastOf, Prefix, route-prefix, prefix-route, prefix-one, prefix-front, prefix-step, prefix-snoc, Step, switches-snoc, fault-step, walk-refused, walk-arrives, walk-goes, step-arrives, step-goes}
+use Rattle.path.proofs.RouteLaws.{lastOf, route-prefix, prefix-route, prefix-one, prefix-front, prefix-step, prefix-snoc, Step, switches-snoc, fault-step, walk-refused, walk-arrives, walk-goes, step-arrives, step-goes}
 use Rattle.path.proofs.ReverseLaws.{first-arrival}
 use Rattle.demands.specs.Refusals.{endOf, readTests, Along, Stops, hop-fails, never-arrives, goes-on, Reads}
 use Rattle.demands.proofs.Chains.{fails, failing}

@@ -8,7 +8,12 @@ pub mod Refusing
 pub mod Demand1
 pub mod Buffers
 pub mod Demand2
+pub mod Rooms
+pub mod Slots
+pub mod BuiltArrays
+pub mod Picking
 pub mod Demand3
 pub mod ShortRoutes
 pub mod ProvedTable
+pub mod TieRows
 pub mod Uniqueness

@@ -17,12 +17,12 @@ use Rattle.room.specs.Refusals.{none, plain, refusedAt}
 use Rattle.room.proofs.RefusalLaws.{answer-none}
 use Rattle.path.specs.declared.Writing.{Writing}
 use Rattle.path.specs.Lists.{inTurn}
-use Rattle.path.specs.Routes.{switchesOf, encode}
+use Rattle.path.specs.Routes.{switchesOf, encode, Prefix}
 use Rattle.path.specs.Walks.{writeFault, writeFrom}
 use Rattle.path.specs.Answers.{noWriting, aWriting, writeRefusal, written, onTheWay, writeAnswer}
 use Rattle.path.proofs.ListLaws.{length-snoc, snoc-last}
 use Rattle.path.proofs.CodecLaws.{write-step, write-given, write-exactly, Servers, listed-of}
-use Rattle.path.proofs.RouteLaws.{lastOf, Prefix, prefix-one, prefix-front, prefix-step, prefix-snoc, Step, switches-snoc}
+use Rattle.path.proofs.RouteLaws.{lastOf, prefix-one, prefix-front, prefix-step, prefix-snoc, Step, switches-snoc}
 use Rattle.demands.specs.Tests.{Refused, Hold, Exactly}
 use Rattle.demands.specs.Refusals.{endOf, writeTests, serversTests, WriteStops, Writes}
 use Rattle.demands.proofs.Chains.{fails, failing, zero-of, answers, exactly}

@@ -1,10 +1,11 @@
 -- Demand 1: every call takes every input: it answers, or refuses with document 01's number and place and nothing else, and every lent
--- buffer keeps its bytes. That a call may be made with every input is `EveryInput` in Uniqueness; here stands what it then answers.
-use Prim.Native.Nat.{ℕ, suc, _+_, _*_, _/_, _≤_}
+-- buffer keeps its bytes. That a call may be made with every input is `EveryInput` in Uniqueness; here stands what it then answers, in
+-- Refusals exactly when it refuses, and in Buffers what it leaves of what it was lent.
+use Prim.Native.Nat.{ℕ, _/_, _≤_}
 use mathlib.Core.Path.{_≡_}
 use mathlib.Core.Logic.{_≢_}
 use mathlib.Core.List.{List, [], _∷_}
-use mathlib.Core.Bool.{Bool, true, false, cond, _&&_, _||_}
+use mathlib.Core.Bool.{Bool, true, false, _&&_, _||_}
 use lib.Dec.{leb, eqb}
 use lib.ListN.{length, replicate}
 use Rattle.room.specs.declared.Shape.{Shape}
@@ -17,7 +18,7 @@ use Rattle.room.specs.Refusals.{plain, refusedAt, shapeRefusal, serverRefusal, 
 use Rattle.room.specs.Answers.{serversAnswer, boundAnswer, digitsAnswer, digitAnswer, addressAnswer, switchAnswer, neighbourAnswer, betweenAnswer}
 use Rattle.links.specs.declared.Asked.{Asked}
 use Rattle.links.specs.Table.{roomTableRefusal}
-use Rattle.links.specs.Answers.{failedAnswer, linkAnswer, markedTable, clearedTable}
+use Rattle.links.specs.Answers.{failedAnswer, linkAnswer}
 use Rattle.path.specs.declared.Hop.{Hop}
 use Rattle.path.specs.declared.Walked.{Walked}
 use Rattle.path.specs.declared.Reading.{Reading}
@@ -37,10 +38,6 @@ use Rattle.pick.specs.Picks.{pickSource, pickAnswer, pickedBytes}
 use Rattle.pick.specs.Places.{placeAnswer}
 use Rattle.step.specs.declared.Step.{Step}
 use Rattle.step.specs.Steps.{stepAnswer}
-use Rattle.step.specs.Packed.{packed, macNumber, unpacked}
-use Rattle.step.proofs.PackLaws.{Bytes}
-use Rattle.driver.specs.Words.{word, refusalIn, valueIn, numberWord, digitsWord, digitsLeft, switchWord, betweenWord, askedWord, readingWord, readingLeft, writingWord, writingLeft, buildingWord, buildingLeft, placeWord}
-use Rattle.driver.specs.Routes.{FoundWord, SelectedWord}
 
 -- ---- the place of a refusal
 
@@ -161,49 +158,3 @@ pub record EveryCall : Type 0 where
   pub pick-place : (s : Shape) (t : List ℕ) (a d : ℕ) (fs ks : List ℕ) → PlaceOf (1 ∷ 2 ∷ 3 ∷ 4 ∷ 5 ∷ 6 ∷ 7 ∷ 16 ∷ []) (placeAnswer s t a d fs ks)
   pub pick-route : (s : Shape) (t : List ℕ) (a d : ℕ) (fs ks : List ℕ) → pickAnswer s t a d fs ks .number ≢ 0 → pickedBytes (pickSource s t a d fs ks) fs ks ≡ []
   pub step-once : (s : Shape) (a d i : ℕ) (bs e : List ℕ) → StepOf (1 ∷ 2 ∷ 3 ∷ 4 ∷ 17 ∷ 7 ∷ 18 ∷ 8 ∷ 9 ∷ 10 ∷ 19 ∷ []) (stepAnswer s a d i bs e)
-
--- ---- lent buffers
-
--- the calls that can write to what they are lent leave it as it was where they refuse; all others are lent it to read
-pub record EveryBuffer : Type 0 where
-  -- marking and clearing
-  pub marked : (s : Shape) (t : List ℕ) (a l : ℕ) → linkAnswer s t a l .number ≢ 0 → markedTable s t a l ≡ t
-  pub cleared : (s : Shape) (t : List ℕ) (a l : ℕ) → linkAnswer s t a l .number ≢ 0 → clearedTable s t a l ≡ t
-  -- the calls from C, by what their contracts say is left
-  pub digits : (s : Shape) (a : ℕ) (lent : List ℕ) → digitsAnswer s a .refusal .number ≢ 0 → digitsLeft lent (digitsAnswer s a) ≡ lent
-  pub read : (s : Shape) (a d : ℕ) (bs lent : List ℕ) → readAnswer s a d bs .refusal .number ≢ 0 → readingLeft lent (readAnswer s a d bs) ≡ lent
-  pub write : (s : Shape) (vs lent : List ℕ) → writeAnswer s vs .refusal .number ≢ 0 → writingLeft lent (writeAnswer s vs) ≡ lent
-  pub reversed : (s : Shape) (a d : ℕ) (bs lent : List ℕ) → reverseAnswer s a d bs .refusal .number ≢ 0 → writingLeft lent (reverseAnswer s a d bs) ≡ lent
-  pub build : (s : Shape) (a d : ℕ) (lent : List ℕ) → buildAnswer s a d .refusal .number ≢ 0 → buildingLeft lent (buildAnswer s a d) ≡ lent
-  -- w is the word that the call gives back, and the last list what it leaves
-  pub find : (s : Shape) (t : List ℕ) (a d w : ℕ) (lent path : List ℕ) → FoundWord s t a d w lent path → refusalIn w .number ≢ 0 → path ≡ lent
-  pub select : (s : Shape) (t : List ℕ) (a d w : ℕ) (lent routes : List ℕ) → SelectedWord s t a d w lent routes → refusalIn w .number ≢ 0 → routes ≡ lent
-
--- ---- the words that the calls from C give back
-
--- a driver reads this refusal and this number out of a word
-abbrev pub Tells : ℕ → Refusal → ℕ → Type 0
-Tells w r v = (refusalIn w ≡ r) × (valueIn w ≡ v)
-
--- the word of each call gives back the answer's refusal and number; the two numbers of a step, the whole step
-pub record EveryWord : Type 0 where
-  pub shape : (s : Shape) → Tells (word (plain (shapeRefusal s)) 0) (plain (shapeRefusal s)) 0
-  pub servers : (s : Shape) → Tells (numberWord (serversAnswer s)) (serversAnswer s .refusal) (serversAnswer s .value)
-  pub bounds : (s : Shape) (l : ℕ) → Tells (numberWord (boundAnswer s l)) (boundAnswer s l .refusal) (boundAnswer s l .value)
-  pub digits : (s : Shape) (a : ℕ) → Tells (digitsWord (digitsAnswer s a)) (digitsAnswer s a .refusal) 0
-  pub one-digit : (s : Shape) (a l : ℕ) → Tells (numberWord (digitAnswer s a l)) (digitAnswer s a l .refusal) (digitAnswer s a l .value)
-  pub address : (s : Shape) (d0 d1 d2 d3 : ℕ) → (let x = addressAnswer s (d0 ∷ d1 ∷ d2 ∷ d3 ∷ []) in Tells (numberWord x) (x .refusal) (x .value))
-  pub switch : (s : Shape) (a l : ℕ) → Tells (switchWord (switchAnswer s a l)) (switchAnswer s a l .refusal) (switchAnswer s a l .number)
-  pub neighbour : (s : Shape) (a l v : ℕ) → Tells (numberWord (neighbourAnswer s a l v)) (neighbourAnswer s a l v .refusal) (neighbourAnswer s a l v .value)
-  pub between : (s : Shape) (a b : ℕ) → (let x = betweenAnswer s a b in Tells (betweenWord x) (x .refusal) (cond (x .adjacent) (suc (x .level)) 0))
-  pub failed-link : (s : Shape) (t : List ℕ) (a l : ℕ) → (let x = failedAnswer s t a l in Tells (askedWord x) (x .refusal) (cond (x .failed) 1 0))
-  pub mark-or-clear : (s : Shape) (t : List ℕ) (a l : ℕ) → Tells (word (linkAnswer s t a l) 0) (linkAnswer s t a l) 0
-  pub read : (s : Shape) (a d : ℕ) (bs : List ℕ) → Tells (readingWord (readAnswer s a d bs)) (readAnswer s a d bs .refusal) (readAnswer s a d bs .count)
-  pub write : (s : Shape) (vs : List ℕ) → Tells (writingWord (writeAnswer s vs)) (writeAnswer s vs .refusal) 0
-  pub reversed : (s : Shape) (a d : ℕ) (bs : List ℕ) → Tells (writingWord (reverseAnswer s a d bs)) (reverseAnswer s a d bs .refusal) 0
-  pub check : (s : Shape) (t : List ℕ) (a d : ℕ) (bs : List ℕ) → Tells (word (checkAnswer s t a d bs) 0) (checkAnswer s t a d bs) 0
-  pub build : (s : Shape) (a d : ℕ) → Tells (buildingWord (buildAnswer s a d)) (buildAnswer s a d .refusal) (buildAnswer s a d .routes .count)
-  pub find : (s : Shape) (t : List ℕ) (a d w : ℕ) (lent path : List ℕ) (x : FoundWord s t a d w lent path) → Tells w (x .answer .refusal) (x .answer .hops)
-  pub select : (s : Shape) (t : List ℕ) (a d w : ℕ) (lent routes : List ℕ) (x : SelectedWord s t a d w lent routes) → Tells w (x .answer .refusal) (x .answer .routes .count)
-  pub pick : (s : Shape) (t : List ℕ) (a d : ℕ) (fs ks : List ℕ) → (let x = placeAnswer s t a d fs ks in Tells (placeWord x) (x .refusal) (256 * x .list + x .route))
-  pub step : (s : Shape) (a d i : ℕ) (bs e : List ℕ) → Bytes e → (let x = stepAnswer s a d i bs e in unpacked (packed x) (macNumber (x .mac)) ≡ x)

@@ -15,10 +15,9 @@ use Rattle.room.specs.Answers.{serversAnswer, boundAnswer, digitsAnswer, digitA
 use Rattle.links.specs.Table.{failed, roomTableRefusal, TableOf}
 use Rattle.links.specs.Answers.{failedAnswer, linkAnswer}
 use Rattle.path.specs.Lists.{inTurn}
-use Rattle.path.specs.Routes.{byteTo, switchAt, switchTo, switchesOf, Route, RouteTo, Parallel, Encodes}
+use Rattle.path.specs.Routes.{byteTo, switchAt, switchTo, switchesOf, Route, Prefix, RouteTo, Parallel, Encodes}
 use Rattle.path.specs.Walks.{hopTo}
 use Rattle.path.specs.Answers.{endsRefusal, hopAnswer, walkAnswer, readAnswer, writeAnswer, reverseAnswer}
-use Rattle.path.proofs.RouteLaws.{Prefix}
 use Rattle.verdict.specs.Checks.{checkAnswer}
 use Rattle.verdict.specs.Accepted.{Accepted}
 use Rattle.build.specs.Answers.{buildAnswer}

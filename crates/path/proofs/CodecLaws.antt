@@ -24,12 +24,12 @@ use Rattle.path.specs.declared.Walked.{Walked}
 use Rattle.path.specs.declared.Reading.{Reading}
 use Rattle.path.specs.declared.Writing.{Writing}
 use Rattle.path.specs.Lists.{isIn, inTurn, filled}
-use Rattle.path.specs.Routes.{switchAt, levelTo, switchTo, byteTo, switchesOf, encode, Route, Encodes}
+use Rattle.path.specs.Routes.{switchAt, levelTo, switchTo, byteTo, switchesOf, encode, Route, Prefix, Encodes}
 use Rattle.path.specs.Walks.{Walk, stopped, arrived, hopTo, hopRefusal, fault, ended, walkFrom, walk, single, writeFault, writeFrom}
 use Rattle.path.specs.Answers.{endsRefusal, arrayRefusal, noWalk, walked, walkAnswer, reading, readAnswer, noWriting, reversed, reverseAnswer, serversRefusal, writeRefusal, written, onTheWay, writeAnswer}
 use Rattle.path.proofs.ListLaws.{length-snoc, snoc-last, length-turn, turn-at, length-filled, take-filled, filled-at, filled-past}
 use Rattle.path.proofs.HopLaws.{byte-small, live-all}
-use Rattle.path.proofs.RouteLaws.{lastOf, Prefix, Step, route-prefix, prefix-route, prefix-one, prefix-front, prefix-step, prefix-snoc, switches-snoc, walk-refused, walk-arrives, walk-goes, read-sound, read-complete}
+use Rattle.path.proofs.RouteLaws.{lastOf, Step, route-prefix, prefix-route, prefix-one, prefix-front, prefix-step, prefix-snoc, switches-snoc, walk-refused, walk-arrives, walk-goes, read-sound, read-complete}
 use Rattle.path.proofs.ReverseLaws.{source-server, dest-server, ends-differ, first-arrival, route-to-reverse}
 
 -- ---- the bytes of a route

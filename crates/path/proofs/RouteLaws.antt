@@ -15,8 +15,8 @@ use Rattle.room.specs.Addresses.{Neighbours}
 use Rattle.room.specs.Refusals.{_or-else_, _unless_}
 use Rattle.room.proofs.RefusalLaws.{or-else-zero, test-held, both-held}
 use Rattle.links.specs.Table.{live}
-use Rattle.path.specs.Lists.{isIn, Once, inTurn, filled}
-use Rattle.path.specs.Routes.{switchAt, levelTo, switchTo, byteTo, switchesOf, encode, Route, RouteTo}
+use Rattle.path.specs.Lists.{isIn, inTurn, filled}
+use Rattle.path.specs.Routes.{switchAt, levelTo, switchTo, byteTo, switchesOf, encode, Route, Prefix, RouteTo}
 use Rattle.path.specs.Walks.{stopped, arrived, hopTo, hopRefusal, fault, ended, walkFrom, walk}
 use Rattle.path.proofs.ListLaws.{length-snoc, snoc-last, snoc-at, once-snoc, once-front, length-turn, turn-snoc, turn-front}
 use Rattle.path.proofs.HopLaws.{hop-server, hop-neighbours, hop-level, hop-byte, hop-switch, byte-hop, byte-taken, byte-switch, byte-level}
@@ -26,15 +26,6 @@ abbrev pub lastOf : List ℕ → ℕ
 lastOf vs = getD vs (length vs - 1) 0
 
 -- ---- the beginnings of routes, hop after hop
-
--- servers in turn as on a route, of any number of hops
-pub record Prefix (s : Shape) (t vs : List ℕ) : Type 0 where
-  pub some : 1 ≤ length vs
-  pub servers : (i : ℕ) → i < length vs → Server s (getD vs i 0)
-  pub hops : (i : ℕ) → suc i < length vs → Neighbours s (levelTo s (getD vs i 0) (getD vs (suc i) 0)) (getD vs i 0) (getD vs (suc i) 0)
-  pub alive : (i : ℕ) → suc i < length vs → live t (levelTo s (getD vs i 0) (getD vs (suc i) 0)) (getD vs i 0) (getD vs (suc i) 0) ≡ true
-  pub servers-once : Once vs
-  pub switches-once : Once (switchesOf s vs)
 
 pub route-prefix : {s : Shape} {t vs : List ℕ} → Route s t vs → Prefix s t vs
 route-prefix h =
