@@ -2,12 +2,12 @@
 use Prim.Native.Nat.{ℕ, zero, suc, _+_, _-_, _/_, _≤_, _<_, suc-le-suc, zero-le}
 use mathlib.Core.Path.{_≡_, refl, sym, ap, ap₂, _∙_, subst}
 use mathlib.Core.Logic.{_≢_, inl, inr}
-use mathlib.Core.List.{List, [], _∷_, _++_, append-nil}
+use mathlib.Core.List.{List, [], _∷_, _++_}
 use native.Mathlib.Omega.{arith}
-use native.Mathlib.Nat.{add-zero, zero-add, le-of-suc-le-suc}
+use native.Mathlib.Nat.{add-zero, le-of-suc-le-suc}
 use native.Mathlib.Decide.{ℕ-discrete}
-use lib.ListN.{length, getD, take, length-append, drop-of-length-le}
-use lib.Seq.{append-snoc, split-at, length-take-le, getD-append-add, getD-append-seam}
+use lib.ListN.{length, getD, length-append}
+use lib.Seq.{append-snoc, getD-append-add, getD-append-seam}
 use borrow.Author.Tests.{eq-eqb, ne-eqb}
 use Rattle.room.specs.declared.Shape.{Shape}
 use Rattle.room.specs.declared.Refusal.{Refusal}
@@ -21,8 +21,7 @@ use Rattle.path.specs.Answers.{walked, walkAnswer}
 use Rattle.path.proofs.ListLaws.{length-snoc, snoc-last, snoc-at, turn-snoc, length-turn}
 use Rattle.path.proofs.HopLaws.{hop-byte, hop-switch}
 use Rattle.path.proofs.CodecLaws.{Ends, array-none, numberOf, arrived-encodes, encodes-walk}
-use Rattle.path.proofs.RouteLaws.{lastOf, route-prefix, prefix-route, prefix-one, prefix-front, prefix-step, prefix-snoc, Step, switches-snoc, fault-step, walk-refused, walk-arrives, walk-goes, step-arrives, step-goes}
-use Rattle.path.proofs.ReverseLaws.{first-arrival}
+use Rattle.path.proofs.RouteLaws.{prefix-route, prefix-one, prefix-snoc, Step, switches-snoc, fault-step, walk-refused, walk-arrives, walk-goes, walk-there, walk-to}
 use Rattle.demands.specs.Refusals.{endOf, readTests, Along, Stops, hop-fails, never-arrives, goes-on, Reads}
 use Rattle.demands.proofs.Chains.{fails, failing}
 use Rattle.demands.proofs.Numbers.{read-number}
@@ -195,88 +194,8 @@ module _ {s : Shape} {a d : ℕ} (t bs : List ℕ) (ends : Ends s a d) (l : leng
 
 -- ---- and back: a walk over the bytes of a way
 
--- hop after hop, where none of the servers is the destination
-walk-along : (s : Shape) (t : List ℕ) (d h : ℕ) (vs rest left : List ℕ) → 0 < length vs → Prefix s t (vs ++ rest) → ((i : ℕ) → i < length rest → getD rest i 0 ≢ d) → walkFrom s t d h vs (switchesOf s vs) (lastOf vs) (inTurn (byteTo s) (lastOf vs ∷ rest) ++ left) ≡ walkFrom s t d (h + length rest) (vs ++ rest) (switchesOf s (vs ++ rest)) (lastOf (vs ++ rest)) left
-unfolding inTurn
-walk-along s t d h vs [] left o p n = rw (append-nil vs, add-zero h)
-walk-along s t d h vs (b ∷ rest) left o p n =
-    step-goes ha (prefix-step vs b o front) d h bytes (n zero (suc-le-suc zero-le))
-    ∙ ap (λ (l : List ℕ). walkFrom s t d (h + 1) vs' l b bytes) (sym (switches-snoc s vs b o))
-    ∙ ap (λ (x : ℕ). walkFrom s t d (h + 1) vs' (switchesOf s vs') x (inTurn (byteTo s) (x ∷ rest) ++ left)) (sym (snoc-last vs b))
-    ∙ walk-along s t d (h + 1) vs' rest left longer p' (λ i k. n (suc i) (suc-le-suc k))
-    ∙ ap₂ (λ (k : ℕ) (l : List ℕ). walkFrom s t d k l (switchesOf s l) (lastOf l) left) (let e : h + 1 + length rest ≡ h + suc (length rest) = omega arith in e) join
-  where
-    vs' : List ℕ
-    vs' = vs ++ (b ∷ [])
-
-    bytes : List ℕ
-    bytes = inTurn (byteTo s) (b ∷ rest) ++ left
-
-    join : vs ++ (b ∷ []) ++ rest ≡ vs ++ (b ∷ rest)
-    join = append-snoc vs b rest
-
-    p' : Prefix s t (vs ++ (b ∷ []) ++ rest)
-    p' = subst (Prefix s t) (sym join) p
-
-    longer : 0 < length (vs ++ (b ∷ []))
-    longer = omega (arith, length-snoc vs b)
-
-    front : Prefix s t (vs ++ (b ∷ []))
-    front = prefix-front (vs ++ (b ∷ [])) rest longer p'
-
-    ha : Server s (lastOf vs)
-    ha = prefix-front vs (b ∷ []) o front .servers (length vs - 1) (omega arith)
-
--- from the source
-walk-there : {s : Shape} {t : List ℕ} {a d : ℕ} {bs vs left : List ℕ} → Along s t a d bs vs left → walk s t a d bs ≡ walkFrom s t d (length vs - 1) vs (switchesOf s vs) (endOf vs) left
-unfolding walk switchesOf inTurn
-walk-there {s} {t} {a} {d} {bs} {vs} {left} h = go vs (h .way) (h .source) (h .away) (h .bytes)
-  where
-    go : (vs : List ℕ) → Prefix s t vs → getD vs 0 0 ≡ a → ((i : ℕ) → i < length vs → getD vs i 0 ≢ d) → bs ≡ inTurn (byteTo s) vs ++ left → walk s t a d bs ≡ walkFrom s t d (length vs - 1) vs (switchesOf s vs) (endOf vs) left
-    go [] p e n b = let z : ⊥ = omega (arith, p .some) in absurd z
-    go (x ∷ rest) p e n b =
-        ap₂ (λ (y : ℕ) (l : List ℕ). walkFrom s t d 0 (y ∷ []) [] y l) (sym e) b
-        ∙ walk-along s t d 0 (x ∷ []) rest left (suc-le-suc zero-le) p (λ i k. n (suc i) (suc-le-suc k))
-        ∙ ap (λ (k : ℕ). walkFrom s t d k (x ∷ rest) (switchesOf s (x ∷ rest)) (endOf (x ∷ rest)) left) (zero-add (length rest) ∙ (let z : length rest ≡ length (x ∷ rest) - 1 = omega arith in z))
-
--- to the destination
-walk-to : {s : Shape} {t : List ℕ} {a d : ℕ} (bs vs left : List ℕ) → RouteTo s t a d vs → bs ≡ inTurn (byteTo s) vs ++ left → walk s t a d bs ≡ ended (length vs - 1) vs (switchesOf s vs) left
-walk-to {s} {t} {a} {d} bs vs left h b =
-    walk-there along
-    ∙ step-arrives (along .way .servers (length front - 1) (omega (arith, long))) step d (length front - 1) left refl
-    ∙ ap₂ (λ (k : ℕ) (w : List ℕ). ended k (front ++ (d ∷ [])) w left) (let z : length front - 1 + 1 ≡ length vs - 1 = omega (arith, long, h .route .some) in z) (sym (switches-snoc s front d (omega (arith, long, h .route .some))))
-    ∙ ap (λ (l : List ℕ). ended (length vs - 1) l (switchesOf s l) left) (sym cut)
-  where
-    front : List ℕ
-    front = take (length vs - 1) vs
-
-    long : length front ≡ length vs - 1
-    long = length-take-le (length vs - 1) vs (omega arith)
-
-    cut : vs ≡ front ++ (d ∷ [])
-    cut =
-        split-at vs (length vs - 1) 0 (omega (arith, h .route .some))
-        ∙ ap₂ (λ (x : ℕ) (l : List ℕ). front ++ (x ∷ l)) (h .arrives) (drop-of-length-le vs (let z : length vs ≤ suc (length vs - 1) = omega arith in z))
-
-    whole : Prefix s t (front ++ (d ∷ []))
-    whole = subst (Prefix s t) cut (route-prefix (h .route))
-
-    step : Step s t front (lastOf front) d
-    step = prefix-step front d (omega (arith, long, h .route .some)) whole
-
-    at : (i : ℕ) → i < length front → getD front i 0 ≡ getD vs i 0
-    at i p = sym (snoc-at front d i p) ∙ ap (λ (l : List ℕ). getD l i 0) (sym cut)
-
-    along : Along s t a d bs front (byteTo s (endOf front) d ∷ left)
-    along =
-        record {
-          way = prefix-front front (d ∷ []) (omega (arith, long, h .route .some)) whole;
-          source = at 0 (omega (arith, long, h .route .some)) ∙ h .source;
-          away = λ i p e. first-arrival h i (omega (arith, long)) (sym (at i p) ∙ e);
-          bytes = b ∙ ap (λ (l : List ℕ). inTurn (byteTo s) l ++ left) cut
-              ∙ ap (λ (l : List ℕ). l ++ left) (turn-snoc (byteTo s) front d (omega (arith, long, h .route .some)))
-              ∙ append-snoc (inTurn (byteTo s) front) (byteTo s (endOf front) d) left;
-        }
+walk-on : {s : Shape} {t : List ℕ} {a d : ℕ} {bs vs left : List ℕ} → Along s t a d bs vs left → walk s t a d bs ≡ walkFrom s t d (length vs - 1) vs (switchesOf s vs) (endOf vs) left
+walk-on {s} {t} {a} {d} {bs} {vs} {left} h = ap (walk s t a d) (h .bytes) ∙ walk-there vs left (h .way) (h .source) (h .away)
 
 walk-over : (s : Shape) (t : List ℕ) (d h : ℕ) (met used : List ℕ) (x : ℕ) → walkFrom s t d h met used x [] ≡ stopped 13 8
 unfolding walkFrom
@@ -289,16 +208,16 @@ stops-walk {s} {t} {a} {d} {bs} {r} (hop-fails {vs} {b} {left} h k) =
     let w = fails (λ z. refusedAt z 1 (length vs)) (readTests s t vs b) f r refl (read-number s t vs b) k in (
       f,
       length vs - 1 + 1,
-      walk-there h ∙ walk-refused s t d (length vs - 1) vs (switchesOf s vs) (endOf vs) b left (w .0),
+      walk-on h ∙ walk-refused s t d (length vs - 1) vs (switchesOf s vs) (endOf vs) b left (w .0),
       ap (refusedAt f 1) (let z : length vs - 1 + 1 ≡ length vs = omega (arith, h .way .some) in z) ∙ sym (w .1),
       w .0,
     )
-stops-walk {s} {t} {a} {d} {bs} (never-arrives {vs} h) = (13, 8, walk-there h ∙ walk-over s t d (length vs - 1) vs (switchesOf s vs) (endOf vs), refl, λ z. omega arith)
+stops-walk {s} {t} {a} {d} {bs} (never-arrives {vs} h) = (13, 8, walk-on h ∙ walk-over s t d (length vs - 1) vs (switchesOf s vs) (endOf vs), refl, λ z. omega arith)
 stops-walk {s} {t} {a} {d} {bs} (goes-on {p} h) =
     let m = p - (length (h .servers) - 1) in (
       14,
       suc (length (h .servers) - 1 + m),
-      walk-to bs (h .servers) (h .left) (h .route) (h .bytes)
+      ap (walk s t a d) (h .bytes) ∙ walk-to (h .servers) (h .left) (h .route)
           ∙ ended-stops (length (h .servers) - 1) (h .servers) (switchesOf s (h .servers)) (h .left) m
           (λ z. h .here (past (byteTo s) bs (h .servers) (h .left) p (h .bytes) (h .arrived) ∙ z))
           (λ j k. let i = length (h .servers) - 1 + j in

@@ -1,11 +1,10 @@
 -- What the writer refuses, and at which hop, proved.
-use Prim.Native.Nat.{ℕ, zero, suc, _+_, _-_, _<_, suc-le-suc, zero-le}
-use mathlib.Core.Path.{_≡_, refl, sym, ap, ap₂, _∙_, subst}
+use Prim.Native.Nat.{ℕ, zero, suc, _+_, _-_, suc-le-suc, zero-le}
+use mathlib.Core.Path.{_≡_, refl, sym, ap, _∙_, subst}
 use mathlib.Core.Logic.{_≢_, inl, inr}
 use mathlib.Core.Bool.{Bool, cond}
-use mathlib.Core.List.{List, [], _∷_, _++_, append-nil}
+use mathlib.Core.List.{List, [], _∷_, _++_}
 use native.Mathlib.Omega.{arith}
-use native.Mathlib.Nat.{add-zero, zero-add}
 use native.Mathlib.Decide.{ℕ-discrete}
 use lib.ListN.{length, getD, length-append}
 use lib.Seq.{append-snoc, getD-append-seam}
@@ -20,29 +19,13 @@ use Rattle.path.specs.Lists.{inTurn}
 use Rattle.path.specs.Routes.{switchesOf, encode, Prefix}
 use Rattle.path.specs.Walks.{writeFault, writeFrom}
 use Rattle.path.specs.Answers.{noWriting, aWriting, writeRefusal, written, onTheWay, writeAnswer}
-use Rattle.path.proofs.ListLaws.{length-snoc, snoc-last}
-use Rattle.path.proofs.CodecLaws.{write-step, write-given, write-exactly, Servers, listed-of}
-use Rattle.path.proofs.RouteLaws.{lastOf, prefix-one, prefix-front, prefix-step, prefix-snoc, Step, switches-snoc}
+use Rattle.path.proofs.ListLaws.{length-snoc}
+use Rattle.path.proofs.CodecLaws.{write-step, write-refused, write-goes, way-along, write-given, write-exactly, Servers, listed-of}
+use Rattle.path.proofs.RouteLaws.{lastOf, prefix-one, prefix-snoc}
 use Rattle.demands.specs.Tests.{Refused, Hold, Exactly}
 use Rattle.demands.specs.Refusals.{endOf, writeTests, serversTests, WriteStops, Writes}
 use Rattle.demands.proofs.Chains.{fails, failing, zero-of, answers, exactly}
 use Rattle.demands.proofs.Numbers.{write-number, write-hop-number}
-
--- ---- one hop
-
-module _ (s : Shape) (h : ℕ) (vs : List ℕ) (b : ℕ) (rest : List ℕ) where
-  abbrev failure : ℕ
-  failure = writeFault s vs (switchesOf s vs) (lastOf vs) b
-
-  write-refused : failure ≢ 0 → writeFrom s h vs (switchesOf s vs) (lastOf vs) (b ∷ rest) ≡ refusedAt failure 1 (h + 1)
-  unfolding writeFrom
-  write-refused n = rw (ne-eqb failure 0 n)
-
-  write-goes : 0 < length vs → failure ≡ 0 → writeFrom s h vs (switchesOf s vs) (lastOf vs) (b ∷ rest) ≡ writeFrom s (h + 1) (vs ++ (b ∷ [])) (switchesOf s (vs ++ (b ∷ []))) (lastOf (vs ++ (b ∷ []))) rest
-  unfolding writeFrom
-  write-goes o y =
-      rw (eq-eqb failure 0 y)
-      (ap₂ (λ (u : List ℕ) (x : ℕ). writeFrom s (h + 1) (vs ++ (b ∷ [])) u x rest) (sym (switches-snoc s vs b o)) (sym (snoc-last vs b)))
 
 -- ---- why it stops
 
@@ -50,15 +33,18 @@ write-why : (s : Shape) (h : ℕ) (whole vs rest : List ℕ) → Prefix s [] vs 
 unfolding writeFrom
 write-why s h whole vs [] p q l e n = absurd (n refl)
 write-why s h whole vs (b ∷ rest) p q l e n =
-    elim (ℕ-discrete (failure s h vs b rest) 0) [
-      | no y ↦ subst (WriteStops s whole) (sym (write-refused s h vs b rest y ∙ ap (refusedAt (failure s h vs b rest) 1) (let z : h + 1 ≡ length vs = omega arith in z)))
-          (record { before = vs; next = b; rest = rest; servers = e; way = p; refused = failing (λ z. refusedAt z 1 (length vs)) (writeTests s vs b) (failure s h vs b rest) refl (write-hop-number s vs b ha hb) y })
+    elim (ℕ-discrete fail 0) [
+      | no y ↦ subst (WriteStops s whole) (sym (write-refused s h vs b rest y ∙ ap (refusedAt fail 1) (let z : h + 1 ≡ length vs = omega arith in z)))
+          (record { before = vs; next = b; rest = rest; servers = e; way = p; refused = failing (λ z. refusedAt z 1 (length vs)) (writeTests s vs b) fail refl (write-hop-number s vs b ha hb) y })
       | yes y ↦ let f = write-goes s h vs b rest (p .some) y in
           subst (WriteStops s whole) (sym f)
           (write-why s (h + 1) whole (vs ++ (b ∷ [])) rest (prefix-snoc vs b p (write-step vs ha hb .0 y)) (record { each = λ i k. q .each (suc i) (suc-le-suc k) })
           (length-snoc vs b ∙ omega (arith, l)) (e ∙ sym (append-snoc vs b rest)) (λ z. n (ap (λ (r : Refusal). r .number) f ∙ z)))
     ]
   where
+    fail : ℕ
+    fail = writeFault s vs (switchesOf s vs) (lastOf vs) b
+
     ha : Server s (lastOf vs)
     ha = p .servers (length vs - 1) (omega (arith, p .some))
 
@@ -72,33 +58,6 @@ way-stops s (v ∷ vs) h n =
     write-why s 0 (v ∷ vs) (v ∷ []) vs (prefix-one [] (h .each zero (suc-le-suc zero-le))) (record { each = λ i k. h .each (suc i) (suc-le-suc k) }) refl refl n
 
 -- ---- and back
-
-write-along : (s : Shape) (h : ℕ) (vs rest more : List ℕ) → 0 < length vs → Prefix s [] (vs ++ rest) → writeFrom s h vs (switchesOf s vs) (lastOf vs) (rest ++ more) ≡ writeFrom s (h + length rest) (vs ++ rest) (switchesOf s (vs ++ rest)) (lastOf (vs ++ rest)) more
-write-along s h vs [] more o p = rw (append-nil vs, add-zero h)
-write-along s h vs (b ∷ rest) more o p =
-    write-goes s h vs b (rest ++ more) o (write-step vs ha (st .server) .1 st)
-    ∙ write-along s (h + 1) (vs ++ (b ∷ [])) rest more longer whole
-    ∙ ap₂ (λ (k : ℕ) (l : List ℕ). writeFrom s k l (switchesOf s l) (lastOf l) more) (let e : h + 1 + length rest ≡ h + suc (length rest) = omega arith in e) (append-snoc vs b rest)
-  where
-    longer : 0 < length (vs ++ (b ∷ []))
-    longer = omega (arith, length-snoc vs b)
-
-    whole : Prefix s [] (vs ++ (b ∷ []) ++ rest)
-    whole = subst (Prefix s []) (sym (append-snoc vs b rest)) p
-
-    ha : Server s (lastOf vs)
-    ha = prefix-front vs (b ∷ rest) o p .servers (length vs - 1) (omega arith)
-
-    st : Step s [] vs (lastOf vs) b
-    st = prefix-step vs b o (prefix-front (vs ++ (b ∷ [])) rest longer whole)
-
--- from the first server
-way-along : (s : Shape) (vs more : List ℕ) → Prefix s [] vs → onTheWay s (vs ++ more) ≡ writeFrom s (length vs - 1) vs (switchesOf s vs) (lastOf vs) more
-unfolding onTheWay switchesOf inTurn
-way-along s [] more p = let z : ⊥ = omega (arith, p .some) in absurd z
-way-along s (v ∷ vs) more p =
-    write-along s 0 (v ∷ []) vs more (suc-le-suc zero-le) p
-    ∙ ap (λ (k : ℕ). writeFrom s k (v ∷ vs) (switchesOf s (v ∷ vs)) (lastOf (v ∷ vs)) more) (zero-add (length vs) ∙ (let z : length vs ≡ length (v ∷ vs) - 1 = omega arith in z))
 
 stops-way : (s : Shape) (vs : List ℕ) (r : Refusal) → Servers s vs → WriteStops s vs r → (onTheWay s vs ≡ r) × (r .number ≢ 0)
 stops-way s vs r h w = (ap (onTheWay s) (w .servers) ∙ way-along s (w .before) (w .next ∷ w .rest) (w .way) ∙ refused ∙ sym (k .1), λ z. k .0 (ap (λ (x : Refusal). x .number) (sym (k .1)) ∙ z))
