@@ -49,7 +49,7 @@ module _ {R : Type 0} (refused : ℕ → R) where
     exactly A x f h r = (λ e. subst (Refused refused A Else) e h, same A x r (f r) h)
 
     -- what no test of a chain gives comes from its end
-    others : (A : Tests) (r : R) → Others refused A r → Refused refused A Else r → Hold A × Else r
+    pub others : (A : Tests) (r : R) → Others refused A r → Refused refused A Else r → Hold A × Else r
     others [] r o h = (tt, h)
     others (t ∷ A) r o (inl h) = let w = others A r (o .1) (h .1) in ((h .0, w .0), w .1)
     others (t ∷ A) r o (inr h) = absurd (o .0 (sym (h .1)))
@@ -193,6 +193,11 @@ failing refused A q m h n = carry refused refused (λ x. ⊥) A q (made refused 
 pub answers : {X R : Type 0} (refusal : X → R) (bare : ℕ → X) (refused : ℕ → R) (Else : R → Type 0) (A : Tests) (q : ℕ) (x : X) → ((r : ℕ) → refusal (bare r) ≡ refused r) → some A ≡ true → Number A q → (Hold A → Else (refusal x)) → Refused refused A Else (refusal (answer q bare x))
 answers refusal bare refused Else A q x e m h k =
     carry refused (λ n. refusal (answer n bare x)) Else A q (made refused (λ n. refusal (answer n bare x)) A (λ n. e (suc n)) m) h k
+
+-- whether f holds of all of a list
+abbrev pub all : (ℕ → Bool) → List ℕ → Bool
+all f [] = true
+all f (a ∷ A) = f a && all f A
 
 -- the numbers of a chain
 abbrev pub numbersOf : Tests → List ℕ

@@ -36,8 +36,8 @@ use Rattle.step.specs.Steps.{stepRefusal, placed, noStep, delivery, forwarded, 
 use Rattle.demands.specs.Tests.{Refused, Exactly}
 use Rattle.demands.specs.Demand1.{ofAHop, at-hop, no-arrival, later, OneOf, listed, WalkedOf, ReadingOf, WritingOf, FoundOf, SelectionOf, PlaceOf, StepOf, RefusalOf, HopOf, EveryCall}
 use Rattle.demands.specs.Refusals.{shapeTests, levelTests, serverTests, pairTests, linkTests, valueTests, placesTests, tableTests, tableLinkTests, endsTests, roomTests, arrayTests, checkTests, selectTests, pickTests, endOf, hopTests, readTests, writeTests, serversTests, givenTests, stepTests, Stops, hop-fails, never-arrives, goes-on, Reads, Writes, Checks, Steps}
-use Rattle.demands.proofs.Chains.{one-listed, fails}
-use Rattle.demands.proofs.Refusing.{all, Of, none-of, some-of, hop-of, chain-of, whole-of, bare-none, bare-is, bare-answer, refuses, answer-refuses}
+use Rattle.demands.proofs.Chains.{all, one-listed, fails}
+use Rattle.demands.proofs.Refusing.{Of, none-of, some-of, hop-of, chain-of, whole-of, bare-none, bare-is, bare-answer, refuses, answer-refuses}
 use Rattle.demands.proofs.Numbers.{read-number, fault-numbers, plain-numbers}
 use Rattle.demands.proofs.Hops.{stops-walk}
 use Rattle.demands.proofs.Exactly.{refused-exactly}

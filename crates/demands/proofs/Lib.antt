@@ -4,6 +4,7 @@ pub mod Hops
 pub mod Written
 pub mod Places
 pub mod Exactly
+pub mod SpelledOut
 pub mod Refusing
 pub mod Demand1
 pub mod Buffers

@@ -2,7 +2,7 @@
 use Prim.Native.Nat.{ℕ, zero, suc, _≤_}
 use mathlib.Core.Path.{_≡_, refl, sym, ap, _∙_, subst}
 use mathlib.Core.Logic.{_≢_, _⊎_, inl, inr, ⊎-elim}
-use mathlib.Core.Bool.{Bool, true, false, _&&_, _||_}
+use mathlib.Core.Bool.{Bool, true, false, _||_}
 use mathlib.Core.List.{List, [], _∷_}
 use native.Mathlib.Omega.{arith}
 use lib.Dec.{eqb}
@@ -14,7 +14,7 @@ use Rattle.room.proofs.RefusalLaws.{both-held}
 use Rattle.path.specs.Lists.{isIn}
 use Rattle.demands.specs.Tests.{Tests, Refused, Whole, Hold}
 use Rattle.demands.specs.Demand1.{ofTheWhole, ofAHop, Place, whole, at-hop, OneOf, nought, listed, Refuses}
-use Rattle.demands.proofs.Chains.{or-right, numbersOf}
+use Rattle.demands.proofs.Chains.{or-right, all, numbersOf}
 
 -- ---- numbers
 
@@ -24,11 +24,6 @@ either false y e = inr e
 
 or-left : (x y : Bool) → x ≡ true → x || y ≡ true
 or-left x y e = rw e
-
--- whether f holds of all of a list
-abbrev pub all : (ℕ → Bool) → List ℕ → Bool
-all f [] = true
-all f (a ∷ A) = f a && all f A
 
 all-at : (f : ℕ → Bool) (A : List ℕ) (r : ℕ) → all f A ≡ true → isIn r A ≡ true → f r ≡ true
 unfolding isIn

@@ -2,7 +2,7 @@
 -- fails, in document 01's order. What a chain of tests means is in Tests.
 use Prim.Native.Nat.{ℕ, suc, _+_, _-_, _*_, _/_, _%_, _≤_, _<_}
 use mathlib.Core.Path.{_≡_}
-use mathlib.Core.Logic.{_≢_, _⊎_}
+use mathlib.Core.Logic.{_≢_, _↔_, _⊎_}
 use mathlib.Core.Bool.{false}
 use mathlib.Core.List.{List, [], _∷_, _++_}
 use lib.ListN.{length, getD}
@@ -28,7 +28,7 @@ use Rattle.select.specs.Selection.{Selecting}
 use Rattle.pick.specs.Picks.{pickAnswer, arrayAt}
 use Rattle.pick.specs.Places.{placeAnswer}
 use Rattle.step.specs.Steps.{flagAt, stepAnswer}
-use Rattle.demands.specs.Tests.{Tests, Refused, Number, Whole, Exactly}
+use Rattle.demands.specs.Tests.{Tests, Refused, Number, Whole, Exactly, Hold}
 
 -- ---- shapes, servers, links, values, digits
 
@@ -270,3 +270,21 @@ pub record RefusedExactly : Type 0 where
   pub pick-place : (s : Shape) (t : List ℕ) (a d : ℕ) (fs ks : List ℕ) → Exactly (placeAnswer s t a d fs ks .refusal) (Whole (pickTests s t a d fs ks))
   -- step
   pub step-once : (s : Shape) (a d i : ℕ) (bs e : List ℕ) → Exactly (stepAnswer s a d i bs e .refusal) (Refused plain (givenTests s a d bs e) (Steps s a d i bs e))
+
+-- ---- some numbers spelled out
+
+-- what lines of `RefusedExactly` say of a number, by `ChainMeans`
+pub record SpelledOut : Type 0 where
+  -- a check says 7 exactly when the tests of the room hold and the length of the list is not as it must be
+  pub seven : (s : Shape) (t : List ℕ) (a d : ℕ) (bs : List ℕ)
+      → (checkAnswer s t a d bs ≡ plain 7) ↔ (Hold (roomTests s t a d) × ((Arrays s bs × (1 ≤ length bs)) → ⊥))
+  -- a step says 8, at the hop index + 1, exactly when what it is given is right, it is away from the destination, its index names a byte, and
+  -- the level of that byte is above k
+  pub eight : (s : Shape) (a d i : ℕ) (bs e : List ℕ)
+      → (stepAnswer s a d i bs e .refusal ≡ refusedAt 8 1 (i + 1)) ↔ (Hold (givenTests s a d bs e) × (a ≢ d) × (i < 8) × (s .k < getD bs i 0 / 64))
+  -- 14 at the byte after place p, exactly when that is the first after arrival that is not zero
+  pub fourteen : (s : Shape) (t : List ℕ) (a d : ℕ) (bs : List ℕ) (p : ℕ)
+      → (walkAnswer s t a d bs .refusal ≡ refusedAt 14 1 (suc p)) ↔ (Hold (arrayTests s a d bs) × FirstAfterArrival s t a d bs p)
+  -- 15 at a route, exactly when that is the later of the first pair that is not parallel
+  pub fifteen : (s : Shape) (t : List ℕ) (a d : ℕ) (bs : List ℕ) (j : ℕ)
+      → (checkAnswer s t a d bs ≡ refusedAt 15 j 0) ↔ (Hold (checkTests s t a d bs) × FirstPair s t a d bs (refusedAt 15 j 0))
