@@ -28,7 +28,7 @@ use Rattle.select.specs.Selection.{Selecting}
 use Rattle.pick.specs.Picks.{pickAnswer, arrayAt}
 use Rattle.pick.specs.Places.{placeAnswer}
 use Rattle.step.specs.Steps.{flagAt, stepAnswer}
-use Rattle.demands.specs.Tests.{Tests, Refused, Number, Whole, Exactly, Hold}
+use Rattle.demands.specs.Tests.{Tests, _then_, Refused, Number, Whole, Exactly, Hold}
 
 -- ---- shapes, servers, links, values, digits
 
@@ -36,19 +36,19 @@ abbrev pub shapeTests : Shape → Tests
 shapeTests s = (1, (2 ≤ s .n) × (s .n ≤ 64)) ∷ (2, s .k ≤ 3) ∷ (3, serversOf s ≤ 4096) ∷ []
 
 abbrev pub levelTests : Shape → ℕ → Tests
-levelTests s l = shapeTests s ++ ((20, l ≤ s .k) ∷ [])
+levelTests s l = shapeTests s then (20, l ≤ s .k)
 
 abbrev pub serverTests : Shape → ℕ → Tests
-serverTests s a = shapeTests s ++ ((4, a < serversOf s) ∷ [])
+serverTests s a = shapeTests s then (4, a < serversOf s)
 
 abbrev pub pairTests : Shape → ℕ → ℕ → Tests
-pairTests s a b = shapeTests s ++ ((4, (a < serversOf s) × (b < serversOf s)) ∷ [])
+pairTests s a b = shapeTests s then (4, (a < serversOf s) × (b < serversOf s))
 
 abbrev pub linkTests : Shape → ℕ → ℕ → Tests
-linkTests s a l = serverTests s a ++ ((20, l ≤ s .k) ∷ [])
+linkTests s a l = serverTests s a then (20, l ≤ s .k)
 
 abbrev pub valueTests : Shape → ℕ → ℕ → ℕ → Tests
-valueTests s a l v = linkTests s a l ++ ((21, v < bound s l) ∷ [])
+valueTests s a l v = linkTests s a l then (21, v < bound s l)
 
 -- places that write an address: each digit below its bound, zeros above k
 pub record Fits (s : Shape) (ds : List ℕ) : Type 0 where
@@ -56,41 +56,41 @@ pub record Fits (s : Shape) (ds : List ℕ) : Type 0 where
   pub above : (i : ℕ) → i < length ds → s .k < i → getD ds i 0 ≡ 0
 
 abbrev pub placesTests : Shape → List ℕ → Tests
-placesTests s ds = shapeTests s ++ ((21, Fits s ds) ∷ [])
+placesTests s ds = shapeTests s then (21, Fits s ds)
 
 -- ---- tables, ends, lists
 
 abbrev pub tableTests : Shape → List ℕ → Tests
-tableTests s t = shapeTests s ++ ((6, TableOf s t) ∷ [])
+tableTests s t = shapeTests s then (6, TableOf s t)
 
 abbrev pub tableLinkTests : Shape → List ℕ → ℕ → ℕ → Tests
-tableLinkTests s t a l = linkTests s a l ++ ((6, TableOf s t) ∷ [])
+tableLinkTests s t a l = linkTests s a l then (6, TableOf s t)
 
 -- source and destination
 abbrev pub endsTests : Shape → ℕ → ℕ → Tests
-endsTests s a d = pairTests s a d ++ ((5, a ≢ d) ∷ [])
+endsTests s a d = pairTests s a d then (5, a ≢ d)
 
 -- and a table
 abbrev pub roomTests : Shape → List ℕ → ℕ → ℕ → Tests
-roomTests s t a d = endsTests s a d ++ ((6, TableOf s t) ∷ [])
+roomTests s t a d = endsTests s a d then (6, TableOf s t)
 
 -- and one array
 abbrev pub arrayTests : Shape → ℕ → ℕ → List ℕ → Tests
-arrayTests s a d bs = endsTests s a d ++ ((7, length bs ≡ 8) ∷ [])
+arrayTests s a d bs = endsTests s a d then (7, length bs ≡ 8)
 
 -- a list is whole arrays, at most k + 1 of them
 abbrev pub Arrays : Shape → List ℕ → Type 0
 Arrays s bs = (length bs % 8 ≡ 0) × (length bs ≤ 8 * (s .k + 1))
 
 abbrev pub checkTests : Shape → List ℕ → ℕ → ℕ → List ℕ → Tests
-checkTests s t a d bs = roomTests s t a d ++ ((7, Arrays s bs × (1 ≤ length bs)) ∷ [])
+checkTests s t a d bs = roomTests s t a d then (7, Arrays s bs × (1 ≤ length bs))
 
 -- some route of eight hops or fewer crosses only live links
 abbrev pub Joined : Shape → List ℕ → ℕ → ℕ → Type 0
 Joined s t a d = (vs : List ℕ) × RouteTo s t a d vs
 
 abbrev pub selectTests : Shape → List ℕ → ℕ → ℕ → Tests
-selectTests s t a d = roomTests s t a d ++ ((16, Joined s t a d) ∷ [])
+selectTests s t a d = roomTests s t a d then (16, Joined s t a d)
 
 -- the array at place i of a list is that of a route from source to destination over live links
 abbrev pub IsRead : Shape → List ℕ → ℕ → ℕ → List ℕ → ℕ → Type 0
@@ -102,7 +102,7 @@ SomeRead s t a d bs = (i : ℕ) × (i < length bs / 8) × IsRead s t a d bs i
 
 abbrev pub pickTests : Shape → List ℕ → ℕ → ℕ → List ℕ → List ℕ → Tests
 pickTests s t a d fs ks =
-    roomTests s t a d ++ ((7, Arrays s fs × Arrays s ks) ∷ (16, SomeRead s t a d fs ⊎ SomeRead s t a d ks) ∷ [])
+    roomTests s t a d then (7, Arrays s fs × Arrays s ks) then (16, SomeRead s t a d fs ⊎ SomeRead s t a d ks)
 
 -- ---- one hop
 
@@ -124,9 +124,8 @@ readTests s t vs b =
     let a = endOf vs in
     let next = hopTo s a b in
     hopTests s a b
-    ++ ((11, (failed t a (b / 64) ≡ false) × (failed t next (b / 64) ≡ false))
-    ∷ (12, NotIn next vs × NotIn (switchAt s (b / 64) a) (switchesOf s vs))
-    ∷ [])
+    then (11, (failed t a (b / 64) ≡ false) × (failed t next (b / 64) ≡ false))
+    then (12, NotIn next vs × NotIn (switchAt s (b / 64) a) (switchesOf s vs))
 
 -- server b after the way vs, when servers are written: it differs from the last in exactly one digit
 abbrev pub writeTests : Shape → List ℕ → ℕ → Tests
@@ -159,7 +158,7 @@ pub record FirstAfterArrival (s : Shape) (t : List ℕ) (a d : ℕ) (bs : List �
 pub data Stops (s : Shape) (t : List ℕ) (a d : ℕ) (bs : List ℕ) : Refusal → Type 0 where
   -- a test of the next byte fails: the hop is the number of servers met
   hop-fails : {vs : List ℕ} {b : ℕ} {left : List ℕ} {r : Refusal} → Along s t a d bs vs (b ∷ left) → Refused (λ n. refusedAt n 1 (length vs)) (readTests s t vs b) (λ x. ⊥) r → Stops s t a d bs r
-  -- no byte is left, and it has not arrived
+  -- all eight bytes are hops, and it has not arrived
   never-arrives : {vs : List ℕ} → Along s t a d bs vs [] → Stops s t a d bs (refusedAt 13 1 8)
   -- a byte after arrival is not zero: the hop is its place
   goes-on : {p : ℕ} → FirstAfterArrival s t a d bs p → Stops s t a d bs (refusedAt 14 1 (suc p))
@@ -173,10 +172,9 @@ Reads s t a d bs r = (((vs : List ℕ) × Encodes s t a d bs vs) × (r ≡ none)
 abbrev pub serversTests : Shape → List ℕ → Tests
 serversTests s vs =
     shapeTests s
-    ++ ((22, (2 ≤ length vs) × (length vs ≤ 9))
-    ∷ (4, (i : ℕ) → i < length vs → getD vs i 0 < serversOf s)
-    ∷ (5, getD vs 0 0 ≢ endOf vs)
-    ∷ [])
+    then (22, (2 ≤ length vs) × (length vs ≤ 9))
+    then (4, (i : ℕ) → i < length vs → getD vs i 0 < serversOf s)
+    then (5, getD vs 0 0 ≢ endOf vs)
 
 -- the first server that is no hop from those before it, which are the beginning of a route: the hop is their number
 pub record WriteStops (s : Shape) (vs : List ℕ) (r : Refusal) : Type 0 where
@@ -187,6 +185,7 @@ pub record WriteStops (s : Shape) (vs : List ℕ) (r : Refusal) : Type 0 where
   pub way : Prefix s [] before
   pub refused : Refused (λ n. refusedAt n 1 (length before)) (writeTests s before next) (λ x. ⊥) r
 
+-- servers are a route, or writing them stops
 abbrev pub Writes : Shape → List ℕ → Refusal → Type 0
 Writes s vs r = (Route s [] vs × (r ≡ none)) ⊎ WriteStops s vs r
 
@@ -214,6 +213,7 @@ pub record FirstPair (s : Shape) (t : List ℕ) (a d : ℕ) (bs : List ℕ) (r :
   pub meet : Parallel s (routes first) (routes second) → ⊥
   pub here : r ≡ refusedAt 15 (suc second) 0
 
+-- a list is accepted; or an array of it is not read; or all are, and two are not parallel
 abbrev pub Checks : Shape → List ℕ → ℕ → ℕ → List ℕ → Refusal → Type 0
 Checks s t a d bs r =
     (Accepted s t a d bs × (r ≡ none)) ⊎ FirstRefused s t a d bs r ⊎ FirstPair s t a d bs r
@@ -221,11 +221,11 @@ Checks s t a d bs r =
 -- ---- one step
 
 abbrev pub givenTests : Shape → ℕ → ℕ → List ℕ → List ℕ → Tests
-givenTests s a d bs e = pairTests s a d ++ ((17, length e ≡ 2048) ∷ (7, length bs ≡ 8) ∷ [])
+givenTests s a d bs e = pairTests s a d then (17, length e ≡ 2048) then (7, length bs ≡ 8)
 
 -- byte b from server a, by a's neighbour table
 abbrev pub stepTests : Shape → ℕ → List ℕ → ℕ → Tests
-stepTests s a e b = hopTests s a b ++ ((19, flagAt e b ≡ 1) ∷ [])
+stepTests s a e b = hopTests s a b then (19, flagAt e b ≡ 1)
 
 -- at the destination any index is delivered; elsewhere 18 comes first, then the byte that the index names, at the hop index + 1
 abbrev pub Steps : Shape → ℕ → ℕ → ℕ → List ℕ → List ℕ → Refusal → Type 0
@@ -235,6 +235,7 @@ Steps s a d i bs e r =
 
 -- ---- every call
 
+-- a line for each call: exactly which refusal it gives
 pub record RefusedExactly : Type 0 where
   -- room
   pub shape-refusal : (s : Shape) → Exactly (shapeRefusal s) (Number (shapeTests s))
@@ -282,9 +283,9 @@ pub record SpelledOut : Type 0 where
   -- the level of that byte is above k
   pub eight : (s : Shape) (a d i : ℕ) (bs e : List ℕ)
       → (stepAnswer s a d i bs e .refusal ≡ refusedAt 8 1 (i + 1)) ↔ (Hold (givenTests s a d bs e) × (a ≢ d) × (i < 8) × (s .k < getD bs i 0 / 64))
-  -- 14 at the byte after place p, exactly when that is the first after arrival that is not zero
+  -- 14 at hop p + 1, exactly when the byte at place p, counted from 0, is the first after arrival that is not zero
   pub fourteen : (s : Shape) (t : List ℕ) (a d : ℕ) (bs : List ℕ) (p : ℕ)
       → (walkAnswer s t a d bs .refusal ≡ refusedAt 14 1 (suc p)) ↔ (Hold (arrayTests s a d bs) × FirstAfterArrival s t a d bs p)
-  -- 15 at a route, exactly when that is the later of the first pair that is not parallel
+  -- 15 at route j, exactly when that is the later of the first pair that is not parallel
   pub fifteen : (s : Shape) (t : List ℕ) (a d : ℕ) (bs : List ℕ) (j : ℕ)
       → (checkAnswer s t a d bs ≡ refusedAt 15 j 0) ↔ (Hold (checkTests s t a d bs) × FirstPair s t a d bs (refusedAt 15 j 0))
