@@ -22,6 +22,7 @@ use Rattle.path.proofs.CodecLaws.{Ends, walk-given, walk-exactly}
 use Rattle.verdict.specs.Checks.{arrays, parallel, firstStop, firstMeeting, firstOf, firstPair, roomRefusal, listRefusal, walksOf, checkAnswer}
 use Rattle.verdict.specs.Arrived.{nowhere}
 use Rattle.verdict.proofs.AcceptLaws.{walkedOf, parallel-of, of-parallel, accepted-of, of-accepted}
+use Rattle.verdict.proofs.ScanLaws.{first-left, first-right}
 use Rattle.pick.specs.Picks.{arrayAt}
 use Rattle.pick.proofs.UsableLaws.{array-long, array-next, clash}
 use Rattle.demands.specs.Tests.{Refused, Hold, Exactly}
@@ -31,14 +32,6 @@ use Rattle.demands.proofs.Numbers.{ends-hold, room-number, list-number}
 use Rattle.demands.proofs.Hops.{walk-answer, walk-reads, reads-walk, stops-walk, stops-some}
 
 -- ---- walked arrays
-
-first-zero : (r q : Refusal) → r .number ≡ 0 → firstOf r q ≡ q
-unfolding firstOf
-first-zero r q e = rw (eq-eqb (r .number) 0 e)
-
-first-own : (r q : Refusal) → r .number ≢ 0 → firstOf r q ≡ r
-unfolding firstOf
-first-own r q n = ap (λ (b : Bool). cond b q r) (ne-eqb (r .number) 0 n)
 
 -- an array read, or the first that is refused
 split-stop : (i : ℕ) (w : Walked) (ws : List Walked) → firstStop i (w ∷ ws) .number ≡ 0 → (w .refusal .number ≡ 0) × (firstStop (i + 1) ws .number ≡ 0)
@@ -143,9 +136,9 @@ unfolding firstPair
 pair-found i [] n = absurd (n refl)
 pair-found i (w ∷ ws) n =
     elim (ℕ-discrete (firstMeeting w (i + 1) ws .number) 0) [
-      | yes z ↦ let e = first-zero (firstMeeting w (i + 1) ws) (firstPair (i + 1) ws) z in
+      | yes z ↦ let e = first-right (firstMeeting w (i + 1) ws) (firstPair (i + 1) ws) z in
           subst (Pair i (w ∷ ws)) (sym e) (pair-later (meeting-none w (i + 1) ws z) (pair-found (i + 1) ws (λ k. n (ap (λ (r : Refusal). r .number) e ∙ k))))
-      | no z ↦ subst (Pair i (w ∷ ws)) (sym (first-own (firstMeeting w (i + 1) ws) (firstPair (i + 1) ws) z)) (pair-first (meeting-found w (i + 1) ws z))
+      | no z ↦ subst (Pair i (w ∷ ws)) (sym (first-left (firstMeeting w (i + 1) ws) (firstPair (i + 1) ws) z)) (pair-first (meeting-found w (i + 1) ws z))
     ]
 
 pair-none : (i : ℕ) (ws : List Walked) → firstPair i ws .number ≡ 0 → firstPair i ws ≡ none
@@ -153,8 +146,8 @@ unfolding firstPair
 pair-none i [] e = refl
 pair-none i (w ∷ ws) e =
     elim (ℕ-discrete (firstMeeting w (i + 1) ws .number) 0) [
-      | yes z ↦ let f = first-zero (firstMeeting w (i + 1) ws) (firstPair (i + 1) ws) z in f ∙ pair-none (i + 1) ws (ap (λ (r : Refusal). r .number) (sym f) ∙ e)
-      | no z ↦ absurd (z (ap (λ (r : Refusal). r .number) (sym (first-own (firstMeeting w (i + 1) ws) (firstPair (i + 1) ws) z)) ∙ e))
+      | yes z ↦ let f = first-right (firstMeeting w (i + 1) ws) (firstPair (i + 1) ws) z in f ∙ pair-none (i + 1) ws (ap (λ (r : Refusal). r .number) (sym f) ∙ e)
+      | no z ↦ absurd (z (ap (λ (r : Refusal). r .number) (sym (first-left (firstMeeting w (i + 1) ws) (firstPair (i + 1) ws) z)) ∙ e))
     ]
 
 -- ---- and back
@@ -194,11 +187,11 @@ pair-is i [] x y o h f e = let z : ⊥ = omega arith in absurd z
 pair-is i (w ∷ ws) x zero o h f e = let z : ⊥ = omega arith in absurd z
 pair-is i (w ∷ ws) zero (suc y) o h f e =
     let m = meeting-is w (i + 1) ws y (le-of-suc-le-suc h) (λ z k. f zero (suc z) (suc-le-suc zero-le) (omega arith) (inr (refl, suc-le-suc k))) e in
-    first-own (firstMeeting w (i + 1) ws) (firstPair (i + 1) ws) (λ k. let z : _≡_ {A = ℕ} 15 0 = sym (ap (λ (r : Refusal). r .number) m) ∙ k in omega arith)
+    first-left (firstMeeting w (i + 1) ws) (firstPair (i + 1) ws) (λ k. let z : _≡_ {A = ℕ} 15 0 = sym (ap (λ (r : Refusal). r .number) m) ∙ k in omega arith)
     ∙ m
     ∙ ap (λ (x : ℕ). refusedAt 15 x 0) (let z : i + 1 + y ≡ i + suc y = omega arith in z)
 pair-is i (w ∷ ws) (suc x) (suc y) o h f e =
-    first-zero (firstMeeting w (i + 1) ws) (firstPair (i + 1) ws) (ap (λ (r : Refusal). r .number) (meeting-free w (i + 1) ws (λ z k. f zero (suc z) (suc-le-suc zero-le) (suc-le-suc k) (inl (suc-le-suc zero-le)))))
+    first-right (firstMeeting w (i + 1) ws) (firstPair (i + 1) ws) (ap (λ (r : Refusal). r .number) (meeting-free w (i + 1) ws (λ z k. f zero (suc z) (suc-le-suc zero-le) (suc-le-suc k) (inl (suc-le-suc zero-le)))))
     ∙ pair-is (i + 1) ws x y (le-of-suc-le-suc o) (le-of-suc-le-suc h) (λ u v p q k. f (suc u) (suc v) (suc-le-suc p) (suc-le-suc q) (⊎-elim (λ l. inl (suc-le-suc l)) (λ l. inr (ap suc (l .0), suc-le-suc (l .1))) k)) e
     ∙ ap (λ (z : ℕ). refusedAt 15 z 0) (let z : i + 1 + y ≡ i + suc y = omega arith in z)
 
@@ -303,7 +296,7 @@ module _ (s : Shape) (t : List ℕ) (a d : ℕ) (bs : List ℕ) (held : Hold (ch
             within = within;
             before = λ i k. array-read i (omega (arith, within)) (r .3 i k);
             stops = subst (Stops s t a d (arrayAt p bs)) (sym (w .3)) h;
-            here = first-own (firstStop 1 walks) (firstPair 1 walks) o ∙ r .4
+            here = first-left (firstStop 1 walks) (firstPair 1 walks) o ∙ r .4
                 ∙ ap₂ (λ (x : Refusal) (k : ℕ). refusedAt (x .number) k (x .hop)) (sym (w .3)) (let z : 1 + p ≡ suc p = omega arith in z);
           }
 
@@ -318,7 +311,7 @@ module _ (s : Shape) (t : List ℕ) (a d : ℕ) (bs : List ℕ) (held : Hold (ch
         within = within;
         before = λ i j u v k. pair-parallel i j (omega (arith, v)) v (route-at i) (route-at j) (read i (omega (arith, v))) (read j v) (r .before i j u (subst (λ (m : ℕ). j < m) (sym walks-long) v) k);
         meet = λ k. clash _ (parallel-pair (r .first) (r .second) (omega (arith, within, r .order)) within (route-at (r .first)) (route-at (r .second)) (read (r .first) (omega (arith, within, r .order))) (read (r .second) within) k) (r .meet);
-        here = first-zero (firstStop 1 walks) (firstPair 1 walks) o ∙ r .here ∙ ap (λ (x : ℕ). refusedAt 15 x 0) (let z : 1 + r .second ≡ suc (r .second) = omega arith in z);
+        here = first-right (firstStop 1 walks) (firstPair 1 walks) o ∙ r .here ∙ ap (λ (x : ℕ). refusedAt 15 x 0) (let z : 1 + r .second ≡ suc (r .second) = omega arith in z);
       }
     where
       r : Pair 1 walks (firstPair 1 walks)
@@ -336,7 +329,7 @@ module _ (s : Shape) (t : List ℕ) (a d : ℕ) (bs : List ℕ) (held : Hold (ch
         | no o ↦ inr (inl (stops-first o))
         | yes o ↦ elim (ℕ-discrete (firstPair 1 walks .number) 0) [
           | no n ↦ inr (inr (pairs-first o n))
-          | yes z ↦ let e = first-zero (firstStop 1 walks) (firstPair 1 walks) o ∙ pair-none 1 walks z in inl (accepted-of s t a d bs (outcome-answer ∙ e), e)
+          | yes z ↦ let e = first-right (firstStop 1 walks) (firstPair 1 walks) o ∙ pair-none 1 walks z in inl (accepted-of s t a d bs (outcome-answer ∙ e), e)
         ]
       ]
 
@@ -344,7 +337,7 @@ module _ (s : Shape) (t : List ℕ) (a d : ℕ) (bs : List ℕ) (held : Hold (ch
 
   refused-answer : (r : Refusal) → FirstRefused s t a d bs r → outcome ≡ r
   refused-answer r h =
-      first-own (firstStop 1 walks) (firstPair 1 walks) (λ z. some (sym (ap (λ (x : Refusal). x .number) stop) ∙ z))
+      first-left (firstStop 1 walks) (firstPair 1 walks) (λ z. some (sym (ap (λ (x : Refusal). x .number) stop) ∙ z))
       ∙ stop
       ∙ ap₂ (λ (x : Refusal) (k : ℕ). refusedAt (x .number) k (x .hop)) is (let z : 1 + h .place ≡ suc (h .place) = omega arith in z)
       ∙ sym (h .here)
@@ -360,7 +353,7 @@ module _ (s : Shape) (t : List ℕ) (a d : ℕ) (bs : List ℕ) (held : Hold (ch
 
   pair-answer : (r : Refusal) → FirstPair s t a d bs r → outcome ≡ r
   pair-answer r h =
-      first-zero (firstStop 1 walks) (firstPair 1 walks) (ap (λ (x : Refusal). x .number) (stop-none 1 walks (λ j k. array-none j (inside j k) (h .routes j, h .read j (inside j k)))))
+      first-right (firstStop 1 walks) (firstPair 1 walks) (ap (λ (x : Refusal). x .number) (stop-none 1 walks (λ j k. array-none j (inside j k) (h .routes j, h .read j (inside j k)))))
       ∙ pair-is 1 walks (h .first) (h .second) (h .order) (subst (λ (m : ℕ). h .second < m) (sym walks-long) (h .within))
       (λ u v p q k. parallel-pair u v (omega (arith, inside v q)) (inside v q) (h .routes u) (h .routes v) (h .read u (omega (arith, inside v q))) (h .read v (inside v q)) (h .before u v p (inside v q) k))
       (not-held _ (λ e. h .meet (pair-parallel (h .first) (h .second) (omega (arith, h .within, h .order)) (h .within) (h .routes (h .first)) (h .routes (h .second)) (h .read (h .first) (omega (arith, h .within, h .order))) (h .read (h .second) (h .within)) e)))
