@@ -1,4 +1,6 @@
+pub mod Tests
 pub mod Demand1
+pub mod Refusals
 pub mod Buffers
 pub mod Demand2
 pub mod Demand3
