@@ -24,7 +24,7 @@ use Rattle.verdict.specs.Checks.{disjoint}
 use Rattle.verdict.proofs.AcceptLaws.{disjoint-apart}
 use Rattle.build.specs.declared.Building.{Building}
 use Rattle.build.specs.Built as build
-use Rattle.finder.specs.Alternates.{bytesOf}
+use Rattle.finder.specs.Alternates.{hopBytes}
 use Rattle.select.specs.Avoided.{avoided}
 use Rattle.select.specs.Selection.{Unbroken, Replaces, Slot, kept, replaced, Selects, selectRefusal, Selecting}
 use Rattle.select.proofs.OneAnswer.{selecting-unique}
@@ -146,8 +146,8 @@ around-direct =
       servers = disjoint-apart (middle around) (middle direct) refl;
     }
 
-bytes : bytesOf (shapeOf 4 1) around ≡ 0x01 ∷ 0x42 ∷ 0x03 ∷ 0x41 ∷ []
-unfolding bytesOf inTurn byteTo byteOf levelTo addresses.digit addresses.differing differFrom addresses.digits digitsOf
+bytes : hopBytes (shapeOf 4 1) around ≡ 0x01 ∷ 0x42 ∷ 0x03 ∷ 0x41 ∷ []
+unfolding hopBytes inTurn byteTo byteOf levelTo addresses.digit addresses.differing differFrom addresses.digits digitsOf
 bytes = refl
 
 -- no way of fewer hops leads around, nor one of as many that comes before

@@ -20,7 +20,7 @@ use Rattle.path.specs.Lists.{isIn, inTurn}
 use Rattle.path.specs.Routes.{levelTo, switchTo, byteTo, switchesOf, RouteTo, Parallel}
 use Rattle.path.specs.Walks.{single}
 use Rattle.path.proofs.ListLaws.{Missing, missing-in, length-turn, turn-at}
-use Rattle.finder.specs.Alternates.{bytesOf, Sooner, HopByHop}
+use Rattle.finder.specs.Alternates.{hopBytes, Sooner, HopByHop}
 
 -- ---- the test
 
@@ -142,8 +142,8 @@ module _ (s : Shape) (t : List ℕ) (d : ℕ) (avoid : List ℕ) where
       far m b bs (rw (r .source) e) (omega arith) (goes-all b bs (λ i q. goes-at r p same i (suc-le-suc q))) (last-at b bs ∙ r .arrives)
 
   -- nor any that has as many hops as these bytes and comes before them
-  pub none-before : {a : ℕ} {vs : List ℕ} (us cs : List ℕ) → noneBefore cs a ≡ true → avoid ≡ switchesOf s vs → RouteTo s t a d us → Parallel s us vs → length us ≡ suc (length cs) → HopByHop (bytesOf s us) cs → ⊥
-  unfolding bytesOf
+  pub none-before : {a : ℕ} {vs : List ℕ} (us cs : List ℕ) → noneBefore cs a ≡ true → avoid ≡ switchesOf s vs → RouteTo s t a d us → Parallel s us vs → length us ≡ suc (length cs) → HopByHop (hopBytes s us) cs → ⊥
+  unfolding hopBytes
   none-before [] cs e same r p l = omega arith
   none-before (b ∷ bs) cs e same r p l =
       first cs b bs (rw (r .source) e) (omega arith) (goes-all b bs (λ i q. goes-at r p same i (suc-le-suc q))) (last-at b bs ∙ r .arrives)

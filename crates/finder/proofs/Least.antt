@@ -15,8 +15,8 @@ use Rattle.links.specs.Table.{failed}
 use Rattle.links.proofs.TableLaws.{live-exactly}
 use Rattle.path.specs.Lists.{Once, inTurn}
 use Rattle.path.specs.Routes.{switchTo, switchAt, switchesOf, RouteTo}
-use Rattle.finder.specs.Alternates.{bytesOf, Sooner, HopByHop, Before, Alternate}
-use Rattle.finder.specs.Walks.{Walk, Lex, Shortlex, Least}
+use Rattle.finder.specs.Alternates.{hopBytes, Sooner, HopByHop, Before, Alternate}
+use Rattle.finder.specs.Walks.{Leads, Lex, Shortlex, Least}
 use Rattle.finder.specs.Hops.{turned, stepOf, Ok}
 use Rattle.finder.proofs.Order.{split, least-unique}
 use Rattle.finder.proofs.Repeats.{Twice, repeats, turn-long, turn-at}
@@ -36,7 +36,7 @@ same-at s l m a b ha hb e =
 
 module _ (s : Shape) (t : List ℕ) where
   abbrev Walks : ℕ → List ℕ → ℕ → Type 0
-  Walks u xs w = Walk (stepOf s) (Ok s t) u xs w
+  Walks u xs w = Leads (stepOf s) (Ok s t) u xs w
 
   -- between the servers met at i and at j, another way
   record Shorter (a : ℕ) (xs : List ℕ) (d : ℕ) : Type 0 where
@@ -219,15 +219,15 @@ lex-not k (x ∷ xs) (y ∷ ys) lx ly l h =
     l
 
 module _ (s : Shape) (t : List ℕ) (a d : ℕ) where
-  walk-levels : (u : ℕ) (xs : List ℕ) → Walk (stepOf s) (Ok s t) u xs d → Levels (s .k) xs
+  walk-levels : (u : ℕ) (xs : List ℕ) → Leads (stepOf s) (Ok s t) u xs d → Levels (s .k) xs
   walk-levels u [] h = tt
   walk-levels u (x ∷ xs) h = (h .0 .level, walk-levels (stepOf s u x) xs (h .1))
 
   -- the bytes of a route, from its labels
-  route-bytes : (vs : List ℕ) → RouteTo s t a d vs → bytesOf s vs ≡ map (turned (s .k)) (labelsOf s vs)
+  route-bytes : (vs : List ℕ) → RouteTo s t a d vs → hopBytes s vs ≡ map (turned (s .k)) (labelsOf s vs)
   route-bytes vs r =
       let w = route-walk s t vs r in
-      ap (bytesOf s) (sym (w .1)) ∙ met-bytes s t a (labelsOf s vs) d (w .0)
+      ap (hopBytes s) (sym (w .1)) ∙ met-bytes s t a (labelsOf s vs) d (w .0)
 
   route-long : (vs : List ℕ) → RouteTo s t a d vs → length vs ≡ suc (length (labelsOf s vs))
   route-long vs r = omega (arith, labels-long s vs, r .route .some)
@@ -269,7 +269,7 @@ module _ (s : Shape) (t : List ℕ) (a d : ℕ) where
       long : length vs ≡ suc (length (labelsOf s vs))
       long = route-long vs (alt .route)
 
-      compared : (ys : List ℕ) → Walk (stepOf s) (Ok s t) a ys d → length ys ≤ length (labelsOf s vs) → Within s t a ys d → Shortlex (labelsOf s vs) ys
+      compared : (ys : List ℕ) → Leads (stepOf s) (Ok s t) a ys d → length ys ≤ length (labelsOf s vs) → Within s t a ys d → Shortlex (labelsOf s vs) ys
       compared ys w le r =
           ⊎-elim
           (λ e.
@@ -293,8 +293,8 @@ module _ (s : Shape) (t : List ℕ) (a d : ℕ) where
       sym (route-walk s t us (p .route) .1) ∙ ap (met s a) e ∙ route-walk s t vs (q .route) .1
 
   -- where no walk of eight hops or fewer is there is no route, and the other way round
-  pub no-walk-no-route : ((xs : List ℕ) → length xs ≤ 8 → Walk (stepOf s) (Ok s t) a xs d → ⊥) → (vs : List ℕ) → RouteTo s t a d vs → ⊥
+  pub no-walk-no-route : ((xs : List ℕ) → length xs ≤ 8 → Leads (stepOf s) (Ok s t) a xs d → ⊥) → (vs : List ℕ) → RouteTo s t a d vs → ⊥
   no-walk-no-route none vs r = none (labelsOf s vs) (omega (arith, route-long vs r, r .route .few)) (route-walk s t vs r .0)
 
-  pub no-route-no-walk : Server s a → a ≢ d → ((vs : List ℕ) → RouteTo s t a d vs → ⊥) → (xs : List ℕ) → length xs ≤ 8 → Walk (stepOf s) (Ok s t) a xs d → ⊥
+  pub no-route-no-walk : Server s a → a ≢ d → ((vs : List ℕ) → RouteTo s t a d vs → ⊥) → (xs : List ℕ) → length xs ≤ 8 → Leads (stepOf s) (Ok s t) a xs d → ⊥
   no-route-no-walk ha ne none xs few w = let r = walk-within s t a xs d ha w ne few in none (r .servers) (r .route)

@@ -11,7 +11,7 @@ use Rattle.path.specs.Lists.{filled}
 use Rattle.path.specs.Routes.{byteTo, encode, RouteTo}
 use Rattle.path.proofs.ListLaws.{length-turn}
 use Rattle.path.proofs.CodecLaws.{encodes-unique}
-use Rattle.finder.specs.Alternates.{bytesOf, Sooner, HopByHop, Before}
+use Rattle.finder.specs.Alternates.{hopBytes, Sooner, HopByHop, Before}
 use Rattle.select.specs.declared.Selection.{Selection}
 use Rattle.select.specs.Selection.{Replaces, Slot, kept, replaced, nothing, Selects, selectRefusal, selection, Selecting}
 
@@ -45,13 +45,13 @@ hops-order (b ∷ bs) (c ∷ cs) e =
     (hop-order b c)
 
 -- routes of the same bytes are the same
-same-bytes : {s : Shape} {t : List ℕ} {a d : ℕ} {us vs : List ℕ} → RouteTo s t a d us → RouteTo s t a d vs → bytesOf s us ≡ bytesOf s vs → us ≡ vs
-unfolding bytesOf encode
+same-bytes : {s : Shape} {t : List ℕ} {a d : ℕ} {us vs : List ℕ} → RouteTo s t a d us → RouteTo s t a d vs → hopBytes s us ≡ hopBytes s vs → us ≡ vs
+unfolding hopBytes encode
 same-bytes {s} {t} {a} {d} {us} {vs} hu hv e =
     encodes-unique {bs = encode s us} (record { route = hu; bytes = refl }) (record { route = hv; bytes = ap (filled 8) e })
 
-bytes-long : (s : Shape) (vs : List ℕ) → length (bytesOf s vs) ≡ length vs - 1
-unfolding bytesOf
+bytes-long : (s : Shape) (vs : List ℕ) → length (hopBytes s vs) ≡ length vs - 1
+unfolding hopBytes
 bytes-long s vs = length-turn (byteTo s) vs
 
 pub route-order : {s : Shape} {t : List ℕ} {a d : ℕ} {us vs : List ℕ} → RouteTo s t a d us → RouteTo s t a d vs → (Before s us vs ⊎ Before s vs us) ⊎ (us ≡ vs)
@@ -62,7 +62,7 @@ route-order {s} {t} {a} {d} {us} {vs} hu hv =
         | yes k ↦ inl (inr (inl k))
         | no k ↦ let e : length us ≡ length vs = omega arith in
             ⊎-elim (⊎-elim (λ p. inl (inl (inr (e, p)))) (λ p. inl (inr (inr (sym e, p))))) (λ p. inr (same-bytes hu hv p))
-            (hops-order (bytesOf s us) (bytesOf s vs) (omega (arith, bytes-long s us, bytes-long s vs)))
+            (hops-order (hopBytes s us) (hopBytes s vs) (omega (arith, bytes-long s us, bytes-long s vs)))
       ]
     ]
 

@@ -1,10 +1,10 @@
--- `finder::finding::no_route` meets its contract. Assumes nothing.
+-- `finder::answers::no_route` meets its contract. Assumes nothing.
 use mathlib.Core.Path.{ap}
 use borrow.Author.Needs.{needs}
 use lib.ListN.{replicate}
 use Rattle.room.specs.declared.Refusal.{Refusal}
-use Rattle.finder.proofs.finding.no_route.Statement.{statement}
-use Rattle.finder.proofs.finding.no_route.Tie as tie
+use Rattle.finder.proofs.answers.no_route.Statement.{statement}
+use Rattle.finder.proofs.answers.no_route.Tie as tie
 
 pub no-route-spec : {M : Type 1} → statement M
 no-route-spec =
