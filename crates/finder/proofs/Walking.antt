@@ -1,24 +1,23 @@
 -- Walks over the hops of the room: the servers met on the way, and routes as walks.
 use Prim.Native.Nat.{ℕ, zero, suc, _+_, _-_, _*_, _/_, _%_, _<_, _≤_}
 use native.Mathlib.Omega.{arith}
-use native.Mathlib.Nat.{div-le-self}
 use mathlib.Core.Path.{_≡_, refl, sym, ap, ap₂, _∙_}
 use mathlib.Core.Logic.{_≢_}
 use mathlib.Core.Bool.{true, false}
 use mathlib.Core.List.{List, [], _∷_, _++_, map}
 use lib.ListN.{length, getD, take, drop, length-map}
 use Rattle.room.specs.declared.Shape.{Shape}
-use Rattle.room.specs.Shapes.{serversOf, bound, Server, Link, Value}
-use Rattle.room.specs.Addresses.{digit, withDigit, switchOf, switchesAt, Beside, Neighbours}
-use Rattle.room.proofs.RoomLaws.{bound-le, digit-lt, with-server, with-same, with-own, with-beside, with-switch, beside-with, switch-lt, neighbours-exactly}
+use Rattle.room.specs.Shapes.{Server, Value}
+use Rattle.room.specs.Addresses.{digit, withDigit, switchOf, Beside, Neighbours}
+use Rattle.room.proofs.RoomLaws.{bound-le, digit-lt, with-server, with-same, with-own, with-beside, with-switch, beside-with, neighbours-exactly}
 use Rattle.links.specs.Table.{live, failed}
 use Rattle.links.proofs.TableLaws.{live-exactly}
 use Rattle.path.specs.Lists.{inTurn}
 use Rattle.path.specs.Routes.{byteOf, switchAt, levelTo, switchTo, byteTo, Route, RouteTo}
+use Rattle.path.proofs.ListLaws.{length-turn}
 use Rattle.finder.specs.Alternates.{hopBytes}
 use Rattle.finder.specs.Walks.{Leads}
 use Rattle.finder.specs.Hops.{turned, stepOf, Ok}
-use Rattle.finder.proofs.Repeats.{turn-long}
 use Rattle.finder.proofs.Hops.{label-level, label-value, step-at}
 
 -- ---- one hop
@@ -27,10 +26,6 @@ use Rattle.finder.proofs.Hops.{label-level, label-value, step-at}
 pub level-to : {s : Shape} {l a b : ℕ} → Server s a → Server s b → Neighbours s l a b → levelTo s a b ≡ l
 unfolding levelTo
 level-to {s} {l} ha hb n = ap (λ (ls : List ℕ). getD ls 0 0) (neighbours-exactly ha hb l .1 n)
-
-pub switch-small : {s : Shape} {a l : ℕ} → Link s a l → switchOf s l a < 4096
-unfolding switchesAt
-switch-small {s} {a} {l} h = omega (arith, switch-lt h, div-le-self (serversOf s) (bound s l), h .server .valid .small)
 
 -- two servers that agree in every digit but l are one hop apart, where their links at level l are live
 module _ {s : Shape} {l u w : ℕ} (hu : Server s u) (hw : Server s w) (hl : l ≤ s .k) (b : Beside s l u w) where
@@ -126,7 +121,7 @@ labelsOf s vs = map (turned (s .k)) (hopBytes s vs)
 
 pub labels-long : (s : Shape) (vs : List ℕ) → length (labelsOf s vs) ≡ length vs - 1
 unfolding hopBytes
-labels-long s vs = length-map (hopBytes s vs) (turned (s .k)) ∙ turn-long (byteTo s) vs
+labels-long s vs = length-map (hopBytes s vs) (turned (s .k)) ∙ length-turn (byteTo s) vs
 
 module _ (s : Shape) (t : List ℕ) where
   abbrev pub Walks : ℕ → List ℕ → ℕ → Type 0
