@@ -75,6 +75,7 @@ every-buffer =
     record {
       marked = λ s t a l n. kept _ t _ n;
       cleared = λ s t a l n. kept _ t _ n;
+      laid = λ s t a d bs r u h n. h .kept n;
       digits = λ s a lent n. sym (left-lent _ lent _ n);
       read = λ s a d bs lent n. sym (left-lent _ lent _ n);
       write = λ s vs lent n. sym (left-lent _ lent _ n);

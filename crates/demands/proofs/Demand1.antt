@@ -23,6 +23,8 @@ use Rattle.path.specs.Answers.{noHop, aHop, hopAnswer, walked, walkAnswer, read
 use Rattle.path.proofs.CodecLaws.{array-of, listed-of}
 use Rattle.verdict.specs.Checks.{arrays, firstStop, firstPair, roomRefusal, listRefusal, walksOf, checkAnswer}
 use Rattle.build.specs.Answers.{buildAnswer}
+use Rattle.laying.specs.Answers as laying
+use Rattle.laying.specs.Answers.{layRefusal}
 use Rattle.finder.specs.declared.Found.{Found}
 use Rattle.finder.specs.Answers.{findRefusal, Finding}
 use Rattle.select.specs.declared.Selection.{Selection}
@@ -167,6 +169,12 @@ module _ (s : Shape) where
       let q = pairs-stop m 1 W (omega arith) (omega (arith, length-map (arrays m bs) (walkAnswer s t a d), arrays-long m bs)) in
       let k = first-of {m = m} {F = 8 ∷ 9 ∷ 10 ∷ 11 ∷ 12 ∷ 13 ∷ 14 ∷ 15 ∷ []} (firstStop 1 W) (firstPair 1 W) (one-of refl (p .0), p .1) (one-of refl (q .0), q .1) in
       bare-refuses (λ x. x) (λ r. r) (λ r. refl) m _ _ (one-of refl (k .0)) (k .1))
+
+  lay-route : (t : List ℕ) (a d : ℕ) (bs : List ℕ) → RefusalOf 1 (1 ∷ 2 ∷ 3 ∷ 4 ∷ 5 ∷ 6 ∷ 7 ∷ 8 ∷ 9 ∷ 10 ∷ 12 ∷ 13 ∷ 14 ∷ []) (layRefusal s t a d bs)
+  unfolding layRefusal laying.roomRefusal isIn
+  lay-route t a d bs =
+      answer-refuses (λ x. x) (λ r. r) (λ r. refl) 1 _ _ (room-numbers s t a d) refl refl
+      (λ z. let w = read-path a d bs in record { number = one-of refl (w .number); placed = w .placed; nothing-else = λ n. refl })
 
   find-route : (t : List ℕ) (a d : ℕ) (x : Found) → Finding s t a d x → FoundOf (1 ∷ 2 ∷ 3 ∷ 4 ∷ 5 ∷ 6 ∷ []) x
   unfolding findRefusal
@@ -323,6 +331,7 @@ every-call =
       reverse-path = reverse-path;
       write-path = write-path;
       check-list = check-list;
+      lay-route = lay-route;
       build-routes = build-routes;
       find-route = find-route;
       select-routes = select-routes;

@@ -158,8 +158,8 @@ broken-gives-way s t a d r f z =
 
 pub no-route-exactly : NoRouteExactly
 no-route-exactly s t a d r f = (
-  λ n. let e = selected.sixteen-only s t a d r f n in (e, selected.sixteen-exactly s t a d r e f .0 n),
-  λ p. selected.sixteen-exactly s t a d r (p .0) f .1 (p .1),
+  λ n. let e = selected.sixteen-only s t a d r f n in (e, selected.none-selected-exactly s t a d r e f .0 n),
+  λ p. selected.none-selected-exactly s t a d r (p .0) f .1 (p .1),
 )
 
 pub none-picked-exactly : NonePickedExactly

@@ -34,11 +34,13 @@ use Rattle.verdict.specs.Checks.{roomRefusal, checkAnswer}
 use Rattle.verdict.specs.Accepted.{Accepted}
 use Rattle.build.specs.declared.Building.{Building}
 use Rattle.build.specs.Answers.{noBuilding, buildAnswer}
+use Rattle.laying.proofs.LayLaws.{lay-exactly}
 use Rattle.finder.specs.declared.Found.{Found}
 use Rattle.finder.specs.Answers.{findRefusal, Finding}
 use Rattle.select.specs.declared.Selection.{Selection}
 use Rattle.select.specs.Selection.{selectRefusal, selection, Selecting}
-use Rattle.select.proofs.SelectLaws.{gives, sixteen-exactly}
+use Rattle.select.proofs.SlotLaws.{at-in}
+use Rattle.select.proofs.SelectLaws.{gives, none-selected-exactly}
 use Rattle.pick.specs.Picks.{Source, inFresh, inKept, nowhere, found, fits, listsRefusal, missing, pickRefusal, pickAnswer}
 use Rattle.pick.specs.Chosen.{NoneUsable}
 use Rattle.pick.proofs.Promises as picks
@@ -202,12 +204,12 @@ select-routes s t a d x f = (there, back)
     there : x .refusal .number ≡ 0 → TwoServers s a d × TableOf s t × ((vs : List ℕ) × RouteTo s t a d vs)
     there e =
         elim (ℕ-discrete (selectRefusal s t a d) 0) [
-          | yes z ↦ let p = room-of s t a d z in let g = gives f e in (p .0, p .1, (getD (g .routes) 0 [], g .settled .each 0 (g .some)))
+          | yes z ↦ let p = room-of s t a d z in let g = gives f e in (p .0, p .1, (getD (g .routes) 0 [], g .settled .each (getD (g .routes) 0 []) (at-in (g .routes) 0 (g .some))))
           | no n ↦ absurd (n (sym (ap (λ (y : Selection). y .refusal .number) (f .refused n)) ∙ e))
         ]
 
     sorted : (z : selectRefusal s t a d ≡ 0) (vss : List (List ℕ)) → x ≡ selection s vss → (vs : List ℕ) → RouteTo s t a d vs → x .refusal .number ≡ 0
-    sorted z [] e vs v = absurd (sixteen-exactly s t a d x z f .0 (ap (λ (y : Selection). y .refusal .number) e) vs v)
+    sorted z [] e vs v = absurd (none-selected-exactly s t a d x z f .0 (ap (λ (y : Selection). y .refusal .number) e) vs v)
     sorted z (us ∷ vss) e vs v = ap (λ (y : Selection). y .refusal .number) e
 
     back : TwoServers s a d × TableOf s t × ((vs : List ℕ) × RouteTo s t a d vs) → x .refusal .number ≡ 0
@@ -329,6 +331,7 @@ refused-exactly =
       reverse-path = reverse-exactly;
       write-path = write-exactly;
       check-list = check-list;
+      lay-route = lay-exactly;
       build-routes = λ s a d. none-exactly (λ (x : Building). x .refusal .number) noBuilding (λ r. refl) (endsRefusal s a d) _ refl (two-of s a d) two-none;
       find-route = find-route;
       select-routes = select-routes;

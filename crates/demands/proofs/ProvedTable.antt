@@ -1,12 +1,12 @@
 -- The proved table, proved.
-use Prim.Native.Nat.{ℕ, zero, suc, _-_, _<_, suc-le-suc, zero-le}
+use Prim.Native.Nat.{ℕ, suc, _-_, _<_}
 use mathlib.Core.Path.{_≡_, refl, sym, ap, subst}
 use mathlib.Core.Logic.{_⊎_, ⊎-elim}
 use mathlib.Core.Bool.{true, false}
-use mathlib.Core.List.{List, [], _∷_}
+use mathlib.Core.List.{List, [], _∷_, List·Memᴰ, List·Memᴰ·head, List·Memᴰ·eq-of-singleton}
 use native.Mathlib.Omega.{arith}
 use native.Mathlib.Decide.{ℕ-discrete}
-use lib.ListN.{length, getD, replicate}
+use lib.ListN.{length, replicate}
 use Rattle.room.specs.declared.Shape.{Shape}
 use Rattle.room.specs.Shapes.{shapeOf, serversOf, bound, Server}
 use Rattle.room.specs.Digits.{digitsOf, addressOf, padded, differFrom}
@@ -26,7 +26,7 @@ use Rattle.build.specs.declared.Building.{Building}
 use Rattle.build.specs.Built as build
 use Rattle.finder.specs.Alternates.{hopBytes}
 use Rattle.select.specs.Avoided.{avoided}
-use Rattle.select.specs.Selection.{Unbroken, Replaces, Slot, kept, replaced, Selects, selectRefusal, Selecting}
+use Rattle.select.specs.Selection.{Unbroken, Replaces, Slot, kept, replaced, SlotBySlot, selectRefusal, Selecting}
 use Rattle.select.proofs.OneAnswer.{selecting-unique}
 use Rattle.build.specs.Sets.{joined, setOf, arrayAt}
 use Rattle.build.specs.Answers.{noBuilding, aBuilding, buildAnswer}
@@ -160,11 +160,10 @@ unfolding serversOf live failed bit isIn switchTo switchAt levelTo byteTo byteOf
 first = refl
 
 alternate : Replaces (shapeOf 4 1) dead03 0 7 (direct ∷ []) around
-alternate = record { route = around-route; avoids = record { each = apart }; first = λ us r f. ⊎-elim (shorter us r (f .each 0 (suc-le-suc zero-le))) (λ b. none-before (shapeOf 4 1) dead03 7 (4096 ∷ 1 ∷ []) us _ first (switches .0) r (f .each 0 (suc-le-suc zero-le)) (b .0) (rw bytes at (b .1))) }
+alternate = record { route = around-route; avoids = record { each = apart }; first = λ us r f. ⊎-elim (shorter us r (f .each direct (List·Memᴰ·head refl))) (λ b. none-before (shapeOf 4 1) dead03 7 (4096 ∷ 1 ∷ []) us _ first (switches .0) r (f .each direct (List·Memᴰ·head refl)) (b .0) (rw bytes at (b .1))) }
   where
-    apart : (i : ℕ) → i < 1 → Parallel (shapeOf 4 1) around (getD (direct ∷ []) i [])
-    apart zero h = around-direct
-    apart (suc i) h = let z : ⊥ = omega arith in absurd z
+    apart : (vs : List ℕ) → List·Memᴰ vs (direct ∷ []) → Parallel (shapeOf 4 1) around vs
+    apart vs m = subst (Parallel (shapeOf 4 1) around) (sym (List·Memᴰ·eq-of-singleton m)) around-direct
 
     hops : (us : List ℕ) (m : ℕ) → farOff (shapeOf 4 1) dead03 7 (4096 ∷ 1 ∷ []) m 0 ≡ true → RouteTo (shapeOf 4 1) dead03 0 7 us → Parallel (shapeOf 4 1) us direct → length us ≡ suc m → ⊥
     hops us m e r p l = none-of (shapeOf 4 1) dead03 7 (4096 ∷ 1 ∷ []) us m e (switches .0) r p l
@@ -188,7 +187,7 @@ broken : Unbroken (shapeOf 4 1) dead03 (0 ∷ 3 ∷ 7 ∷ []) → ⊥
 unfolding live failed bit levelTo addresses.differing differFrom addresses.digits digitsOf
 broken u = let e : false ≡ true = u .alive 0 (omega arith) in let z : _≡_ {A = ℕ} 0 1 = cc in omega arith
 
-slots : Selects (shapeOf 4 1) dead03 0 7 2 [] (direct ∷ around ∷ [])
+slots : SlotBySlot (shapeOf 4 1) dead03 0 7 2 [] (direct ∷ around ∷ [])
 unfolding avoided
 slots = (
   direct ∷ [],

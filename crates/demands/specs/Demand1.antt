@@ -35,6 +35,7 @@ use Rattle.verdict.specs.Arrived.{nowhere}
 use Rattle.build.specs.declared.Building.{Building}
 use Rattle.build.specs.Sets.{emptySet}
 use Rattle.build.specs.Answers.{buildAnswer}
+use Rattle.laying.specs.Answers.{layRefusal, Lays}
 use Rattle.finder.specs.declared.Found.{Found}
 use Rattle.finder.specs.Answers.{Finding}
 use Rattle.select.specs.declared.Selection.{Selection}
@@ -164,7 +165,8 @@ pub record EveryCall : Type 0 where
   -- verdict: the routes are the arrays of the list
   pub check-list : (s : Shape) (t : List ℕ) (a d : ℕ) (bs : List ℕ)
       → RefusalOf (length bs / 8) (1 ∷ 2 ∷ 3 ∷ 4 ∷ 5 ∷ 6 ∷ 7 ∷ 8 ∷ 9 ∷ 10 ∷ 11 ∷ 12 ∷ 13 ∷ 14 ∷ 15 ∷ []) (checkAnswer s t a d bs)
-  -- build, finder, select
+  -- laying, build, finder, select
+  pub lay-route : (s : Shape) (t : List ℕ) (a d : ℕ) (bs : List ℕ) → RefusalOf 1 (1 ∷ 2 ∷ 3 ∷ 4 ∷ 5 ∷ 6 ∷ 7 ∷ 8 ∷ 9 ∷ 10 ∷ 12 ∷ 13 ∷ 14 ∷ []) (layRefusal s t a d bs)
   pub build-routes : (s : Shape) (a d : ℕ) → BuildingOf (1 ∷ 2 ∷ 3 ∷ 4 ∷ 5 ∷ []) (buildAnswer s a d)
   pub find-route : (s : Shape) (t : List ℕ) (a d : ℕ) (x : Found) → Finding s t a d x → FoundOf (1 ∷ 2 ∷ 3 ∷ 4 ∷ 5 ∷ 6 ∷ []) x
   pub select-routes : (s : Shape) (t : List ℕ) (a d : ℕ) (x : Selection) → Selecting s t a d x → SelectionOf (1 ∷ 2 ∷ 3 ∷ 4 ∷ 5 ∷ 6 ∷ 16 ∷ []) x
@@ -238,6 +240,7 @@ pub record RefusedExactly : Type 0 where
   pub reverse-path : (s : Shape) (a d : ℕ) (bs : List ℕ) → (reverseAnswer s a d bs .refusal .number ≡ 0) ↔ ((vs : List ℕ) × Encodes s [] a d bs vs)
   pub write-path : (s : Shape) (vs : List ℕ) → (writeAnswer s vs .refusal .number ≡ 0) ↔ Route s [] vs
   pub check-list : (s : Shape) (t : List ℕ) (a d : ℕ) (bs : List ℕ) → (checkAnswer s t a d bs .number ≡ 0) ↔ (TableOf s t × Accepted s t a d bs)
+  pub lay-route : (s : Shape) (t : List ℕ) (a d : ℕ) (bs : List ℕ) → (layRefusal s t a d bs .number ≡ 0) ↔ (TableOf s t × ((vs : List ℕ) × Encodes s [] a d bs vs))
   pub build-routes : (s : Shape) (a d : ℕ) → (buildAnswer s a d .refusal .number ≡ 0) ↔ TwoServers s a d
   pub find-route : (s : Shape) (t : List ℕ) (a d : ℕ) (x : Found) → Finding s t a d x → (x .refusal .number ≡ 0) ↔ (TwoServers s a d × TableOf s t)
   pub select-routes : (s : Shape) (t : List ℕ) (a d : ℕ) (x : Selection) → Selecting s t a d x
@@ -253,6 +256,8 @@ pub record EveryBuffer : Type 0 where
   -- marking and clearing
   pub marked : (s : Shape) (t : List ℕ) (a l : ℕ) → linkAnswer s t a l .number ≢ 0 → markedTable s t a l ≡ t
   pub cleared : (s : Shape) (t : List ℕ) (a l : ℕ) → linkAnswer s t a l .number ≢ 0 → clearedTable s t a l ≡ t
+  -- laying a route: r is what it answers, u what it leaves
+  pub laid : (s : Shape) (t : List ℕ) (a d : ℕ) (bs : List ℕ) (r : Refusal) (u : List ℕ) → Lays s t a d bs r u → r .number ≢ 0 → u ≡ t
   -- the calls from C, by what their contracts say is left
   pub digits : (s : Shape) (a : ℕ) (lent : List ℕ) → digitsAnswer s a .refusal .number ≢ 0 → digitsLeft lent (digitsAnswer s a) ≡ lent
   pub read : (s : Shape) (a d : ℕ) (bs lent : List ℕ) → readAnswer s a d bs .refusal .number ≢ 0 → readingLeft lent (readAnswer s a d bs) ≡ lent

@@ -19,7 +19,8 @@ use Rattle.path.specs.Answers.{endsRefusal, readAnswer, writeAnswer, reverseAns
 use Rattle.build.specs.Built.{builtRoute, builtBytes}
 use Rattle.build.specs.Sets.{setOf}
 use Rattle.select.specs.declared.Selection.{Selection}
-use Rattle.select.specs.Avoided.{avoided, Avoids}
+use Rattle.laying.specs.Avoids.{Avoids}
+use Rattle.select.specs.Avoided.{avoided}
 use Rattle.select.specs.Selection.{Unbroken, Replaces, selectRefusal, Selecting}
 use Rattle.pick.specs.Picks.{listsRefusal, pickAnswer}
 use Rattle.pick.specs.Chosen.{NoneUsable}
@@ -126,9 +127,9 @@ pub record SlotGives (s : Shape) (t : List ℕ) (a d i : ℕ) (routes : List (Li
   pub kept : Unbroken s t (builtRoute s i a d) → given ≡ builtRoute s i a d ∷ []
   -- a broken one gives way to the alternate where one exists
   pub replaced : (Unbroken s t (builtRoute s i a d) → ⊥)
-      → (vs : List ℕ) → RouteTo s t a d vs → Avoids s (avoided s a d i higher) vs → (us : List ℕ) × (given ≡ us ∷ []) × Replaces s t a d (avoided s a d i higher) us
+      → (vs : List ℕ) → RouteTo s t a d vs → Avoids s (avoided s t a d i higher) vs → (us : List ℕ) × (given ≡ us ∷ []) × Replaces s t a d (avoided s t a d i higher) us
   -- and to nothing where none exists
-  pub nothing : (Unbroken s t (builtRoute s i a d) → ⊥) → ((vs : List ℕ) → RouteTo s t a d vs → Avoids s (avoided s a d i higher) vs → ⊥) → given ≡ []
+  pub nothing : (Unbroken s t (builtRoute s i a d) → ⊥) → ((vs : List ℕ) → RouteTo s t a d vs → Avoids s (avoided s t a d i higher) vs → ⊥) → given ≡ []
 
 -- the routes that selection answers, in slot order, and each slot of them
 pub record Slots (s : Shape) (t : List ℕ) (a d : ℕ) (r : Selection) : Type 0 where

@@ -7,7 +7,7 @@ use native.Mathlib.Decide.{ℕ-discrete}
 use Rattle.room.specs.declared.Shape.{Shape}
 use Rattle.finder.proofs.OneAlternate.{route-order}
 use Rattle.select.specs.declared.Selection.{Selection}
-use Rattle.select.specs.Selection.{Replaces, Slot, kept, replaced, nothing, Selects, selectRefusal, selection, Selecting}
+use Rattle.select.specs.Selection.{Replaces, Slot, kept, replaced, nothing, SlotBySlot, selectRefusal, selection, Selecting}
 
 -- ---- one alternate
 
@@ -30,11 +30,11 @@ slot-unique (nothing b r) (kept u) = absurd (b u)
 slot-unique (nothing b r) (replaced {vs} c q) = absurd (r vs (q .route) (q .avoids))
 slot-unique (nothing b r) (nothing c q) = refl
 
-pub selects-unique : (s : Shape) (t : List ℕ) (a d m : ℕ) (settled us vs : List (List ℕ)) → Selects s t a d m settled us → Selects s t a d m settled vs → us ≡ vs
-selects-unique s t a d zero settled us vs e f = sym e ∙ f
-selects-unique s t a d (suc i) settled us vs c e =
-    selects-unique s t a d i (settled ++ c .0) us vs (c .2)
-    (subst (λ (g : List (List ℕ)). Selects s t a d i (settled ++ g) vs) (slot-unique (e .1) (c .1)) (e .2))
+pub slots-unique : (s : Shape) (t : List ℕ) (a d m : ℕ) (settled us vs : List (List ℕ)) → SlotBySlot s t a d m settled us → SlotBySlot s t a d m settled vs → us ≡ vs
+slots-unique s t a d zero settled us vs e f = sym e ∙ f
+slots-unique s t a d (suc i) settled us vs c e =
+    slots-unique s t a d i (settled ++ c .0) us vs (c .2)
+    (subst (λ (g : List (List ℕ)). SlotBySlot s t a d i (settled ++ g) vs) (slot-unique (e .1) (c .1)) (e .2))
 
 -- ---- two answers that meet what selection promises are equal
 
@@ -43,6 +43,6 @@ selecting-unique {s} {t} {a} {d} {q} {r} h k =
     elim (ℕ-discrete (selectRefusal s t a d) 0) [
       | yes e ↦ let x = h .given e in
           let y = k .given e in
-          x .answer ∙ ap (selection s) (selects-unique s t a d (suc (s .k)) [] (x .routes) (y .routes) (x .slots) (y .slots)) ∙ sym (y .answer)
+          x .answer ∙ ap (selection s) (slots-unique s t a d (suc (s .k)) [] (x .routes) (y .routes) (x .slots) (y .slots)) ∙ sym (y .answer)
       | no e ↦ h .refused e ∙ sym (k .refused e)
     ]
