@@ -17,7 +17,7 @@ use Rattle.path.specs.Lists.{isIn, middle}
 use Rattle.path.specs.Routes.{switchAt, levelTo, switchTo, switchesOf, Route, RouteTo}
 use Rattle.path.proofs.ListLaws.{Missing, in-missing, missing-in, turn-at, length-middle, middle-at}
 use Rattle.laying.specs.Avoids.{Avoids}
-use Rattle.laying.specs.Laid.{takes, taken, Laid}
+use Rattle.laying.specs.Laid.{takes, taken, Marks, Laid}
 use Rattle.laying.proofs.MarkLaws.{or-assoc, marks-then, switches-long}
 
 -- ---- tests that fail
@@ -28,6 +28,74 @@ neither false q e = (refl, e)
 
 both-fail : (p q : Bool) → p ≡ false → q ≡ false → p || q ≡ false
 both-fail p q e f = ap (λ (x : Bool). x || q) e ∙ f
+
+-- ---- any links marked: a route over the table with them is a route over the table that crosses none of them
+
+-- a route whose hops are live over another table
+pub route-over : {s : Shape} {t u : List ℕ} {a d : ℕ} {vs : List ℕ} → RouteTo s t a d vs → ((i : ℕ) → suc i < length vs → live u (levelTo s (getD vs i 0) (getD vs (suc i) 0)) (getD vs i 0) (getD vs (suc i) 0) ≡ true) → RouteTo s u a d vs
+route-over r alive =
+    record {
+      route = record {
+        some = r .route .some;
+        few = r .route .few;
+        servers = r .route .servers;
+        hops = r .route .hops;
+        alive = alive;
+        servers-once = r .route .servers-once;
+        switches-once = r .route .switches-once;
+      };
+      source = r .source;
+      arrives = r .arrives;
+    }
+
+-- no hop of route vs crosses one of these links
+pub record CrossesNone (s : Shape) (links : ℕ → ℕ → Bool) (vs : List ℕ) : Type 0 where
+  pub sender : (i : ℕ) → suc i < length vs → links (getD vs i 0) (levelTo s (getD vs i 0) (getD vs (suc i) 0)) ≡ false
+  pub receiver : (i : ℕ) → suc i < length vs → links (getD vs (suc i) 0) (levelTo s (getD vs i 0) (getD vs (suc i) 0)) ≡ false
+
+module _ {s : Shape} {t : List ℕ} {links : ℕ → ℕ → Bool} {u : List ℕ} (marks : Marks s t links u) where
+  marks-link : (x l : ℕ) → Link s x l → (failed u x l ≡ false) ↔ ((failed t x l ≡ false) × (links x l ≡ false))
+  marks-link x l h = (
+    λ e. neither (failed t x l) (links x l) (sym (marks .marks x l h) ∙ e),
+    λ p. marks .marks x l h ∙ both-fail (failed t x l) (links x l) (p .0) (p .1),
+  )
+
+  marks-hop : (l x y : ℕ) → Link s x l → Link s y l → (live u l x y ≡ true) ↔ ((live t l x y ≡ true) × (links x l ≡ false) × (links y l ≡ false))
+  marks-hop l x y hx hy = (
+    λ e.
+        let p = live-exactly u l x y .0 e in
+        let px = marks-link x l hx .0 (p .0) in
+        let py = marks-link y l hy .0 (p .1) in
+        (live-exactly t l x y .1 (px .0, py .0), px .1, py .1),
+    λ p.
+        let q = live-exactly t l x y .0 (p .0) in
+        live-exactly u l x y .1 (marks-link x l hx .1 (q .0, p .1), marks-link y l hy .1 (q .1, p .2)),
+  )
+
+  module _ {w vs : List ℕ} (r : Route s w vs) (i : ℕ) (h : suc i < length vs) where
+    abbrev x : ℕ
+    x = getD vs i 0
+
+    abbrev y : ℕ
+    y = getD vs (suc i) 0
+
+    abbrev l : ℕ
+    l = levelTo s x y
+
+    hop-exactly : (live u l x y ≡ true) ↔ ((live t l x y ≡ true) × (links x l ≡ false) × (links y l ≡ false))
+    hop-exactly = marks-hop l x y (record { server = r .servers i (omega arith); level = r .hops i h .level }) (record { server = r .servers (suc i) h; level = r .hops i h .level })
+
+  pub marks-exactly : (a d : ℕ) (vs : List ℕ) → RouteTo s u a d vs ↔ (RouteTo s t a d vs × CrossesNone s links vs)
+  marks-exactly a d vs = (
+    λ r. (
+      route-over r (λ i h. hop-exactly (r .route) i h .0 (r .route .alive i h) .0),
+      record {
+        sender = λ i h. hop-exactly (r .route) i h .0 (r .route .alive i h) .1;
+        receiver = λ i h. hop-exactly (r .route) i h .0 (r .route .alive i h) .2;
+      },
+    ),
+    λ p. route-over (p .0) (λ i h. hop-exactly (p .0 .route) i h .1 (p .0 .route .alive i h, p .1 .sender i h, p .1 .receiver i h)),
+  )
 
 -- ---- one list of routes laid after another
 
@@ -69,30 +137,7 @@ all-spare s [] x l h = refl
 all-spare s (vs ∷ vss) x l h =
     both-fail (takes s vs x l) (taken s vss x l) (spares-exactly s vs x l .1 (h vs (List·Memᴰ·head refl))) (all-spare s vss x l (λ us m. h us (List·Memᴰ·tail m)))
 
--- ---- one hop: over the table with routes laid into it a hop is live exactly when it is live over the table and each route spares
--- both of its links
-
-module _ {s : Shape} {t : List ℕ} {routes : List (List ℕ)} {u : List ℕ} (laid : Laid s t routes u) where
-  laid-link : (x l : ℕ) → Link s x l → (failed u x l ≡ false) ↔ ((failed t x l ≡ false) × ((vs : List ℕ) → In vs routes → Spares s vs x l))
-  laid-link x l h = (
-    λ e. let p = neither (failed t x l) (taken s routes x l) (sym (laid .marks x l h) ∙ e) in (p .0, λ vs m. untaken (p .1) m),
-    λ p. laid .marks x l h ∙ both-fail (failed t x l) (taken s routes x l) (p .0) (all-spare s routes x l (p .1)),
-  )
-
-  laid-hop : (l x y : ℕ) → Link s x l → Link s y l
-      → (live u l x y ≡ true) ↔ ((live t l x y ≡ true) × ((vs : List ℕ) → In vs routes → Spares s vs x l) × ((vs : List ℕ) → In vs routes → Spares s vs y l))
-  laid-hop l x y hx hy = (
-    λ e.
-        let p = live-exactly u l x y .0 e in
-        let px = laid-link x l hx .0 (p .0) in
-        let py = laid-link y l hy .0 (p .1) in
-        (live-exactly t l x y .1 (px .0, py .0), px .1, py .1),
-    λ p.
-        let q = live-exactly t l x y .0 (p .0) in
-        live-exactly u l x y .1 (laid-link x l hx .1 (q .0, p .1), laid-link y l hy .1 (q .1, p .2)),
-  )
-
--- ---- whole routes
+-- ---- whole routes: to cross none of the links that routes take up is to avoid the routes
 
 switches-at : (s : Shape) (vs : List ℕ) (i : ℕ) → suc i < length vs → getD (switchesOf s vs) i 0 ≡ switchAt s (levelTo s (getD vs i 0) (getD vs (suc i) 0)) (getD vs i 0)
 unfolding switchesOf switchTo
@@ -111,59 +156,25 @@ dest-missing : {s : Shape} {t : List ℕ} {a d : ℕ} {vs : List ℕ} → RouteT
 dest-missing {vs = vs} h =
     record { not-at = λ i p e. h .route .servers-once .apart (suc i) (length vs - 1) (omega (arith, length-middle vs)) (omega (arith, length-middle vs)) (sym (middle-at vs i (omega (arith, length-middle vs))) ∙ e ∙ sym (h .arrives)) }
 
--- a route whose hops are live over another table
-pub route-over : {s : Shape} {t u : List ℕ} {a d : ℕ} {vs : List ℕ} → RouteTo s t a d vs → ((i : ℕ) → suc i < length vs → live u (levelTo s (getD vs i 0) (getD vs (suc i) 0)) (getD vs i 0) (getD vs (suc i) 0) ≡ true) → RouteTo s u a d vs
-route-over r alive =
-    record {
-      route = record {
-        some = r .route .some;
-        few = r .route .few;
-        servers = r .route .servers;
-        hops = r .route .hops;
-        alive = alive;
-        servers-once = r .route .servers-once;
-        switches-once = r .route .switches-once;
-      };
-      source = r .source;
-      arrives = r .arrives;
-    }
-
-module _ {s : Shape} {t : List ℕ} {a d : ℕ} {routes : List (List ℕ)} {u : List ℕ} (laid : Laid s t routes u) (between : (vs : List ℕ) → In vs routes → RouteTo s [] a d vs) where
-  module _ {w vs : List ℕ} (r : Route s w vs) (i : ℕ) (h : suc i < length vs) where
-    abbrev x : ℕ
-    x = getD vs i 0
-
-    abbrev y : ℕ
-    y = getD vs (suc i) 0
-
-    abbrev l : ℕ
-    l = levelTo s x y
-
-    hop-exactly : (live u l x y ≡ true) ↔ ((live t l x y ≡ true) × ((us : List ℕ) → In us routes → Spares s us x l) × ((us : List ℕ) → In us routes → Spares s us y l))
-    hop-exactly =
-        laid-hop laid l x y (record { server = r .servers i (omega arith); level = r .hops i h .level }) (record { server = r .servers (suc i) h; level = r .hops i h .level })
-
-  pub laid-route : {vs : List ℕ} → RouteTo s u a d vs → RouteTo s t a d vs
-  laid-route r = route-over r (λ i h. hop-exactly (r .route) i h .0 (r .route .alive i h) .0)
-
-  pub laid-avoids : {vs : List ℕ} → RouteTo s u a d vs → Avoids s routes vs
-  laid-avoids {vs} r =
+module _ {s : Shape} {t : List ℕ} {a d : ℕ} {routes : List (List ℕ)} (between : (vs : List ℕ) → In vs routes → RouteTo s [] a d vs) {vs : List ℕ} (r : RouteTo s t a d vs) where
+  crossing-avoids : CrossesNone s (taken s routes) vs → Avoids s routes vs
+  crossing-avoids c =
       record {
         each = λ us m. record {
           switches = record {
             apart = λ i j p q e.
                 let h : suc i < length vs = omega (arith, switches-long s vs) in
-                hop-exactly (r .route) i h .0 (r .route .alive i h) .1 us m .switch .not-at j q (sym e ∙ switches-at s vs i h);
+                untaken (c .sender i h) m .switch .not-at j q (sym e ∙ switches-at s vs i h);
           };
           servers = record {
             apart = λ i j p q e.
                 let h : suc (suc i) < length vs = omega (arith, length-middle vs) in
-                hop-exactly (r .route) (suc i) h .0 (r .route .alive (suc i) h) .1 us m .server .not-at j q (sym e ∙ middle-at vs i (omega arith));
+                untaken (c .sender (suc i) h) m .server .not-at j q (sym e ∙ middle-at vs i (omega arith));
           };
         };
       }
 
-  module _ {vs : List ℕ} (r : RouteTo s t a d vs) (f : Avoids s routes vs) where
+  module _ (f : Avoids s routes vs) where
     -- no route has a server of a route that avoids it as a middle server
     clear-server : {us : List ℕ} → In us routes → (i : ℕ) → i < length vs → Missing (getD vs i 0) (middle us)
     clear-server {us} m zero h = subst (λ (z : ℕ). Missing z (middle us)) (sym (r .source)) (source-missing (between us m))
@@ -177,15 +188,17 @@ module _ {s : Shape} {t : List ℕ} {a d : ℕ} {routes : List (List ℕ)} {u : 
     clear-switch : {us : List ℕ} → In us routes → (i : ℕ) → suc i < length vs → Missing (switchAt s (levelTo s (getD vs i 0) (getD vs (suc i) 0)) (getD vs i 0)) (switchesOf s us)
     clear-switch {us} m i h = record { not-at = λ j w e. f .each us m .switches .apart i j (omega (arith, switches-long s vs)) w (switches-at s vs i h ∙ sym e) }
 
-    pub laid-from : RouteTo s u a d vs
-    laid-from =
-        route-over r
-        (λ i h. hop-exactly (r .route) i h .1 (
-          r .route .alive i h,
-          λ us m. record { server = clear-server m i (omega arith); switch = clear-switch m i h },
-          λ us m. record { server = clear-server m (suc i) h; switch = subst (λ (w : ℕ). Missing w (switchesOf s us)) (beside-switch (r .route .hops i h)) (clear-switch m i h) },
-        ))
+    avoids-crossing : CrossesNone s (taken s routes) vs
+    avoids-crossing =
+        record {
+          sender = λ i h. all-spare s routes _ _ (λ us m. record { server = clear-server m i (omega arith); switch = clear-switch m i h });
+          receiver = λ i h. all-spare s routes _ _
+              (λ us m. record { server = clear-server m (suc i) h; switch = subst (λ (w : ℕ). Missing w (switchesOf s us)) (beside-switch (r .route .hops i h)) (clear-switch m i h) });
+        }
 
-  -- a route over the table with routes laid into it is a route over the table that is parallel to each of them
-  pub laid-exactly : (vs : List ℕ) → RouteTo s u a d vs ↔ (RouteTo s t a d vs × Avoids s routes vs)
-  laid-exactly vs = (λ r. (laid-route r, laid-avoids r), λ p. laid-from (p .0) (p .1))
+-- a route over the table with routes laid into it is a route over the table that is parallel to each of them
+pub laid-exactly : {s : Shape} {t : List ℕ} {a d : ℕ} {routes : List (List ℕ)} {u : List ℕ} → Laid s t routes u → ((vs : List ℕ) → In vs routes → RouteTo s [] a d vs) → (vs : List ℕ) → RouteTo s u a d vs ↔ (RouteTo s t a d vs × Avoids s routes vs)
+laid-exactly {a = a} {d} laid between vs = (
+  λ r. let p = marks-exactly laid a d vs .0 r in (p .0, crossing-avoids between (p .0) (p .1)),
+  λ p. marks-exactly laid a d vs .1 (p .0, avoids-crossing between (p .0) (p .1)),
+)

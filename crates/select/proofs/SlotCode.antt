@@ -29,7 +29,7 @@ use Rattle.finder.specs.declared.Found.{Found}
 use Rattle.finder.specs.Alternates.{Alternate}
 use Rattle.finder.specs.Answers.{findRefusal, Finding}
 use Rattle.laying.specs.Laid.{Laid}
-use Rattle.laying.proofs.LaidLaws.{laid-route, laid-avoids, laid-from}
+use Rattle.laying.proofs.LaidLaws.{laid-exactly}
 use Rattle.select.specs.declared.Selection.{Selection}
 use Rattle.select.specs.Avoided.{avoided}
 use Rattle.select.specs.Selection.{Unbroken, Replaces, Slot, kept, replaced, nothing, selectRefusal, noSelection, selection, Selecting}
@@ -97,19 +97,16 @@ module _ {s : Shape} {a d : ℕ} (ends : Ends s a d) (built : RouteSet) (b : bui
 
 module _ {s : Shape} {t : List ℕ} {a d : ℕ} {routes : List (List ℕ)} {u : List ℕ} (laid : Laid s t routes u) (between : (vs : List ℕ) → In vs routes → RouteTo s [] a d vs) where
   alternate-around : {vs : List ℕ} → Alternate s u a d vs → Replaces s t a d routes vs
-  alternate-around h =
-      record {
-        route = laid-route laid between (h .route);
-        avoids = laid-avoids laid between (h .route);
-        first = λ us r f b. h .first us (laid-from laid between r f) b;
-      }
+  alternate-around {vs} h =
+      let p = laid-exactly laid between vs .0 (h .route) in
+      record { route = p .0; avoids = p .1; first = λ us r f b. h .first us (laid-exactly laid between us .1 (r, f)) b }
 
   around-of : {r : Found} → Ends s a d → Finding s u a d r → Around s t a d routes r
   unfolding findRefusal
   around-of {r} ends f =
       record {
         given = λ p. let g = f .given none p in (g .servers, alternate-around (g .alternate), ap (λ (x : Found). x .bytes) (g .answer));
-        none = λ p vs k m. f .none none p .1 vs (laid-from laid between k m);
+        none = λ p vs k m. f .none none p .1 vs (laid-exactly laid between vs .1 (k, m));
       }
     where
       none : findRefusal s u a d ≡ 0
