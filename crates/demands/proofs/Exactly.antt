@@ -39,7 +39,7 @@ use Rattle.finder.specs.declared.Found.{Found}
 use Rattle.finder.specs.Answers.{findRefusal, Finding}
 use Rattle.select.specs.declared.Selection.{Selection}
 use Rattle.select.specs.Selection.{selectRefusal, selection, Selecting}
-use Rattle.select.proofs.SlotLaws.{at-in}
+use Rattle.select.proofs.SlotLaws.{member-at}
 use Rattle.select.proofs.SelectLaws.{gives, none-selected-exactly}
 use Rattle.pick.specs.Picks.{Source, inFresh, inKept, nowhere, found, fits, listsRefusal, missing, pickRefusal, pickAnswer}
 use Rattle.pick.specs.Chosen.{NoneUsable}
@@ -204,7 +204,7 @@ select-routes s t a d x f = (there, back)
     there : x .refusal .number ≡ 0 → TwoServers s a d × TableOf s t × ((vs : List ℕ) × RouteTo s t a d vs)
     there e =
         elim (ℕ-discrete (selectRefusal s t a d) 0) [
-          | yes z ↦ let p = room-of s t a d z in let g = gives f e in (p .0, p .1, (getD (g .routes) 0 [], g .settled .each (getD (g .routes) 0 []) (at-in (g .routes) 0 (g .some))))
+          | yes z ↦ let p = room-of s t a d z in let g = gives f e in (p .0, p .1, (getD (g .routes) 0 [], g .settled .each (getD (g .routes) 0 []) (member-at (g .routes) 0 (g .some))))
           | no n ↦ absurd (n (sym (ap (λ (y : Selection). y .refusal .number) (f .refused n)) ∙ e))
         ]
 

@@ -255,16 +255,16 @@ in-more x i xs h =
     ap (λ (m : ℕ). isIn x (take m xs)) (add-one i) ∙ ap (isIn x) (take-suc xs i 0 h) ∙ in-snoc x (take i xs) (getD xs i 0)
 
 -- the links x, l are marked for which f x l is among the first i of a list
-pub record Among (f : ℕ → ℕ → ℕ) (s : Shape) (t xs : List ℕ) (i : ℕ) (u : List ℕ) : Type 0 where
+pub record MarkedAmong (f : ℕ → ℕ → ℕ) (s : Shape) (t xs : List ℕ) (i : ℕ) (u : List ℕ) : Type 0 where
   pub below : i ≤ length xs
   pub marks : Marks s t (λ x l. isIn (f x l) (take i xs)) u
 
 module _ {f : ℕ → ℕ → ℕ} {s : Shape} {t xs : List ℕ} where
-  pub among-start : TableOf s t → Among f s t xs 0 t
+  pub among-start : TableOf s t → MarkedAmong f s t xs 0 t
   unfolding isIn
   among-start h = record { below = omega arith; marks = marks-none (λ x l. isIn (f x l) []) h (λ x l. refl) }
 
-  pub among-step : {u v : List ℕ} {i : ℕ} → Among f s t xs i u → i < length xs → (y : ℕ) → y ≡ getD xs i 0 → Marks s u (λ x l. eqb (f x l) y) v → Among f s t xs (i + 1) v
+  pub among-step : {u v : List ℕ} {i : ℕ} → MarkedAmong f s t xs i u → i < length xs → (y : ℕ) → y ≡ getD xs i 0 → Marks s u (λ x l. eqb (f x l) y) v → MarkedAmong f s t xs (i + 1) v
   among-step {i = i} p h y e q =
       record {
         below = omega arith;
@@ -272,7 +272,7 @@ module _ {f : ℕ → ℕ → ℕ} {s : Shape} {t xs : List ℕ} where
             (λ x l k. in-more (f x l) i xs h ∙ ap (λ (z : ℕ). isIn (f x l) (take i xs) || eqb (f x l) z) (sym e));
       }
 
-  pub among-done : {u : List ℕ} {i : ℕ} → Among f s t xs i u → length xs ≤ i → Marks s t (λ x l. isIn (f x l) xs) u
+  pub among-done : {u : List ℕ} {i : ℕ} → MarkedAmong f s t xs i u → length xs ≤ i → Marks s t (λ x l. isIn (f x l) xs) u
   among-done {i = i} p h = marks-same (λ x l. isIn (f x l) (take i xs)) (λ x l. isIn (f x l) xs) (λ x l k. ap (isIn (f x l)) (take-all i xs h)) (p .marks)
 
 -- ---- the hops of a route
@@ -303,14 +303,14 @@ unfolding switchesOf
 switches-long s vs = length-turn (switchTo s) vs
 
 -- the links to the first i switches that a route uses
-abbrev pub AmongSwitches : (s : Shape) (t vs : List ℕ) (i : ℕ) (u : List ℕ) → Type 0
-AmongSwitches s t vs i u = Among (λ x l. switchAt s l x) s t (switchesOf s vs) i u
+abbrev pub MarkedSwitches : (s : Shape) (t vs : List ℕ) (i : ℕ) (u : List ℕ) → Type 0
+MarkedSwitches s t vs i u = MarkedAmong (λ x l. switchAt s l x) s t (switchesOf s vs) i u
 
-pub switches-step : {s : Shape} {t u v w vs : List ℕ} {i : ℕ} → Route s w vs → AmongSwitches s t vs i u → i + 1 < length vs → (b : Between) → b ≡ betweenAnswer s (getD vs i 0) (getD vs (i + 1) 0) → Marks s u (λ x l. eqb (switchAt s l x) (switchAt s (b .level) (getD vs i 0))) v → AmongSwitches s t vs (i + 1) v
+pub switches-step : {s : Shape} {t u v w vs : List ℕ} {i : ℕ} → Route s w vs → MarkedSwitches s t vs i u → i + 1 < length vs → (b : Between) → b ≡ betweenAnswer s (getD vs i 0) (getD vs (i + 1) 0) → Marks s u (λ x l. eqb (switchAt s l x) (switchAt s (b .level) (getD vs i 0))) v → MarkedSwitches s t vs (i + 1) v
 switches-step {s} {vs = vs} {i = i} route p h b e q =
     among-step p (omega (arith, switches-long s vs)) (switchAt s (b .level) (getD vs i 0)) (hop-switch route i h b e) q
 
-pub switches-done : {s : Shape} {t u : List ℕ} {i : ℕ} (vs : List ℕ) → AmongSwitches s t vs i u → length vs ≤ i + 1 → Marks s t (λ x l. isIn (switchAt s l x) (switchesOf s vs)) u
+pub switches-done : {s : Shape} {t u : List ℕ} {i : ℕ} (vs : List ℕ) → MarkedSwitches s t vs i u → length vs ≤ i + 1 → Marks s t (λ x l. isIn (switchAt s l x) (switchesOf s vs)) u
 switches-done {s} vs p h = among-done p (omega (arith, switches-long s vs))
 
 -- ---- a whole route: its middle servers, as the program takes them, then its switches

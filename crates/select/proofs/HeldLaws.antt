@@ -22,7 +22,7 @@ use Rattle.laying.proofs.MarkLaws.{marks-none}
 use Rattle.laying.proofs.LaidLaws.{laid-both}
 use Rattle.laying.proofs.LayLaws.{lays-laid}
 use Rattle.select.specs.Inside.{Holds}
-use Rattle.select.proofs.SlotLaws.{at-in}
+use Rattle.select.proofs.SlotLaws.{member-at}
 
 -- ---- eight bytes of a set
 
@@ -107,7 +107,7 @@ module _ {s : Shape} {a d : ℕ} {set : RouteSet} {routes : List (List ℕ)} (h 
   holds-array j p = ap (arrayAt j) (h .written) ∙ route-array s routes (λ vs m. h .each vs m .route .few) j p
 
   holds-encodes : (j : ℕ) → j < length routes → (x : List ℕ) → x ≡ arrayAt j set → Encodes s [] a d x (getD routes j [])
-  holds-encodes j p x e = record { route = h .each (getD routes j []) (at-in routes j p); bytes = e ∙ holds-array j p }
+  holds-encodes j p x e = record { route = h .each (getD routes j []) (member-at routes j p); bytes = e ∙ holds-array j p }
 
 -- ---- the routes of a set laid, one after another
 

@@ -33,7 +33,7 @@ use Rattle.select.specs.declared.Selection.{Selection}
 use Rattle.select.specs.Selection.{Unbroken, Slot, kept, replaced, nothing, SlotBySlot, selectRefusal, selection, GivesRoutes, Selecting}
 use Rattle.select.specs.Inside.{Settled}
 use Rattle.select.proofs.AvoidedLaws.{lower, none-avoided}
-use Rattle.select.proofs.SlotLaws.{at-in, all-settled}
+use Rattle.select.proofs.SlotLaws.{member-at, all-settled}
 
 -- ---- where nothing is refused
 
@@ -101,8 +101,8 @@ gives-accepted {s} {t} {a} {d} {r} g =
       routes = g .routes;
       some = g .some;
       most = omega (arith, g .settled .few);
-      bytes = ap held (g .written) ∙ set-held s (g .routes) (λ i p. g .settled .each (getD (g .routes) i []) (at-in (g .routes) i p) .route .few);
-      each = λ i p. g .settled .each (getD (g .routes) i []) (at-in (g .routes) i p);
+      bytes = ap held (g .written) ∙ set-held s (g .routes) (λ i p. g .settled .each (getD (g .routes) i []) (member-at (g .routes) i p) .route .few);
+      each = λ i p. g .settled .each (getD (g .routes) i []) (member-at (g .routes) i p);
       apart = g .settled .apart;
     }
 

@@ -24,10 +24,10 @@ pub unbroken-route : {s : Shape} {t : List ℕ} {a d : ℕ} {vs : List ℕ} → 
 unbroken-route r h = route-over r (h .alive)
 
 -- what is at a place of a list is in it
-pub at-in : (vss : List (List ℕ)) (i : ℕ) → i < length vss → In (getD vss i []) vss
-at-in [] i h = let z : ⊥ = omega arith in absurd z
-at-in (vs ∷ vss) zero h = List·Memᴰ·head refl
-at-in (vs ∷ vss) (suc i) h = List·Memᴰ·tail (at-in vss i (omega arith))
+pub member-at : (vss : List (List ℕ)) (i : ℕ) → i < length vss → In (getD vss i []) vss
+member-at [] i h = let z : ⊥ = omega arith in absurd z
+member-at (vs ∷ vss) zero h = List·Memᴰ·head refl
+member-at (vs ∷ vss) (suc i) h = List·Memᴰ·tail (member-at vss i (omega arith))
 
 -- nothing settled yet
 pub settled-none : (s : Shape) (t : List ℕ) (a d : ℕ) → Settled s t a d (suc (s .k)) []
@@ -66,7 +66,7 @@ module _ {s : Shape} {t : List ℕ} {a d i : ℕ} {routes : List (List ℕ)} (h 
         apart = λ j m p q.
             let w : j < length routes = omega (arith, more-long) in
             elim (ℕ-discrete m (length routes)) [
-              | yes e ↦ rw (more-in j w, more-end m e) (before (getD routes j []) (at-in routes j w))
+              | yes e ↦ rw (more-in j w, more-end m e) (before (getD routes j []) (member-at routes j w))
               | no e ↦ let v : m < length routes = omega (arith, more-long) in rw (more-in j w, more-in m v) (h .apart j m p v)
             ];
         clear = of-more (λ us. (m : ℕ) → m < i → Unbroken s t (builtRoute s m a d) → Parallel s us (builtRoute s m a d)) (λ us n m q. h .clear us n m (omega arith)) after;

@@ -3,12 +3,12 @@ use native.Mathlib.Omega.{arith}
 use Prim.Native.Nat.{_-_}
 use mathlib.Core.Path.{refl}
 use lib.ListN.{length}
-use Rattle.laying.proofs.MarkLaws.{Among, among-start, among-step, among-done}
+use Rattle.laying.proofs.MarkLaws.{MarkedAmong, among-start, among-step, among-done}
 use Rattle.laying.proofs.marks.mark_servers.Statement.{statement}
 use Rattle.laying.proofs.marks.mark_servers.Tie as tie
 
 abbrev Inv-loop : tie.InvT-loop
-Inv-loop shape copy₀ servers i₀ copy i = Among (λ x l. x) shape copy₀ servers i copy
+Inv-loop shape copy₀ servers i₀ copy i = MarkedAmong (λ x l. x) shape copy₀ servers i copy
 
 abbrev μ-loop : tie.MeasureT-loop
 μ-loop shape copy₀ servers i₀ copy i = length servers - i

@@ -3,12 +3,12 @@ use borrow.Author.Needs.{needs}
 use native.Mathlib.Omega.{arith}
 use Prim.Native.Nat.{_+_, _≤_, _-_}
 use lib.ListN.{length}
-use Rattle.laying.proofs.MarkLaws.{AmongSwitches, among-start, hop-link, switches-step, switches-done}
+use Rattle.laying.proofs.MarkLaws.{MarkedSwitches, among-start, hop-link, switches-step, switches-done}
 use Rattle.laying.proofs.marks.mark_switches.Statement.{statement}
 use Rattle.laying.proofs.marks.mark_switches.Tie as tie
 
 abbrev Inv-loop : tie.InvT-loop
-Inv-loop shape copy₀ servers i₀ copy i = (i + 1 ≤ length servers) × AmongSwitches shape copy₀ servers i copy
+Inv-loop shape copy₀ servers i₀ copy i = (i + 1 ≤ length servers) × MarkedSwitches shape copy₀ servers i copy
 
 abbrev μ-loop : tie.MeasureT-loop
 μ-loop shape copy₀ servers i₀ copy i = length servers - i
