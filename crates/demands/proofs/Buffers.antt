@@ -1,4 +1,4 @@
--- Lent buffers and the words of the calls from C, proved.
+-- Lent buffers, and the rooms and words of the calls from C, proved.
 use Prim.Native.Nat.{ℕ, zero, suc, _≤_, _<_}
 use mathlib.Core.Path.{_≡_, refl, sym, ap, _∙_}
 use mathlib.Core.Logic.{_≢_}
@@ -10,7 +10,7 @@ use Rattle.room.specs.declared.Refusal.{Refusal}
 use Rattle.room.specs.Refusals.{shapeRefusal}
 use Rattle.room.specs.Answers.{answer, betweenAnswer}
 use Rattle.links.specs.Answers.{failedAnswer, linkAnswer, markedTable, clearedTable}
-use Rattle.step.proofs.PackLaws.{step-unpacks}
+use Rattle.driver.specs.declared.Answer.{Answer}
 use Rattle.driver.specs.Words.{word, refusalIn, valueIn, Small, betweenWord, askedWord}
 use Rattle.driver.proofs.WordLaws.{refusal-back, value-back, plain-small, left-lent}
 use Rattle.driver.proofs.BoundLaws.{shape-le}
@@ -18,15 +18,20 @@ use Rattle.driver.proofs.RoomSmall.{servers-small, bound-small, digit-small, ad
 use Rattle.driver.proofs.PathSmall.{read-small, reverse-small, write-small, check-small}
 use Rattle.driver.proofs.RouteSmall.{build-small, find-small, select-small}
 use Rattle.driver.proofs.PickSmall.{pick-small}
-use Rattle.demands.specs.Demand1.{EveryBuffer, Tells, EveryWord}
+use Rattle.driver.proofs.PackLaws.{step-unpacks}
+use Rattle.driver.proofs.ShapeLaws.{room-refused, room-shape}
+use Rattle.demands.specs.Demand1.{EveryBuffer, Tells, EveryRoom, EveryWord}
 
--- ---- the words
+-- ---- the rooms and the words
+
+pub every-room : EveryRoom
+every-room = record { refused = room-refused; shape = room-shape }
 
 tells : {r : Refusal} {v : ℕ} → Small r v → Tells (word r v) r v
 tells {r} {v} h = (refusal-back r v h, value-back r v h)
 
 -- a word that was made of a refusal and a number
-said : {r : Refusal} {v w : ℕ} → w ≡ word r v → Small r v → Tells w r v
+said : {r : Refusal} {v : ℕ} {w : Answer} → w ≡ word r v → Small r v → Tells w r v
 said {r} {v} e h = (ap refusalIn e ∙ refusal-back r v h, ap valueIn e ∙ value-back r v h)
 
 level-small : (b : Bool) (l : ℕ) → l ≤ 3 → cond b (suc l) 0 < 4294967296

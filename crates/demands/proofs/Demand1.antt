@@ -32,7 +32,7 @@ use Rattle.pick.specs.Places.{placeOf, placeAnswer}
 use Rattle.pick.proofs.Promises.{empty-exactly}
 use Rattle.step.specs.declared.Step.{Step}
 use Rattle.step.specs.Steps.{flagAt, givenRefusal, byteRefusal, awayRefusal, stepRefusal, atHop, placed, noStep, delivery, forwarded, stepAnswer}
-use Rattle.step.proofs.PackLaws.{hop-le}
+use Rattle.step.proofs.StepLaws.{hop-le}
 use Rattle.demands.specs.Demand1.{whole, at-hop, Placed, OneOf, nought, listed, RefusalOf, NumberOf, DigitsOf, SwitchOf, BetweenOf, AskedOf, WalkedOf, ReadingOf, WritingOf, BuildingOf, FoundOf, SelectionOf, PlaceOf, StepOf, HopOf, ofTheWhole, ofAHop, EveryCall}
 use Rattle.demands.proofs.Refusing.{test-one, chain-one, one-of, all, all-at, given-refuses, bare-refuses, answer-refuses, plain-placed}
 use Rattle.demands.proofs.Numbers.{shape-numbers, level-numbers, server-numbers, pair-numbers, link-numbers, value-numbers, places-numbers, table-numbers, table-link-numbers, ends-numbers, array-numbers, room-numbers, list-numbers, hop-numbers, fault-numbers, plain-numbers, write-numbers}

@@ -52,10 +52,9 @@ every-input =
       pick-place = λ κs a. tt;
       pick-refusal = λ κs a. tt;
       step-once = λ κs a. tt;
-      bcube-step = λ κs a. tt;
-      bcube-step-mac = λ κs a. tt;
       question-of = λ κs a. tt;
       answer-line = λ κs a. tt;
+      c-room-of = λ κs a. tt;
       c-shape = λ κs a. tt;
       c-servers = λ κs a. tt;
       c-bound = λ κs a. tt;
@@ -77,7 +76,6 @@ every-input =
       c-select = λ κs a. tt;
       c-pick = λ κs a. tt;
       c-step = λ κs a. tt;
-      c-step-mac = λ κs a. tt;
     }
 
 pub uniqueness : Uniqueness
@@ -122,10 +120,9 @@ uniqueness =
       pick-place = pick.pick-place-unique;
       pick-refusal = pick.pick-refusal-unique;
       step-once = step.step-once-unique;
-      bcube-step = step.bcube-step-unique;
-      bcube-step-mac = step.bcube-step-mac-unique;
       question-of = desk-line.question-of-unique;
       answer-line = desk-line.answer-line-unique;
+      c-room-of = driver.bcube-room-of-unique;
       c-shape = driver.bcube-shape-unique;
       c-servers = driver.bcube-servers-unique;
       c-bound = driver.bcube-bound-unique;
@@ -156,5 +153,4 @@ uniqueness =
       c-select-leaves = driver.bcube-select-leaves;
       c-pick = driver.bcube-pick-unique;
       c-step = driver.bcube-step-unique;
-      c-step-mac = driver.bcube-step-mac-unique;
     }

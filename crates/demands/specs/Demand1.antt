@@ -13,7 +13,7 @@ use Rattle.room.specs.declared.Number.{Number}
 use Rattle.room.specs.declared.Digits.{Digits}
 use Rattle.room.specs.declared.Switch.{Switch}
 use Rattle.room.specs.declared.Between.{Between}
-use Rattle.room.specs.Shapes.{serversOf, bound, Valid, Server, Link, Value}
+use Rattle.room.specs.Shapes.{shapeOf, serversOf, bound, Valid, Server, Link, Value}
 use Rattle.room.specs.Addresses.{digit}
 use Rattle.room.specs.Refusals.{none, plain, refusedAt, shapeRefusal, serverRefusal, linkRefusal}
 use Rattle.room.specs.Answers.{serversAnswer, boundAnswer, digitsAnswer, digitAnswer, addressAnswer, switchAnswer, neighbourAnswer, betweenAnswer}
@@ -45,10 +45,11 @@ use Rattle.pick.specs.Chosen.{NoneUsable}
 use Rattle.pick.specs.Places.{placeAnswer}
 use Rattle.step.specs.declared.Step.{Step}
 use Rattle.step.specs.Steps.{flagAt, stepAnswer}
-use Rattle.step.specs.Packed.{packed, macNumber, unpacked}
-use Rattle.step.proofs.PackLaws.{Bytes}
+use Rattle.driver.specs.declared.Answer.{Answer}
+use Rattle.driver.specs.Rooms.{roomOf, shapeIn}
 use Rattle.driver.specs.Words.{word, refusalIn, valueIn, numberWord, digitsWord, digitsLeft, switchWord, betweenWord, askedWord, readingWord, readingLeft, writingWord, writingLeft, buildingWord, buildingLeft, placeWord}
 use Rattle.driver.specs.Routes.{FoundWord, SelectedWord}
+use Rattle.driver.specs.Packed.{packed, unpacked, Bytes}
 
 -- ---- the place of a refusal
 
@@ -260,13 +261,18 @@ pub record EveryBuffer : Type 0 where
   pub reversed : (s : Shape) (a d : ℕ) (bs lent : List ℕ) → reverseAnswer s a d bs .refusal .number ≢ 0 → writingLeft lent (reverseAnswer s a d bs) ≡ lent
   pub build : (s : Shape) (a d : ℕ) (lent : List ℕ) → buildAnswer s a d .refusal .number ≢ 0 → buildingLeft lent (buildAnswer s a d) ≡ lent
   -- w is the word that the call gives back, and the last list what it leaves
-  pub find : (s : Shape) (t : List ℕ) (a d w : ℕ) (lent path : List ℕ) → FoundWord s t a d w lent path → refusalIn w .number ≢ 0 → path ≡ lent
-  pub select : (s : Shape) (t : List ℕ) (a d w : ℕ) (lent routes : List ℕ) → SelectedWord s t a d w lent routes → refusalIn w .number ≢ 0 → routes ≡ lent
+  pub find : (s : Shape) (t : List ℕ) (a d : ℕ) (w : Answer) (lent path : List ℕ) → FoundWord s t a d w lent path → refusalIn w .number ≢ 0 → path ≡ lent
+  pub select : (s : Shape) (t : List ℕ) (a d : ℕ) (w : Answer) (lent routes : List ℕ) → SelectedWord s t a d w lent routes → refusalIn w .number ≢ 0 → routes ≡ lent
 
--- ---- the words that the calls from C give back
+-- ---- the rooms and the words of the calls from C
+
+-- a room of any two numbers is refused as they are, and where they are not refused, its shape is theirs
+pub record EveryRoom : Type 0 where
+  pub refused : (n k : ℕ) → shapeRefusal (shapeIn (roomOf n k)) ≡ shapeRefusal (shapeOf n k)
+  pub shape : (n k : ℕ) → shapeRefusal (shapeOf n k) ≡ 0 → shapeIn (roomOf n k) ≡ shapeOf n k
 
 -- a driver reads this refusal and this number out of a word
-abbrev pub Tells : ℕ → Refusal → ℕ → Type 0
+abbrev pub Tells : Answer → Refusal → ℕ → Type 0
 Tells w r v = (refusalIn w ≡ r) × (valueIn w ≡ v)
 
 -- the word of each call gives back the answer's refusal and number; the two numbers of a step, the whole step
@@ -287,10 +293,10 @@ pub record EveryWord : Type 0 where
   pub reversed : (s : Shape) (a d : ℕ) (bs : List ℕ) → Tells (writingWord (reverseAnswer s a d bs)) (reverseAnswer s a d bs .refusal) 0
   pub check : (s : Shape) (t : List ℕ) (a d : ℕ) (bs : List ℕ) → Tells (word (checkAnswer s t a d bs) 0) (checkAnswer s t a d bs) 0
   pub build : (s : Shape) (a d : ℕ) → Tells (buildingWord (buildAnswer s a d)) (buildAnswer s a d .refusal) (buildAnswer s a d .routes .count)
-  pub find : (s : Shape) (t : List ℕ) (a d w : ℕ) (lent path : List ℕ) (x : FoundWord s t a d w lent path) → Tells w (x .answer .refusal) (x .answer .hops)
-  pub select : (s : Shape) (t : List ℕ) (a d w : ℕ) (lent routes : List ℕ) (x : SelectedWord s t a d w lent routes) → Tells w (x .answer .refusal) (x .answer .routes .count)
+  pub find : (s : Shape) (t : List ℕ) (a d : ℕ) (w : Answer) (lent path : List ℕ) (x : FoundWord s t a d w lent path) → Tells w (x .answer .refusal) (x .answer .hops)
+  pub select : (s : Shape) (t : List ℕ) (a d : ℕ) (w : Answer) (lent routes : List ℕ) (x : SelectedWord s t a d w lent routes) → Tells w (x .answer .refusal) (x .answer .routes .count)
   pub pick : (s : Shape) (t : List ℕ) (a d : ℕ) (fs ks : List ℕ) → (let x = placeAnswer s t a d fs ks in Tells (placeWord x) (x .refusal) (256 * x .list + x .route))
-  pub step : (s : Shape) (a d i : ℕ) (bs e : List ℕ) → Bytes e → (let x = stepAnswer s a d i bs e in unpacked (packed x) (macNumber (x .mac)) ≡ x)
+  pub step : (s : Shape) (a d i : ℕ) (bs e : List ℕ) → Bytes e → (let x = stepAnswer s a d i bs e in unpacked (packed x) ≡ x)
 
 -- ---- the hop of 8 to 12, the writer's hop, the places of 13, 14 and 15
 

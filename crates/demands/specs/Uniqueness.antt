@@ -82,14 +82,12 @@ use Rattle.pick.proofs.pick_refusal.Reads as pick-refusal-reads
 use Rattle.pick.proofs.pick_refusal.Kinds as pick-refusal-kinds
 use Rattle.step.proofs.step_once.Reads as step-once-reads
 use Rattle.step.proofs.step_once.Kinds as step-once-kinds
-use Rattle.step.proofs.bcube_step.Reads as bcube-step-reads
-use Rattle.step.proofs.bcube_step.Kinds as bcube-step-kinds
-use Rattle.step.proofs.bcube_step_mac.Reads as bcube-step-mac-reads
-use Rattle.step.proofs.bcube_step_mac.Kinds as bcube-step-mac-kinds
 use Rattle.desk_line.proofs.question_of.Reads as question-of-reads
 use Rattle.desk_line.proofs.question_of.Kinds as question-of-kinds
 use Rattle.desk_line.proofs.answer_line.Reads as answer-line-reads
 use Rattle.desk_line.proofs.answer_line.Kinds as answer-line-kinds
+use Rattle.driver.proofs.bcube_room_of.Reads as c-room-of-reads
+use Rattle.driver.proofs.bcube_room_of.Kinds as c-room-of-kinds
 use Rattle.driver.proofs.bcube_shape.Reads as c-shape-reads
 use Rattle.driver.proofs.bcube_shape.Kinds as c-shape-kinds
 use Rattle.driver.proofs.bcube_servers.Reads as c-servers-reads
@@ -132,8 +130,6 @@ use Rattle.driver.proofs.bcube_pick.Reads as c-pick-reads
 use Rattle.driver.proofs.bcube_pick.Kinds as c-pick-kinds
 use Rattle.driver.proofs.bcube_step.Reads as c-step-reads
 use Rattle.driver.proofs.bcube_step.Kinds as c-step-kinds
-use Rattle.driver.proofs.bcube_step_mac.Reads as c-step-mac-reads
-use Rattle.driver.proofs.bcube_step_mac.Kinds as c-step-mac-kinds
 
 -- ---- every input is taken: what a function may assume of its arguments holds of all of them
 
@@ -187,12 +183,11 @@ pub record EveryInput : Type 0 where
   pub pick-refusal : Takes 3 pick-refusal-kinds.ps pick-refusal-reads.Pre
   -- step
   pub step-once : Takes 2 step-once-kinds.ps step-once-reads.Pre
-  pub bcube-step : Takes 2 bcube-step-kinds.ps bcube-step-reads.Pre
-  pub bcube-step-mac : Takes 2 bcube-step-mac-kinds.ps bcube-step-mac-reads.Pre
   -- desk_line
   pub question-of : Takes 1 question-of-kinds.ps question-of-reads.Pre
   pub answer-line : Takes 1 answer-line-kinds.ps answer-line-reads.Pre
-  -- driver: what C calls as bcube_shape, and so on
+  -- driver: what C calls as bcube_room_of, and so on
+  pub c-room-of : Takes 0 c-room-of-kinds.ps c-room-of-reads.Pre
   pub c-shape : Takes 0 c-shape-kinds.ps c-shape-reads.Pre
   pub c-servers : Takes 0 c-servers-kinds.ps c-servers-reads.Pre
   pub c-bound : Takes 0 c-bound-kinds.ps c-bound-reads.Pre
@@ -214,7 +209,6 @@ pub record EveryInput : Type 0 where
   pub c-select : Takes 2 c-select-kinds.ps c-select-reads.Pre
   pub c-pick : Takes 3 c-pick-kinds.ps c-pick-reads.Pre
   pub c-step : Takes 2 c-step-kinds.ps c-step-reads.Pre
-  pub c-step-mac : Takes 2 c-step-mac-kinds.ps c-step-mac-reads.Pre
 
 -- ---- the answer is determined: two results that a contract allows at the same arguments are equal, which is `Determined`
 
@@ -275,18 +269,17 @@ pub record Uniqueness : Type 0 where
   pub pick-refusal : Determined 3 pick-refusal-kinds.ps pick-refusal-kinds.r pick-refusal-reads.Post
   -- step
   pub step-once : Determined 2 step-once-kinds.ps step-once-kinds.r step-once-reads.Post
-  pub bcube-step : Determined 2 bcube-step-kinds.ps bcube-step-kinds.r bcube-step-reads.Post
-  pub bcube-step-mac : Determined 2 bcube-step-mac-kinds.ps bcube-step-mac-kinds.r bcube-step-mac-reads.Post
   -- desk_line
   pub question-of : Determined 1 question-of-kinds.ps question-of-kinds.r question-of-reads.Post
   pub answer-line : Determined 1 answer-line-kinds.ps answer-line-kinds.r answer-line-reads.Post
-  -- driver: what C calls as bcube_shape, and so on
+  -- driver: what C calls as bcube_room_of, and so on
+  pub c-room-of : Determined 0 c-room-of-kinds.ps c-room-of-kinds.r c-room-of-reads.Post
   pub c-shape : Determined 0 c-shape-kinds.ps c-shape-kinds.r c-shape-reads.Post
   pub c-servers : Determined 0 c-servers-kinds.ps c-servers-kinds.r c-servers-reads.Post
   pub c-bound : Determined 0 c-bound-kinds.ps c-bound-kinds.r c-bound-reads.Post
   pub c-digits : Determined 1 c-digits-kinds.ps c-digits-kinds.r c-digits-reads.Post
   -- and the buffer that it leaves behind
-  pub c-digits-leaves : Leaves 1 c-digits-kinds.ps c-digits-kinds.r c-digits-reads.Post (λ κs s. now (s .1 .1 .1 .0))
+  pub c-digits-leaves : Leaves 1 c-digits-kinds.ps c-digits-kinds.r c-digits-reads.Post (λ κs s. now (s .1 .1 .0))
   pub c-digit : Determined 0 c-digit-kinds.ps c-digit-kinds.r c-digit-reads.Post
   pub c-address : Determined 0 c-address-kinds.ps c-address-kinds.r c-address-reads.Post
   pub c-switch : Determined 0 c-switch-kinds.ps c-switch-kinds.r c-switch-reads.Post
@@ -295,29 +288,28 @@ pub record Uniqueness : Type 0 where
   pub c-failed-link : Determined 1 c-failed-link-kinds.ps c-failed-link-kinds.r c-failed-link-reads.Post
   pub c-mark-link : Determined 1 c-mark-link-kinds.ps c-mark-link-kinds.r c-mark-link-reads.Post
   -- and the buffer that it leaves behind
-  pub c-mark-link-leaves : Leaves 1 c-mark-link-kinds.ps c-mark-link-kinds.r c-mark-link-reads.Post (λ κs s. now (s .1 .1 .1 .1 .0))
+  pub c-mark-link-leaves : Leaves 1 c-mark-link-kinds.ps c-mark-link-kinds.r c-mark-link-reads.Post (λ κs s. now (s .1 .1 .1 .0))
   pub c-clear-link : Determined 1 c-clear-link-kinds.ps c-clear-link-kinds.r c-clear-link-reads.Post
   -- and the buffer that it leaves behind
-  pub c-clear-link-leaves : Leaves 1 c-clear-link-kinds.ps c-clear-link-kinds.r c-clear-link-reads.Post (λ κs s. now (s .1 .1 .1 .1 .0))
+  pub c-clear-link-leaves : Leaves 1 c-clear-link-kinds.ps c-clear-link-kinds.r c-clear-link-reads.Post (λ κs s. now (s .1 .1 .1 .0))
   pub c-read : Determined 2 c-read-kinds.ps c-read-kinds.r c-read-reads.Post
   -- and the buffer that it leaves behind
-  pub c-read-leaves : Leaves 2 c-read-kinds.ps c-read-kinds.r c-read-reads.Post (λ κs s. now (s .1 .1 .1 .1 .1 .0))
+  pub c-read-leaves : Leaves 2 c-read-kinds.ps c-read-kinds.r c-read-reads.Post (λ κs s. now (s .1 .1 .1 .1 .0))
   pub c-write : Determined 2 c-write-kinds.ps c-write-kinds.r c-write-reads.Post
   -- and the buffer that it leaves behind
-  pub c-write-leaves : Leaves 2 c-write-kinds.ps c-write-kinds.r c-write-reads.Post (λ κs s. now (s .1 .1 .1 .0))
+  pub c-write-leaves : Leaves 2 c-write-kinds.ps c-write-kinds.r c-write-reads.Post (λ κs s. now (s .1 .1 .0))
   pub c-reverse : Determined 2 c-reverse-kinds.ps c-reverse-kinds.r c-reverse-reads.Post
   -- and the buffer that it leaves behind
-  pub c-reverse-leaves : Leaves 2 c-reverse-kinds.ps c-reverse-kinds.r c-reverse-reads.Post (λ κs s. now (s .1 .1 .1 .1 .1 .0))
+  pub c-reverse-leaves : Leaves 2 c-reverse-kinds.ps c-reverse-kinds.r c-reverse-reads.Post (λ κs s. now (s .1 .1 .1 .1 .0))
   pub c-check : Determined 2 c-check-kinds.ps c-check-kinds.r c-check-reads.Post
   pub c-build : Determined 1 c-build-kinds.ps c-build-kinds.r c-build-reads.Post
   -- and the buffer that it leaves behind
-  pub c-build-leaves : Leaves 1 c-build-kinds.ps c-build-kinds.r c-build-reads.Post (λ κs s. now (s .1 .1 .1 .1 .0))
+  pub c-build-leaves : Leaves 1 c-build-kinds.ps c-build-kinds.r c-build-reads.Post (λ κs s. now (s .1 .1 .1 .0))
   pub c-find : Determined 2 c-find-kinds.ps c-find-kinds.r c-find-reads.Post
   -- and the buffer that it leaves behind
-  pub c-find-leaves : Leaves 2 c-find-kinds.ps c-find-kinds.r c-find-reads.Post (λ κs s. now (s .1 .1 .1 .1 .1 .0))
+  pub c-find-leaves : Leaves 2 c-find-kinds.ps c-find-kinds.r c-find-reads.Post (λ κs s. now (s .1 .1 .1 .1 .0))
   pub c-select : Determined 2 c-select-kinds.ps c-select-kinds.r c-select-reads.Post
   -- and the buffer that it leaves behind
-  pub c-select-leaves : Leaves 2 c-select-kinds.ps c-select-kinds.r c-select-reads.Post (λ κs s. now (s .1 .1 .1 .1 .1 .0))
+  pub c-select-leaves : Leaves 2 c-select-kinds.ps c-select-kinds.r c-select-reads.Post (λ κs s. now (s .1 .1 .1 .1 .0))
   pub c-pick : Determined 3 c-pick-kinds.ps c-pick-kinds.r c-pick-reads.Post
   pub c-step : Determined 2 c-step-kinds.ps c-step-kinds.r c-step-reads.Post
-  pub c-step-mac : Determined 2 c-step-mac-kinds.ps c-step-mac-kinds.r c-step-mac-reads.Post
