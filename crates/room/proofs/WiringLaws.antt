@@ -136,14 +136,13 @@ unfolding serverAt switchOf digit
 port-back {s} {a} {l} h =
     let v = h .server .valid in
     let q : l < length (digits s a) = rw digits-long (omega arith) in
-    let k : length (strike l (digits s a)) ≡ s .k = omega (arith, length-strike l (digits s a) q, digits-long s a) in
-    (
+    let k : length (strike l (digits s a)) ≡ s .k = omega (arith, length-strike l (digits s a) q, digits-long s a) in (
       record { valid = v; level = h .level; switch = switch-lt h; port = digit-lt (h .server) l (h .level) },
       ap (λ (x : List ℕ). addressOf (s .n) (putIn l (getD (digits s a) l 0) x))
-      (ap (λ (m : ℕ). digitsOf (s .n) m (addressOf (s .n) (strike l (digits s a)))) (sym k)
-      ∙ digits-address (s .n) (strike l (digits s a)) (strike-keeps (s .n) l (digits s a) (written-below v (written-digits (h .server))) q))
-      ∙ ap (addressOf (s .n)) (put-strike l (digits s a) q)
-      ∙ read-back (h .server),
+          (ap (λ (m : ℕ). digitsOf (s .n) m (addressOf (s .n) (strike l (digits s a)))) (sym k)
+          ∙ digits-address (s .n) (strike l (digits s a)) (strike-keeps (s .n) l (digits s a) (written-below v (written-digits (h .server))) q))
+          ∙ ap (addressOf (s .n)) (put-strike l (digits s a) q)
+          ∙ read-back (h .server),
     )
 
 -- ---- what the program's sums are below
