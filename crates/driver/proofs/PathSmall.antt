@@ -20,18 +20,22 @@ use Rattle.links.specs.Table.{live}
 use Rattle.path.specs.declared.Walked.{Walked}
 use Rattle.path.specs.declared.Reading.{Reading}
 use Rattle.path.specs.declared.Writing.{Writing}
+use Rattle.path.specs.declared.Parts.{Parts}
+use Rattle.path.specs.Bytes.{madeRefusal, byteAnswer, partsRefusal, noParts, someParts, partsAnswer}
 use Rattle.path.specs.Lists.{isIn}
-use Rattle.path.specs.Routes.{switchAt, switchTo}
+use Rattle.path.specs.Routes.{byteOf, switchAt, switchTo}
 use Rattle.path.specs.Walks.{Walk, stopped, arrived, hopTo, hopRefusal, fault, ended, walkFrom, walk, single, writeFault, writeFrom}
 use Rattle.path.specs.Answers.{arrayRefusal, noWalk, walked, walkAnswer, readAnswer, noWriting, reversed, reverseAnswer, serversRefusal, writeRefusal, written, onTheWay, writeAnswer}
 use Rattle.path.proofs.ListSteps.{taken-on}
 use Rattle.path.proofs.ListLaws.{length-snoc, filled-at, filled-past}
+use Rattle.room.proofs.RoomLaws.{bound-le}
+use Rattle.path.proofs.ByteLaws.{made-of, parts-of}
 use Rattle.path.proofs.CodecLaws.{array-of, listed-of, read-exactly, read-given}
 use Rattle.verdict.specs.Checks.{arrays, parallel, firstStop, firstMeeting, firstOf, firstPair, roomRefusal, listRefusal, walksOf, checkAnswer}
 use Rattle.verdict.proofs.LengthLaws.{list-few}
 use Rattle.driver.specs.Words.{Small}
-use Rattle.driver.proofs.WordLaws.{chain-le, test-le, none-small, plain-small}
-use Rattle.driver.proofs.BoundLaws.{shape-le, server-le, array-le, room-le}
+use Rattle.driver.proofs.WordLaws.{chain-le, test-le, none-small, plain-small, number-small}
+use Rattle.driver.proofs.BoundLaws.{shape-le, server-le, made-le, array-le, room-le}
 
 -- what is so of both arms is so of the one taken
 either : {X : Type 0} (P : X → Type 0) (b : Bool) (x y : X) → P x → P y → P (cond b x y)
@@ -45,6 +49,42 @@ answer-so P (suc q) refused x f h g = f (suc q) h
 
 at-small : (r i h : ℕ) → r ≤ 23 → i < 256 → h < 256 → Small (refusedAt r i h) 0
 at-small r i h a b c = record { number = omega arith; route = b; hop = c; value = lit< tt }
+
+-- ---- one path byte
+
+pub byte-small : (s : Shape) (l v : ℕ) → Small (byteAnswer s l v .refusal) (byteAnswer s l v .value)
+unfolding byteAnswer byteOf
+byte-small s l v =
+    number-small (madeRefusal s l v) (byteOf l v) (made-le s l v)
+    (λ z. let h = made-of s l v z in omega (arith, h .level, h .value, bound-le (h .valid) l, h .valid .ports, h .valid .levels))
+
+parts-le : (s : Shape) (b : ℕ) → partsRefusal s b ≤ 23
+unfolding partsRefusal
+parts-le s b =
+    let t = leb (b / 64) (s .k) in
+    let u = ltb (b % 64) (bound s (b / 64)) in
+    chain-le 23 (8 unless t) (9 unless u) (test-le 23 8 t (lit≤ tt)) (test-le 23 9 u (lit≤ tt))
+
+-- the value of the word is 256 times the level plus the value
+pub record PartsFit (x : Parts) : Type 0 where
+  pub level : x .level ≤ 3
+  pub value : x .value < 64
+  pub small : Small (x .refusal) (256 * x .level + x .value)
+
+parts-small : (s : Shape) (b : ℕ) → PartsFit (partsAnswer s b)
+unfolding partsAnswer
+parts-small s b =
+    answer-so PartsFit (shapeRefusal s) (λ r. noParts (plain r)) _
+    (λ r h. record { level = lit≤ tt; value = lit< tt; small = plain-small r h })
+    (shape-le s)
+    (λ v.
+    answer-so PartsFit (partsRefusal s b) (λ r. noParts (refusedAt r 1 1)) (someParts (b / 64) (b % 64))
+    (λ r h. record { level = lit≤ tt; value = lit< tt; small = at-small r 1 1 h (lit< tt) (lit< tt) })
+    (parts-le s b)
+    (λ z. let h = parts-of s b v z in let l : b / 64 ≤ 3 = omega (arith, h .level, h .valid .levels) in let q : b % 64 < 64 = omega arith in record { level = l; value = q; small = none-small (256 * (b / 64) + b % 64) (omega arith) }))
+
+pub parts-found : (s : Shape) (b : ℕ) (x : Parts) → x ≡ partsAnswer s b → PartsFit x
+parts-found s b x e = subst PartsFit (sym e) (parts-small s b)
 
 -- ---- a walk
 

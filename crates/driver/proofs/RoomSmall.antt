@@ -15,20 +15,23 @@ use Rattle.room.specs.declared.Digits.{Digits}
 use Rattle.room.specs.declared.Between.{Between}
 use Rattle.room.specs.Digits.{addressOf, padded}
 use Rattle.room.specs.Shapes.{serversOf, bound, Server, Link}
-use Rattle.room.specs.Addresses.{digits, digit, withDigit, switchOf, differing}
+use Rattle.room.specs.Addresses.{digits, digit, withDigit, switchOf, switchesAt, differing}
 use Rattle.room.specs.Refusals.{plain, shapeRefusal, levelRefusal, serverRefusal, pairRefusal, linkRefusal, valueRefusal, placesRefusal}
 use Rattle.room.specs.Answers.{answer, noDigits, someDigits, noSwitch, aSwitch, noBetween, onlyLevel, serversAnswer, boundAnswer, digitsAnswer, digitAnswer, addressAnswer, switchAnswer, neighbourAnswer, betweenAnswer}
+use Rattle.room.specs.Wiring.{serverAt, portRefusal, switchesAnswer, serverAtAnswer}
 use Rattle.room.proofs.RefusalLaws.{valid-of, level-of, server-of, pair-of, link-of, value-of, places-of}
 use Rattle.room.proofs.DigitLaws.{pow-small}
 use Rattle.room.proofs.FourPlaces.{sums}
 use Rattle.room.proofs.RoomLaws.{bound-le, digits-long as levels-long, digit-lt, digit-past, with-server, switches-power, switch-lt, neighbours-exactly, padded-long, place-digit, places-below}
+use Rattle.room.proofs.WiringLaws.{port-of, port-server}
 use Rattle.links.specs.declared.Asked.{Asked}
 use Rattle.links.specs.Table.{failed, tableLinkRefusal}
 use Rattle.links.specs.Answers.{notAsked, asked, failedAnswer, linkAnswer}
+use Rattle.links.specs.Servers.{tableServerRefusal, serverAnswer}
 use Rattle.driver.specs.declared.Answer.{Answer}
 use Rattle.driver.specs.Words.{word, left, Small, betweenWord, askedWord}
 use Rattle.driver.proofs.WordLaws.{none-small, plain-small, number-small, left-given, left-lent}
-use Rattle.driver.proofs.BoundLaws.{shape-le, level-le, server-le, pair-le, link-le, value-le, places-le, table-link-le}
+use Rattle.driver.proofs.BoundLaws.{shape-le, level-le, server-le, pair-le, link-le, value-le, places-le, port-le, table-link-le, table-server-le}
 
 -- ---- a refusal of a call as a whole, with any number
 
@@ -53,6 +56,20 @@ unfolding boundAnswer
 bound-small s l =
     number-small (levelRefusal s l) (bound s l) (level-le s l)
     (λ z. let v = level-of s l z in omega (arith, bound-le (v .0) l, v .0 .ports))
+
+pub switches-small : (s : Shape) (l : ℕ) → Small (switchesAnswer s l .refusal) (switchesAnswer s l .value)
+unfolding switchesAnswer
+switches-small s l =
+    number-small (levelRefusal s l) (switchesAt s l) (level-le s l)
+    (λ z.
+    let v = level-of s l z .0 in
+    omega (arith, switches-power v l, pow-small (s .n) (s .k) (v .ports) (omega (arith, v .levels))))
+
+pub server-at-small : (s : Shape) (l w v : ℕ) → Small (serverAtAnswer s l w v .refusal) (serverAtAnswer s l w v .value)
+unfolding serverAtAnswer
+server-at-small s l w v =
+    number-small (portRefusal s l w v) (serverAt s l w v) (port-le s l w v)
+    (λ z. let a = port-server (port-of s l w v z) in omega (arith, a .below, a .valid .small))
 
 digit-lt-64 : {s : Shape} {a : ℕ} → Server s a → (l : ℕ) → l ≤ s .k → digit s l a < 64
 digit-lt-64 h l p = omega (arith, digit-lt h l p, bound-le (h .valid) l, h .valid .ports)
@@ -190,3 +207,8 @@ link-at s t a l v k = plain-with (tableLinkRefusal s t a l) v (table-link-le s t
 
 pub link-fits : (s : Shape) (t : List ℕ) (a l v : ℕ) {x : Refusal} → v < 4294967296 → x ≡ linkAnswer s t a l → Small x v
 link-fits s t a l v {x} k e = subst (λ (z : Refusal). Small z v) (sym e) (link-at s t a l v k)
+
+-- and so do marking and clearing a whole server
+pub server-fits : (s : Shape) (t : List ℕ) (a : ℕ) {x : Refusal} → x ≡ serverAnswer s t a → Small x 0
+unfolding serverAnswer
+server-fits s t a {x} e = subst (λ (z : Refusal). Small z 0) (sym e) (plain-with (tableServerRefusal s t a) 0 (table-server-le s t a) (lit< tt))

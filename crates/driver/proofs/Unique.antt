@@ -16,6 +16,20 @@ use Rattle.select.proofs.OneAnswer.{selecting-unique}
 use Rattle.driver.specs.declared.Answer.{Answer}
 use Rattle.driver.specs.Words.{word, left}
 use Rattle.driver.specs.Routes.{FoundWord, SelectedWord}
+use Rattle.driver.proofs.rooms.bcube_switches.Reads as bcube-switches
+use Rattle.driver.proofs.rooms.bcube_switches.Kinds as bcube-switches-kinds
+use Rattle.driver.proofs.rooms.bcube_server_at.Reads as bcube-server-at
+use Rattle.driver.proofs.rooms.bcube_server_at.Kinds as bcube-server-at-kinds
+use Rattle.driver.proofs.paths.bcube_path_byte.Reads as bcube-path-byte
+use Rattle.driver.proofs.paths.bcube_path_byte.Kinds as bcube-path-byte-kinds
+use Rattle.driver.proofs.paths.bcube_path_byte_parts.Reads as bcube-path-byte-parts
+use Rattle.driver.proofs.paths.bcube_path_byte_parts.Kinds as bcube-path-byte-parts-kinds
+use Rattle.driver.proofs.marks.bcube_mark_server.Reads as bcube-mark-server
+use Rattle.driver.proofs.marks.bcube_mark_server.Kinds as bcube-mark-server-kinds
+use Rattle.driver.proofs.marks.bcube_clear_server.Reads as bcube-clear-server
+use Rattle.driver.proofs.marks.bcube_clear_server.Kinds as bcube-clear-server-kinds
+use Rattle.driver.proofs.shapes.bcube_version.Reads as bcube-version
+use Rattle.driver.proofs.shapes.bcube_version.Kinds as bcube-version-kinds
 use Rattle.driver.proofs.rooms.bcube_shape.Reads as bcube-shape
 use Rattle.driver.proofs.rooms.bcube_shape.Kinds as bcube-shape-kinds
 use Rattle.driver.proofs.rooms.bcube_servers.Reads as bcube-servers
@@ -66,6 +80,9 @@ use Rattle.driver.proofs.shapes.bcube_room_of.Kinds as bcube-room-of-ki
 pub bcube-room-of-unique : Determined 0 bcube-room-of-kinds.ps bcube-room-of-kinds.r bcube-room-of.Post
 bcube-room-of-unique κs a x y s t e f = e ∙ sym f
 
+pub bcube-version-unique : Determined 0 bcube-version-kinds.ps bcube-version-kinds.r bcube-version.Post
+bcube-version-unique κs a x y s t e f = e ∙ sym f
+
 pub bcube-shape-unique : Determined 0 bcube-shape-kinds.ps bcube-shape-kinds.r bcube-shape.Post
 bcube-shape-unique κs a x y s t e f = e ∙ sym f
 
@@ -74,6 +91,9 @@ bcube-servers-unique κs a x y s t e f = e ∙ sym f
 
 pub bcube-bound-unique : Determined 0 bcube-bound-kinds.ps bcube-bound-kinds.r bcube-bound.Post
 bcube-bound-unique κs a x y s t e f = e ∙ sym f
+
+pub bcube-switches-unique : Determined 0 bcube-switches-kinds.ps bcube-switches-kinds.r bcube-switches.Post
+bcube-switches-unique κs a x y s t e f = e ∙ sym f
 
 pub bcube-digits-unique : Determined 1 bcube-digits-kinds.ps bcube-digits-kinds.r bcube-digits.Post
 bcube-digits-unique κs a x y s t e f = e .0 ∙ sym (f .0)
@@ -90,6 +110,9 @@ bcube-address-unique κs a x y s t e f = e ∙ sym f
 
 pub bcube-switch-unique : Determined 0 bcube-switch-kinds.ps bcube-switch-kinds.r bcube-switch.Post
 bcube-switch-unique κs a x y s t e f = e ∙ sym f
+
+pub bcube-server-at-unique : Determined 0 bcube-server-at-kinds.ps bcube-server-at-kinds.r bcube-server-at.Post
+bcube-server-at-unique κs a x y s t e f = e ∙ sym f
 
 pub bcube-neighbour-unique : Determined 0 bcube-neighbour-kinds.ps bcube-neighbour-kinds.r bcube-neighbour.Post
 bcube-neighbour-unique κs a x y s t e f = e ∙ sym f
@@ -114,7 +137,27 @@ bcube-clear-link-unique κs a x y s t e f = e .0 ∙ sym (f .0)
 pub bcube-clear-link-leaves : (κs : Lfts 1) (a : Dens κs bcube-clear-link-kinds.ps) (x y : resT bcube-clear-link-kinds.r κs .Denot) (s t : AtExit (endedOf 1 bcube-clear-link-kinds.ps bcube-clear-link-kinds.r) κs) → bcube-clear-link.Post κs a x s → bcube-clear-link.Post κs a y t → now (s .1 .1 .1 .0) ≡ now (t .1 .1 .1 .0)
 bcube-clear-link-leaves κs a x y s t e f = e .1 ∙ sym (f .1)
 
+pub bcube-mark-server-unique : Determined 1 bcube-mark-server-kinds.ps bcube-mark-server-kinds.r bcube-mark-server.Post
+bcube-mark-server-unique κs a x y s t e f = e .0 ∙ sym (f .0)
+
+-- the bytes of the table at exit, its third parameter
+pub bcube-mark-server-leaves : (κs : Lfts 1) (a : Dens κs bcube-mark-server-kinds.ps) (x y : resT bcube-mark-server-kinds.r κs .Denot) (s t : AtExit (endedOf 1 bcube-mark-server-kinds.ps bcube-mark-server-kinds.r) κs) → bcube-mark-server.Post κs a x s → bcube-mark-server.Post κs a y t → now (s .1 .1 .0) ≡ now (t .1 .1 .0)
+bcube-mark-server-leaves κs a x y s t e f = e .1 ∙ sym (f .1)
+
+pub bcube-clear-server-unique : Determined 1 bcube-clear-server-kinds.ps bcube-clear-server-kinds.r bcube-clear-server.Post
+bcube-clear-server-unique κs a x y s t e f = e .0 ∙ sym (f .0)
+
+-- the bytes of the table at exit, its third parameter
+pub bcube-clear-server-leaves : (κs : Lfts 1) (a : Dens κs bcube-clear-server-kinds.ps) (x y : resT bcube-clear-server-kinds.r κs .Denot) (s t : AtExit (endedOf 1 bcube-clear-server-kinds.ps bcube-clear-server-kinds.r) κs) → bcube-clear-server.Post κs a x s → bcube-clear-server.Post κs a y t → now (s .1 .1 .0) ≡ now (t .1 .1 .0)
+bcube-clear-server-leaves κs a x y s t e f = e .1 ∙ sym (f .1)
+
 -- ---- path bytes and lists
+
+pub bcube-path-byte-unique : Determined 0 bcube-path-byte-kinds.ps bcube-path-byte-kinds.r bcube-path-byte.Post
+bcube-path-byte-unique κs a x y s t e f = e ∙ sym f
+
+pub bcube-path-byte-parts-unique : Determined 0 bcube-path-byte-parts-kinds.ps bcube-path-byte-parts-kinds.r bcube-path-byte-parts.Post
+bcube-path-byte-parts-unique κs a x y s t e f = e ∙ sym f
 
 pub bcube-read-unique : Determined 2 bcube-read-kinds.ps bcube-read-kinds.r bcube-read.Post
 bcube-read-unique κs a x y s t e f = e .0 ∙ sym (f .0)

@@ -8,6 +8,7 @@ use Rattle.room.specs.declared.Digits.{Digits}
 use Rattle.room.specs.declared.Switch.{Switch}
 use Rattle.room.specs.declared.Between.{Between}
 use Rattle.links.specs.declared.Asked.{Asked}
+use Rattle.path.specs.declared.Parts.{Parts}
 use Rattle.path.specs.declared.Reading.{Reading}
 use Rattle.path.specs.declared.Writing.{Writing}
 use Rattle.build.specs.declared.Building.{Building}
@@ -60,6 +61,10 @@ betweenWord x = word (x .refusal) (cond (x .adjacent) (suc (x .level)) 0)
 -- 1 where the link is failed, else 0
 unfoldable pub askedWord : Asked → Answer
 askedWord x = word (x .refusal) (cond (x .failed) 1 0)
+
+-- the level of a path byte and its value
+abbrev pub partsWord : Parts → Answer
+partsWord x = word (x .refusal) (256 * x .level + x .value)
 
 -- the count of the servers in the word, the servers in the buffer
 abbrev pub readingWord : Reading → Answer

@@ -12,7 +12,7 @@ mod picks;
 mod rooms;
 // routes.rt: built routes, the alternate, and selection
 mod routes;
-// shapes.rt: a room as one number
+// shapes.rt: a room as one number, and the version
 mod shapes;
 // steps.rt: one forwarding step
 mod steps;
@@ -20,9 +20,13 @@ mod steps;
 mod words;
 
 pub use marks::bcube_clear_link;
+pub use marks::bcube_clear_server;
 pub use marks::bcube_failed_link;
 pub use marks::bcube_mark_link;
+pub use marks::bcube_mark_server;
 pub use paths::bcube_check;
+pub use paths::bcube_path_byte;
+pub use paths::bcube_path_byte_parts;
 pub use paths::bcube_read;
 pub use paths::bcube_reverse;
 pub use paths::bcube_write;
@@ -33,13 +37,16 @@ pub use rooms::bcube_bound;
 pub use rooms::bcube_digit;
 pub use rooms::bcube_digits;
 pub use rooms::bcube_neighbour;
+pub use rooms::bcube_server_at;
 pub use rooms::bcube_servers;
 pub use rooms::bcube_shape;
 pub use rooms::bcube_switch;
+pub use rooms::bcube_switches;
 pub use routes::bcube_build;
 pub use routes::bcube_find;
 pub use routes::bcube_select;
 pub use shapes::bcube_room_of;
+pub use shapes::bcube_version;
 pub use steps::bcube_step;
 
 // A room, as the driver holds it: n plus 256 times k. Whatever the number, a call takes it.

@@ -1,6 +1,7 @@
-// The failed-link table: one link asked for, marked, cleared.
+// The failed-link table: one link asked for, marked, cleared; all links of a server marked, cleared.
 ghost use mathlib.Core.Path.{_≡_};
 ghost use Rattle.links.specs.Answers.{failedAnswer, linkAnswer, markedTable, clearedTable};
+ghost use Rattle.links.specs.Servers.{serverAnswer, markedServer, clearedServer};
 ghost use Rattle.driver.specs.Rooms.{shapeIn};
 ghost use Rattle.driver.specs.Words.{word, askedWord};
 use crate::Answer;
@@ -48,5 +49,25 @@ pub extern "C" fn bcube_clear_link(
 {
     let shape = shape_in(room);
     let refusal = links::clear_link(shape, table, server, level);
+    result_word(refusal, 0)
+}
+
+// Marks all links of a server as failed. Refusals 1, 2, 3, 4, 6; the value is 0.
+#[no_mangle]
+pub extern "C" fn bcube_mark_server(room: Room, server: usize, table: &mut [u8]) -> Answer
+    ensures { λ r. ⌜ (r ≡ word (serverAnswer (shapeIn room) (now (table .entry)) server) 0) × (now (table .exit) ≡ markedServer (shapeIn room) (now (table .entry)) server) ⌝ }
+{
+    let shape = shape_in(room);
+    let refusal = links::mark_server(shape, table, server);
+    result_word(refusal, 0)
+}
+
+// Clears all links of a server. Refusals 1, 2, 3, 4, 6; the value is 0.
+#[no_mangle]
+pub extern "C" fn bcube_clear_server(room: Room, server: usize, table: &mut [u8]) -> Answer
+    ensures { λ r. ⌜ (r ≡ word (serverAnswer (shapeIn room) (now (table .entry)) server) 0) × (now (table .exit) ≡ clearedServer (shapeIn room) (now (table .entry)) server) ⌝ }
+{
+    let shape = shape_in(room);
+    let refusal = links::clear_server(shape, table, server);
     result_word(refusal, 0)
 }

@@ -1,14 +1,33 @@
-// Path bytes read, written and reversed; lists of arrays checked.
+// Path bytes made, taken apart, read, written and reversed; lists of arrays checked.
 ghost use mathlib.Core.Path.{_≡_};
-ghost use Prim.Native.Nat.{_≤_};
 ghost use Rattle.path.specs.Answers.{readAnswer, writeAnswer, reverseAnswer};
+ghost use Rattle.path.specs.Bytes.{byteAnswer, partsAnswer};
 ghost use Rattle.verdict.specs.Checks.{checkAnswer};
 ghost use Rattle.driver.specs.Rooms.{shapeIn};
-ghost use Rattle.driver.specs.Words.{word, readingWord, readingLeft, writingWord, writingLeft};
+ghost use Rattle.driver.specs.Words.{word, numberWord, partsWord, readingWord, readingLeft, writingWord, writingLeft};
 use crate::Answer;
 use crate::Room;
 use crate::shapes::shape_in;
 use crate::words::result_word;
+
+// The path byte of a level and a value. Refusals 1, 2, 3, 20, 21.
+#[no_mangle]
+pub extern "C" fn bcube_path_byte(room: Room, level: usize, value: usize) -> Answer
+    ensures { λ r. ⌜ r ≡ numberWord (byteAnswer (shapeIn room) level value) ⌝ }
+{
+    let answer = path::byte_of(shape_in(room), level, value);
+    result_word(answer.refusal, answer.value)
+}
+
+// The level and the value of a path byte, in one value: 256 times the level, plus the value.
+// Refusals 1, 2, 3, then 8, 9 at a hop.
+#[no_mangle]
+pub extern "C" fn bcube_path_byte_parts(room: Room, byte: usize) -> Answer
+    ensures { λ r. ⌜ r ≡ partsWord (partsAnswer (shapeIn room) byte) ⌝ }
+{
+    let parts = path::parts_of(shape_in(room), byte);
+    result_word(parts.refusal, 256 * parts.level + parts.value)
+}
 
 // The servers that an array meets, source first, into nine places with zeros past them; the value is
 // their count. Refusals 1, 2, 3, 4, 5, 7, then 8, 9, 10, 12, 13, 14 at a hop.

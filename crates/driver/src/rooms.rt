@@ -3,6 +3,7 @@ ghost use mathlib.Core.Path.{_≡_};
 ghost use mathlib.Core.List.{[], _∷_};
 ghost use Rattle.room.specs.Refusals.{plain, shapeRefusal};
 ghost use Rattle.room.specs.Answers.{serversAnswer, boundAnswer, digitsAnswer, digitAnswer, addressAnswer, switchAnswer, neighbourAnswer, betweenAnswer};
+ghost use Rattle.room.specs.Wiring.{switchesAnswer, serverAtAnswer};
 ghost use Rattle.driver.specs.Rooms.{shapeIn};
 ghost use Rattle.driver.specs.Words.{word, numberWord, digitsWord, digitsLeft, switchWord, betweenWord};
 use crate::Answer;
@@ -35,6 +36,15 @@ pub extern "C" fn bcube_bound(room: Room, level: usize) -> Answer
     ensures { λ r. ⌜ r ≡ numberWord (boundAnswer (shapeIn room) level) ⌝ }
 {
     let answer = room::bound_of(shape_in(room), level);
+    result_word(answer.refusal, answer.value)
+}
+
+// How many switches a level has. Refusals 1, 2, 3, 20.
+#[no_mangle]
+pub extern "C" fn bcube_switches(room: Room, level: usize) -> Answer
+    ensures { λ r. ⌜ r ≡ numberWord (switchesAnswer (shapeIn room) level) ⌝ }
+{
+    let answer = room::switches_of(shape_in(room), level);
     result_word(answer.refusal, answer.value)
 }
 
@@ -81,6 +91,15 @@ pub extern "C" fn bcube_switch(room: Room, server: usize, level: usize) -> Answe
     let shape = shape_in(room);
     let answer = room::switch_of(shape, server, level);
     result_word(answer.refusal, answer.number)
+}
+
+// The server at a port of the switch of this number at a level. Refusals 1, 2, 3, 20, 21.
+#[no_mangle]
+pub extern "C" fn bcube_server_at(room: Room, level: usize, number: usize, port: usize) -> Answer
+    ensures { λ r. ⌜ r ≡ numberWord (serverAtAnswer (shapeIn room) level number port) ⌝ }
+{
+    let answer = room::server_at(shape_in(room), level, number, port);
+    result_word(answer.refusal, answer.value)
 }
 
 // The neighbour of a server at a level that has the value there. Refusals 1, 2, 3, 4, 20, 21.

@@ -1,9 +1,17 @@
-// A room as one number.
+// A room as one number, and the version.
 ghost use Prim.Native.Nat.{_≤_};
 ghost use mathlib.Core.Path.{_≡_};
 ghost use Rattle.driver.specs.Rooms.{held, roomOf, shapeIn};
 use crate::Room;
 use room::Shape;
+
+// The version of the library: 10,000 times the first number, 100 times the second, and the third.
+#[no_mangle]
+pub extern "C" fn bcube_version() -> u64
+    ensures { λ r. ⌜ r ≡ 20000 ⌝ }
+{
+    20000
+}
 
 // A number, or 255 where it is more.
 fn at_most_255(x: usize) -> u64

@@ -24,7 +24,7 @@ fn mac_number(mac: [u8; 6]) -> u64
     65536 * first + last
 }
 
-// One step of a packet at the server `here`, whose neighbour table this is; the index is the NHI. Refusals
+// One step of a packet at the server `here`, whose neighbour table is lent; the index is the NHI. Refusals
 // 1, 2, 3, 4, 17, 7; away from the destination 18, then 8, 9, 10, 19.
 #[no_mangle]
 pub extern "C" fn bcube_step(
@@ -33,11 +33,11 @@ pub extern "C" fn bcube_step(
     destination: usize,
     index: usize,
     path: &[u8],
-    table: &[u8],
+    neighbours: &[u8],
 ) -> Stepped
-    ensures { λ r. ⌜ r ≡ packed (stepAnswer (shapeIn room) here destination index (now (path .entry)) (now (table .entry))) ⌝ }
+    ensures { λ r. ⌜ r ≡ packed (stepAnswer (shapeIn room) here destination index (now (path .entry)) (now (neighbours .entry))) ⌝ }
 {
-    let step = step::step_once(shape_in(room), here, destination, index, path, table);
+    let step = step::step_once(shape_in(room), here, destination, index, path, neighbours);
     let refusal = step.refusal;
     if refusal.number != 0 {
         return Stepped {

@@ -16,7 +16,31 @@ use Rattle.room.proofs.RoomLaws.{bound-le}
 use Rattle.room.proofs.AnswerLaws.{bound-answered}
 use Rattle.path.specs.declared.Parts.{Parts}
 use Rattle.path.specs.Routes.{byteOf}
-use Rattle.path.specs.Bytes.{madeRefusal, byteAnswer, partsRefusal, noParts, someParts, partsAnswer}
+use Rattle.path.specs.Bytes.{madeRefusal, Made, byteAnswer, partsRefusal, noParts, someParts, partsAnswer}
+
+-- ---- what a passed test tells
+
+pub made-of : (s : Shape) (l v : ℕ) → madeRefusal s l v ≡ 0 → Made s l v
+unfolding madeRefusal
+made-of s l v z =
+    let p = or-else-zero (levelRefusal s l) (21 unless ltb v (bound s l)) z in
+    let h = level-of s l (p .0) in
+    record { valid = h .0; level = h .1; value = ltb-true v (bound s l) (test-held _ 20 (p .1)) }
+
+pub made-none : {s : Shape} {l v : ℕ} → Made s l v → 0 ≡ madeRefusal s l v
+unfolding madeRefusal
+made-none {s} {l} {v} h = chain-goes _ _ _ _ (level-none (h .valid) (h .level)) refl (rw (lt-ltb v (bound s l) (h .value)))
+
+pub parts-of : (s : Shape) (b : ℕ) → shapeRefusal s ≡ 0 → partsRefusal s b ≡ 0 → Made s (b / 64) (b % 64)
+unfolding partsRefusal
+parts-of s b v z =
+    let t = or-else-zero (8 unless leb (b / 64) (s .k)) (9 unless ltb (b % 64) (bound s (b / 64))) z in
+    record { valid = valid-of s v; level = leb-true (b / 64) (s .k) (test-held _ 7 (t .0)); value = ltb-true (b % 64) (bound s (b / 64)) (test-held _ 8 (t .1)) }
+
+pub parts-none : {s : Shape} (b : ℕ) → Made s (b / 64) (b % 64) → 0 ≡ partsRefusal s b
+unfolding partsRefusal
+parts-none {s} b h =
+    chain-goes _ _ _ _ (rw (le-leb (b / 64) (s .k) (h .level))) refl (rw (lt-ltb (b % 64) (bound s (b / 64)) (h .value)))
 
 -- ---- making a byte, from the bound of its level
 
@@ -92,25 +116,22 @@ parts-given s b q r y found z f h g k =
 -- ---- they undo each other
 
 -- the byte of a level and a value has them as its parts
-pub made-parts : {s : Shape} {l v : ℕ} → Valid s → l ≤ s .k → v < bound s l → (byteAnswer s l v ≡ aNumber (byteOf l v)) × (partsAnswer s (byteOf l v) ≡ someParts l v)
-unfolding byteAnswer madeRefusal partsAnswer partsRefusal byteOf
-made-parts {s} {l} {v} h k b =
-    let p : (64 * l + v) / 64 ≡ l = omega (arith, bound-le h l, h .ports) in
-    let q : (64 * l + v) % 64 ≡ v = omega (arith, bound-le h l, h .ports) in (
-      answer-none _ _ _ (chain-goes _ _ _ _ (level-none h k) refl (rw (lt-ltb v (bound s l) b))),
-      answer-none _ _ _ (valid-none h)
-          ∙ rw (p, q) (answer-none _ _ _ (chain-goes _ _ _ _ (rw (le-leb l (s .k) k)) refl (rw (lt-ltb v (bound s l) b)))),
+pub made-parts : {s : Shape} {l v : ℕ} → Made s l v → (byteAnswer s l v ≡ aNumber (byteOf l v)) × (partsAnswer s (byteOf l v) ≡ someParts l v)
+unfolding byteAnswer partsAnswer byteOf
+made-parts {s} {l} {v} h =
+    let most = bound-le (h .valid) l in
+    let p : (64 * l + v) / 64 ≡ l = omega (arith, h .value, h .valid .ports) in
+    let q : (64 * l + v) % 64 ≡ v = omega (arith, h .value, h .valid .ports) in (
+      answer-none _ _ _ (made-none h),
+      answer-none _ _ _ (valid-none (h .valid)) ∙ answer-none _ _ _ (parts-none (64 * l + v) (rw (p, q) h)) ∙ ap₂ someParts p q,
     )
 
 -- and a number whose parts are not refused is the byte of them
 pub parts-made : (s : Shape) (b : ℕ) → partsAnswer s b .refusal .number ≡ 0 → byteAnswer s (partsAnswer s b .level) (partsAnswer s b .value) ≡ aNumber b
-unfolding partsAnswer partsRefusal byteOf
+unfolding partsAnswer byteOf
 parts-made s b z =
     let number : Parts → ℕ = λ x. x .refusal .number in
     let p = answered number (λ r. noParts (plain r)) (λ r. refl) (shapeRefusal s) (partsAnswer s b) _ refl z in
     let q = answered number (λ r. noParts (refusedAt r 1 1)) (λ r. refl) (partsRefusal s b) _ (someParts (b / 64) (b % 64)) refl (ap number (sym (p .1)) ∙ z) in
-    let t = or-else-zero (8 unless leb (b / 64) (s .k)) (9 unless ltb (b % 64) (bound s (b / 64))) (q .0) in
-    let l = leb-true (b / 64) (s .k) (test-held _ 7 (t .0)) in
-    let v = ltb-true (b % 64) (bound s (b / 64)) (test-held _ 8 (t .1)) in
     let e : 64 * (b / 64) + b % 64 ≡ b = omega arith in
-    ap (λ (x : Parts). byteAnswer s (x .level) (x .value)) (p .1 ∙ q .1) ∙ made-parts (valid-of s (p .0)) l v .0 ∙ ap aNumber e
+    ap (λ (x : Parts). byteAnswer s (x .level) (x .value)) (p .1 ∙ q .1) ∙ made-parts (parts-of s b (p .0) (q .0)) .0 ∙ ap aNumber e

@@ -1,10 +1,10 @@
 -- One path byte by itself: made of a level and a value, and taken apart.
-use Prim.Native.Nat.{ℕ, _/_, _%_}
+use Prim.Native.Nat.{ℕ, _/_, _%_, _≤_, _<_}
 use lib.Dec.{ltb, leb}
 use Rattle.room.specs.declared.Shape.{Shape}
 use Rattle.room.specs.declared.Refusal.{Refusal}
 use Rattle.room.specs.declared.Number.{Number}
-use Rattle.room.specs.Shapes.{bound}
+use Rattle.room.specs.Shapes.{bound, Valid}
 use Rattle.room.specs.Refusals.{none, plain, refusedAt, shapeRefusal, levelRefusal, _or-else_, _unless_}
 use Rattle.room.specs.Answers.{answer, noNumber, aNumber}
 use Rattle.path.specs.declared.Parts.{Parts}
@@ -13,6 +13,12 @@ use Rattle.path.specs.Routes.{byteOf}
 -- a level and a value that some server has there: 1 to 3, 20, 21
 unfoldable pub madeRefusal : Shape → ℕ → ℕ → ℕ
 madeRefusal s l v = levelRefusal s l or-else 21 unless ltb v (bound s l)
+
+-- a level and a value of the room
+pub record Made (s : Shape) (l v : ℕ) : Type 0 where
+  pub valid : Valid s
+  pub level : l ≤ s .k
+  pub value : v < bound s l
 
 unfoldable pub byteAnswer : Shape → ℕ → ℕ → Number
 byteAnswer s l v = answer (madeRefusal s l v) noNumber (aNumber (byteOf l v))
