@@ -18,3 +18,4 @@ pub mod ShortRoutes
 pub mod ProvedTable
 pub mod TieRows
 pub mod Uniqueness
+pub mod Calls

@@ -12,12 +12,15 @@ use lib.ListN.{length, getD}
 use borrow.Author.Tests.{le-leb, lt-leb, not-true}
 use Rattle.room.specs.declared.Shape.{Shape}
 use Rattle.room.specs.Shapes.{serversOf, bound, Valid, Server}
-use Rattle.room.specs.Addresses.{digit, differing, Neighbours}
+use Rattle.room.specs.Addresses.{digit, switchesAt, differing, Neighbours}
+use Rattle.room.specs.Wiring.{portRefusal}
 use Rattle.room.specs.Refusals.{shapeRefusal, levelRefusal, serverRefusal, pairRefusal, linkRefusal, valueRefusal, placeBound, placesFit, placesRefusal, _or-else_, _unless_}
 use Rattle.room.proofs.RefusalLaws.{or-else-zero, chain-goes, test-held, both-held, valid-none, Places, places-of, places-none}
 use Rattle.room.proofs.RoomLaws.{neighbours-exactly}
 use Rattle.links.specs.Table.{failed, live, bitsFit, tableRefusal, roomTableRefusal, tableLinkRefusal, TableOf}
+use Rattle.links.specs.Servers.{tableServerRefusal}
 use Rattle.links.proofs.TableLaws.{table-of, table-none, live-empty}
+use Rattle.path.specs.Bytes.{madeRefusal, partsRefusal}
 use Rattle.path.specs.Lists.{isIn}
 use Rattle.path.specs.Routes.{switchAt, switchTo, switchesOf}
 use Rattle.path.specs.Walks.{hopTo, hopRefusal, fault, single, writeFault}
@@ -29,7 +32,7 @@ use Rattle.pick.specs.Picks.{fits, listsRefusal}
 use Rattle.step.specs.Steps.{flagAt, givenRefusal, byteRefusal}
 use Rattle.demands.specs.Tests.{Number, Hold}
 use Rattle.demands.specs.Demand1.{OneOf}
-use Rattle.demands.specs.Refusals.{shapeTests, levelTests, serverTests, pairTests, linkTests, valueTests, Fits, placesTests, tableTests, tableLinkTests, endsTests, roomTests, arrayTests, Arrays, checkTests, NotIn, endOf, hopTests, readTests, writeTests, serversTests, givenTests, stepTests}
+use Rattle.demands.specs.Refusals.{shapeTests, levelTests, serverTests, pairTests, linkTests, valueTests, portTests, madeTests, partsTests, tableServerTests, Fits, placesTests, tableTests, tableLinkTests, endsTests, roomTests, arrayTests, Arrays, checkTests, NotIn, endOf, hopTests, readTests, writeTests, serversTests, givenTests, stepTests}
 use Rattle.demands.proofs.Chains.{front, test, chain, after, under, merge, reword, idle, zero-of, one-listed, le, lt, eq, ne, both}
 
 -- ---- conditions in other words
@@ -93,6 +96,23 @@ module _ (s : Shape) where
   unfolding valueRefusal
   value-number a l v = chain (linkTests s a l) ((21, v < bound s l) ∷ []) _ _ refl (link-number a l) (λ h. test 21 (ltb v (bound s l)) (lt v (bound s l)))
 
+  pub port-number : (l w v : ℕ) → Number (portTests s l w v) (portRefusal s l w v)
+  unfolding portRefusal
+  port-number l w v =
+      chain (levelTests s l) ((21, (w < switchesAt s l) × (v < bound s l)) ∷ []) _ _ refl (level-number l)
+      (λ h. test 21 (ltb w (switchesAt s l) && ltb v (bound s l)) (both _ _ (lt w (switchesAt s l)) (lt v (bound s l))))
+
+  pub made-number : (l v : ℕ) → Number (madeTests s l v) (madeRefusal s l v)
+  unfolding madeRefusal
+  made-number l v = chain (levelTests s l) ((21, v < bound s l) ∷ []) _ _ refl (level-number l) (λ h. test 21 (ltb v (bound s l)) (lt v (bound s l)))
+
+  pub parts-number : (b : ℕ) → Number (partsTests s b) (partsRefusal s b)
+  unfolding partsRefusal
+  parts-number b =
+      chain ((8, b / 64 ≤ s .k) ∷ []) ((9, b % 64 < bound s (b / 64)) ∷ []) _ _ refl
+      (test 8 (leb (b / 64) (s .k)) (le (b / 64) (s .k)))
+      (λ h. test 9 (ltb (b % 64) (bound s (b / 64))) (lt (b % 64) (bound s (b / 64))))
+
   fits-of : {ds : List ℕ} → Places s ds → Fits s ds
   unfolding placeBound
   fits-of {ds} h =
@@ -138,6 +158,10 @@ module _ (s : Shape) where
   pub table-link-number : (t : List ℕ) (a l : ℕ) → Number (tableLinkTests s t a l) (tableLinkRefusal s t a l)
   unfolding tableLinkRefusal
   table-link-number t a l = chain (linkTests s a l) ((6, TableOf s t) ∷ []) _ _ refl (link-number a l) (λ h. table-alone t)
+
+  pub table-server-number : (t : List ℕ) (a : ℕ) → Number (tableServerTests s t a) (tableServerRefusal s t a)
+  unfolding tableServerRefusal
+  table-server-number t a = chain (serverTests s a) ((6, TableOf s t) ∷ []) _ _ refl (server-number a) (λ h. table-alone t)
 
   pub ends-number : (a d : ℕ) → Number (endsTests s a d) (endsRefusal s a d)
   unfolding endsRefusal

@@ -17,18 +17,23 @@ use Rattle.room.specs.declared.Between.{Between}
 use Rattle.room.specs.Refusals.{plain, refusedAt, shapeRefusal, serverRefusal, linkRefusal}
 use Rattle.room.specs.Answers.{serversAnswer, boundAnswer, digitsAnswer, digitAnswer, addressAnswer, switchAnswer, neighbourAnswer, betweenAnswer}
 use Rattle.links.specs.declared.Asked.{Asked}
+use Rattle.room.specs.Wiring.{switchesAnswer, serverAtAnswer}
+use Rattle.links.specs.Servers.{serverAnswer}
 use Rattle.links.specs.Table.{roomTableRefusal}
 use Rattle.links.specs.Answers.{failedAnswer, linkAnswer}
 use Rattle.path.specs.declared.Hop.{Hop}
+use Rattle.path.specs.declared.Parts.{Parts}
 use Rattle.path.specs.declared.Walked.{Walked}
 use Rattle.path.specs.declared.Reading.{Reading}
 use Rattle.path.specs.declared.Writing.{Writing}
 use Rattle.path.specs.Lists.{isIn}
+use Rattle.path.specs.Bytes.{byteAnswer, partsAnswer}
 use Rattle.path.specs.Answers.{endsRefusal, hopAnswer, walkAnswer, readAnswer, writeAnswer, reverseAnswer}
 use Rattle.verdict.specs.Checks.{checkAnswer}
 use Rattle.build.specs.declared.Building.{Building}
 use Rattle.build.specs.Sets.{emptySet}
 use Rattle.build.specs.Answers.{buildAnswer}
+use Rattle.laying.specs.Answers.{Lays}
 use Rattle.finder.specs.declared.Found.{Found}
 use Rattle.finder.specs.Answers.{Finding}
 use Rattle.select.specs.declared.Selection.{Selection}
@@ -89,7 +94,10 @@ BetweenOf = Refuses (λ x. x .refusal) (λ r. record { refusal = r; adjacent = f
 abbrev pub AskedOf : List ℕ → Asked → Type 0
 AskedOf = Refuses (λ x. x .refusal) (λ r. record { refusal = r; failed = false }) 0
 
--- a single array is route 1
+-- a single byte and a single array are route 1
+abbrev pub PartsOf : List ℕ → Parts → Type 0
+PartsOf = Refuses (λ x. x .refusal) (λ r. record { refusal = r; level = 0; value = 0 }) 1
+
 abbrev pub WalkedOf : List ℕ → Walked → Type 0
 WalkedOf = Refuses (λ x. x .refusal) (λ r. record { refusal = r; count = 0; servers = replicate 9 0; switches = replicate 8 0 }) 1
 
@@ -135,11 +143,16 @@ pub record EveryCall : Type 0 where
   pub switch-of : (s : Shape) (a l : ℕ) → SwitchOf (1 ∷ 2 ∷ 3 ∷ 4 ∷ 20 ∷ []) (switchAnswer s a l)
   pub neighbour-of : (s : Shape) (a l v : ℕ) → NumberOf (1 ∷ 2 ∷ 3 ∷ 4 ∷ 20 ∷ 21 ∷ []) (neighbourAnswer s a l v)
   pub level-between : (s : Shape) (a b : ℕ) → BetweenOf (1 ∷ 2 ∷ 3 ∷ 4 ∷ []) (betweenAnswer s a b)
+  pub switches-of : (s : Shape) (l : ℕ) → NumberOf (1 ∷ 2 ∷ 3 ∷ 20 ∷ []) (switchesAnswer s l)
+  pub server-at : (s : Shape) (l w v : ℕ) → NumberOf (1 ∷ 2 ∷ 3 ∷ 20 ∷ 21 ∷ []) (serverAtAnswer s l w v)
   -- links
   pub table-refusal : (s : Shape) (t : List ℕ) → OneOf (1 ∷ 2 ∷ 3 ∷ 6 ∷ []) (roomTableRefusal s t)
   pub failed-link : (s : Shape) (t : List ℕ) (a l : ℕ) → AskedOf (1 ∷ 2 ∷ 3 ∷ 4 ∷ 20 ∷ 6 ∷ []) (failedAnswer s t a l)
   pub mark-or-clear : (s : Shape) (t : List ℕ) (a l : ℕ) → RefusalOf 0 (1 ∷ 2 ∷ 3 ∷ 4 ∷ 20 ∷ 6 ∷ []) (linkAnswer s t a l)
+  pub mark-or-clear-server : (s : Shape) (t : List ℕ) (a : ℕ) → RefusalOf 0 (1 ∷ 2 ∷ 3 ∷ 4 ∷ 6 ∷ []) (serverAnswer s t a)
   -- path
+  pub byte-of : (s : Shape) (l v : ℕ) → NumberOf (1 ∷ 2 ∷ 3 ∷ 20 ∷ 21 ∷ []) (byteAnswer s l v)
+  pub parts-of : (s : Shape) (b : ℕ) → PartsOf (1 ∷ 2 ∷ 3 ∷ 8 ∷ 9 ∷ []) (partsAnswer s b)
   pub ends-refusal : (s : Shape) (a d : ℕ) → OneOf (1 ∷ 2 ∷ 3 ∷ 4 ∷ 5 ∷ []) (endsRefusal s a d)
   pub hop-of : (s : Shape) (a b : ℕ) → HopOf (1 ∷ 2 ∷ 3 ∷ 4 ∷ 8 ∷ 9 ∷ 10 ∷ []) (hopAnswer s a b)
   pub walk : (s : Shape) (t : List ℕ) (a d : ℕ) (bs : List ℕ) → WalkedOf (1 ∷ 2 ∷ 3 ∷ 4 ∷ 5 ∷ 7 ∷ 8 ∷ 9 ∷ 10 ∷ 11 ∷ 12 ∷ 13 ∷ 14 ∷ []) (walkAnswer s t a d bs)
@@ -149,8 +162,10 @@ pub record EveryCall : Type 0 where
   -- verdict: the routes are the arrays of the list
   pub check-list : (s : Shape) (t : List ℕ) (a d : ℕ) (bs : List ℕ)
       → RefusalOf (length bs / 8) (1 ∷ 2 ∷ 3 ∷ 4 ∷ 5 ∷ 6 ∷ 7 ∷ 8 ∷ 9 ∷ 10 ∷ 11 ∷ 12 ∷ 13 ∷ 14 ∷ 15 ∷ []) (checkAnswer s t a d bs)
-  -- build, finder, select
+  -- build, laying, finder, select
   pub build-routes : (s : Shape) (a d : ℕ) → BuildingOf (1 ∷ 2 ∷ 3 ∷ 4 ∷ 5 ∷ []) (buildAnswer s a d)
+  pub lay-route : (s : Shape) (t : List ℕ) (a d : ℕ) (bs : List ℕ) (r : Refusal) (u : List ℕ)
+      → Lays s t a d bs r u → RefusalOf 1 (1 ∷ 2 ∷ 3 ∷ 4 ∷ 5 ∷ 6 ∷ 7 ∷ 8 ∷ 9 ∷ 10 ∷ 12 ∷ 13 ∷ 14 ∷ []) r
   pub find-route : (s : Shape) (t : List ℕ) (a d : ℕ) (x : Found) → Finding s t a d x → FoundOf (1 ∷ 2 ∷ 3 ∷ 4 ∷ 5 ∷ 6 ∷ []) x
   pub select-routes : (s : Shape) (t : List ℕ) (a d : ℕ) (x : Selection) → Selecting s t a d x → SelectionOf (1 ∷ 2 ∷ 3 ∷ 4 ∷ 5 ∷ 6 ∷ 16 ∷ []) x
   -- pick: the number through the companion, and on a refusal the part is empty

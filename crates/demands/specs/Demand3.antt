@@ -18,7 +18,7 @@ use Rattle.build.specs.Answers.{buildAnswer}
 use Rattle.select.specs.declared.Selection.{Selection}
 use Rattle.select.specs.Selection.{Selecting}
 use Rattle.step.specs.Steps.{macAt, portAt, delivery}
-use Rattle.step.specs.Packed.{Bytes}
+use Rattle.driver.specs.Packed.{Bytes}
 use Rattle.step.specs.Delivery.{Tables, stepAfter}
 
 -- a list is accepted exactly when the table is one of the room, and the list is 1 to k + 1 arrays, each the encoding of a route

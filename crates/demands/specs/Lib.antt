@@ -7,3 +7,4 @@ pub mod Demand3
 pub mod ProvedTable
 pub mod TieRows
 pub mod Uniqueness
+pub mod Calls

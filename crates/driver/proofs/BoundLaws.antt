@@ -7,7 +7,11 @@ use lib.ListN.{length}
 use Rattle.room.specs.declared.Shape.{Shape}
 use Rattle.room.specs.Shapes.{serversOf, bound}
 use Rattle.room.specs.Refusals.{shapeRefusal, levelRefusal, serverRefusal, pairRefusal, linkRefusal, valueRefusal, placesFit, placesRefusal, _or-else_, _unless_}
+use Rattle.room.specs.Addresses.{switchesAt}
+use Rattle.room.specs.Wiring.{portRefusal}
 use Rattle.links.specs.Table.{bitsFit, tableRefusal, tableLinkRefusal}
+use Rattle.links.specs.Servers.{tableServerRefusal}
+use Rattle.path.specs.Bytes.{madeRefusal}
 use Rattle.path.specs.Answers.{endsRefusal, arrayRefusal}
 use Rattle.verdict.specs.Checks.{roomRefusal}
 use Rattle.driver.proofs.WordLaws.{chain-le, test-le}
@@ -45,6 +49,17 @@ unfolding placesRefusal
 places-le s ds =
     chain-le 23 (shapeRefusal s) (21 unless placesFit s 0 ds) (shape-le s) (test-le 23 21 (placesFit s 0 ds) (lit≤ tt))
 
+pub port-le : (s : Shape) (l w v : ℕ) → portRefusal s l w v ≤ 23
+unfolding portRefusal
+port-le s l w v =
+    let t = ltb w (switchesAt s l) && ltb v (bound s l) in
+    chain-le 23 (levelRefusal s l) (21 unless t) (level-le s l) (test-le 23 21 t (lit≤ tt))
+
+pub made-le : (s : Shape) (l v : ℕ) → madeRefusal s l v ≤ 23
+unfolding madeRefusal
+made-le s l v =
+    chain-le 23 (levelRefusal s l) (21 unless ltb v (bound s l)) (level-le s l) (test-le 23 21 (ltb v (bound s l)) (lit≤ tt))
+
 pub table-le : (s : Shape) (t : List ℕ) → tableRefusal s t ≤ 23
 unfolding tableRefusal
 table-le s t = test-le 23 6 (eqb (length t) (serversOf s) && bitsFit (s .k) t) (lit≤ tt)
@@ -52,6 +67,10 @@ table-le s t = test-le 23 6 (eqb (length t) (serversOf s) && bitsFit (s .k) t) (
 pub table-link-le : (s : Shape) (t : List ℕ) (a l : ℕ) → tableLinkRefusal s t a l ≤ 23
 unfolding tableLinkRefusal
 table-link-le s t a l = chain-le 23 (linkRefusal s a l) (tableRefusal s t) (link-le s a l) (table-le s t)
+
+pub table-server-le : (s : Shape) (t : List ℕ) (a : ℕ) → tableServerRefusal s t a ≤ 23
+unfolding tableServerRefusal
+table-server-le s t a = chain-le 23 (serverRefusal s a) (tableRefusal s t) (server-le s a) (table-le s t)
 
 pub ends-le : (s : Shape) (a d : ℕ) → endsRefusal s a d ≤ 23
 unfolding endsRefusal

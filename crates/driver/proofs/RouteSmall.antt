@@ -27,6 +27,7 @@ use Rattle.select.specs.declared.Selection.{Selection}
 use Rattle.select.specs.Selection.{selectRefusal, Selecting, GivesRoutes, selection}
 use Rattle.select.proofs.SlotLaws.{all-settled}
 use Rattle.select.proofs.SelectLaws.{select-ends, select-le}
+use Rattle.driver.specs.declared.Answer.{Answer}
 use Rattle.driver.specs.Words.{word, Small, left}
 use Rattle.driver.specs.Routes.{FoundWord, SelectedWord}
 use Rattle.driver.proofs.WordLaws.{chain-le, none-small, plain-small}
@@ -48,7 +49,7 @@ build-small s a d x e =
     (building-small (endsRefusal s a d) (setOf (builtArrays s a d)) (ends-le s a d) (λ z. let h = ends-of s a d z in omega (arith, arrays-count s a d, h .source .valid .levels)))
 
 -- what the call says of the answer of the builder, asked with the shape t
-pub build-said : {s t : Shape} (a d : ℕ) {w : ℕ} {x : Building} (lent : List ℕ) {bytes : List ℕ} → x ≡ buildAnswer s a d → s ≡ t → w ≡ word (x .refusal) (x .routes .count) → bytes ≡ left (x .refusal .number) lent (x .routes .bytes) → (w ≡ word (buildAnswer t a d .refusal) (buildAnswer t a d .routes .count)) × (bytes ≡ left (buildAnswer t a d .refusal .number) lent (buildAnswer t a d .routes .bytes))
+pub build-said : {s t : Shape} (a d : ℕ) {w : Answer} {x : Building} (lent : List ℕ) {bytes : List ℕ} → x ≡ buildAnswer s a d → s ≡ t → w ≡ word (x .refusal) (x .routes .count) → bytes ≡ left (x .refusal .number) lent (x .routes .bytes) → (w ≡ word (buildAnswer t a d .refusal) (buildAnswer t a d .routes .count)) × (bytes ≡ left (buildAnswer t a d .refusal .number) lent (buildAnswer t a d .routes .bytes))
 build-said {s} {t} a d {w} {x} lent {bytes} e g h f =
     let q : x ≡ buildAnswer t a d = e ∙ ap (λ (z : Shape). buildAnswer z a d) g in
     (h ∙ ap (λ (y : Building). word (y .refusal) (y .routes .count)) q, f ∙ ap (λ (y : Building). left (y .refusal .number) lent (y .routes .bytes)) q)
@@ -70,7 +71,7 @@ find-small {s} {t} {a} {d} x f =
     few z =
         ⊎-elim (λ g. let h = given-some g .1 in omega arith) (λ g. omega (arith, ap (λ (y : Found). y .hops) (g .0))) (found-or-none f z)
 
-pub find-said : {s e : Shape} {t : List ℕ} {a d w : ℕ} {x : Found} {lent path : List ℕ} → Finding s t a d x → s ≡ e → w ≡ word (x .refusal) (x .hops) → path ≡ left (x .refusal .number) lent (x .bytes) → FoundWord e t a d w lent path
+pub find-said : {s e : Shape} {t : List ℕ} {a d : ℕ} {w : Answer} {x : Found} {lent path : List ℕ} → Finding s t a d x → s ≡ e → w ≡ word (x .refusal) (x .hops) → path ≡ left (x .refusal .number) lent (x .bytes) → FoundWord e t a d w lent path
 find-said {t = t} {a} {d} {w} {x} {lent} {path} f g h p =
     subst (λ (z : Shape). FoundWord z t a d w lent path) g (record { answer = x; finding = f; says = h; leaves = p })
 
@@ -100,6 +101,6 @@ select-small {s} {t} {a} {d} x f =
         let h = all-settled t e (c .slots) in
         subst (λ (y : Selection). Small (y .refusal) (y .routes .count)) (sym (c .answer)) (chosen-small s (c .routes) (omega (arith, h .few, e .source .valid .levels)))
 
-pub select-said : {s e : Shape} {t : List ℕ} {a d w : ℕ} {x : Selection} {lent routes : List ℕ} → Selecting s t a d x → s ≡ e → w ≡ word (x .refusal) (x .routes .count) → routes ≡ left (x .refusal .number) lent (x .routes .bytes) → SelectedWord e t a d w lent routes
+pub select-said : {s e : Shape} {t : List ℕ} {a d : ℕ} {w : Answer} {x : Selection} {lent routes : List ℕ} → Selecting s t a d x → s ≡ e → w ≡ word (x .refusal) (x .routes .count) → routes ≡ left (x .refusal .number) lent (x .routes .bytes) → SelectedWord e t a d w lent routes
 select-said {t = t} {a} {d} {w} {x} {lent} {routes} f g h p =
     subst (λ (z : Shape). SelectedWord z t a d w lent routes) g (record { answer = x; selecting = f; says = h; leaves = p })

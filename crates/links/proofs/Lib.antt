@@ -2,4 +2,5 @@ pub mod BitLaws
 pub mod TableLaws
 pub mod LinkLaws
 pub mod AnswerLaws
+pub mod ServerLaws
 pub mod Unique

@@ -5,12 +5,16 @@ use room::Refusal;
 mod bits;
 // links.rt: one link, asked for, marked, cleared
 mod links;
+// servers.rt: all links of a server at once
+mod servers;
 // tables.rt: a whole table, and the links of a hop
 mod tables;
 
 pub use links::clear_link;
 pub use links::failed_link;
 pub use links::mark_link;
+pub use servers::clear_server;
+pub use servers::mark_server;
 pub use tables::is_live;
 pub use tables::table_refusal;
 

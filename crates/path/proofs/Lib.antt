@@ -3,6 +3,7 @@ pub mod HopSteps
 pub mod WalkLaws
 pub mod WriteLaws
 pub mod TurnLaws
+pub mod ByteLaws
 pub mod Unique
 pub mod ListLaws
 pub mod HopLaws

@@ -2,4 +2,5 @@ pub mod Lists
 pub mod Routes
 pub mod Walks
 pub mod Answers
+pub mod Bytes
 pub mod Inside

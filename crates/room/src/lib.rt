@@ -15,6 +15,8 @@ mod refusals;
 mod shapes;
 // switches.rt: the switch of a link
 mod switches;
+// wiring.rt: switches and their ports
+mod wiring;
 
 pub use addresses::address_of;
 pub use addresses::digit_of;
@@ -27,6 +29,8 @@ pub use refusals::shape_refusal;
 pub use shapes::bound_of;
 pub use shapes::servers_of;
 pub use switches::switch_of;
+pub use wiring::server_at;
+pub use wiring::switches_of;
 
 // The shape of a room: n ports a switch, and levels 0 to k.
 pub struct Shape {

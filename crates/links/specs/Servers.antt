@@ -1,0 +1,27 @@
+-- All links of a server at once: what a call refuses, and the table that it leaves.
+use Prim.Native.Nat.{ℕ, suc, _-_, _^_}
+use mathlib.Core.List.{List}
+use lib.ListN.{set}
+use Rattle.room.specs.declared.Shape.{Shape}
+use Rattle.room.specs.declared.Refusal.{Refusal}
+use Rattle.room.specs.Refusals.{plain, serverRefusal, _or-else_}
+use Rattle.room.specs.Answers.{answer}
+use Rattle.links.specs.Table.{tableRefusal}
+
+-- 1 to 3, 4, 6
+unfoldable pub tableServerRefusal : Shape → List ℕ → ℕ → ℕ
+tableServerRefusal s t a = serverRefusal s a or-else tableRefusal s t
+
+-- a byte with the bits 0 to k set
+unfoldable pub allBits : ℕ → ℕ
+allBits k = 2 ^ suc k - 1
+
+-- marking and clearing answer the refusal alone, and on a refusal the table keeps its bytes
+unfoldable pub serverAnswer : Shape → List ℕ → ℕ → Refusal
+serverAnswer s t a = plain (tableServerRefusal s t a)
+
+unfoldable pub markedServer : Shape → List ℕ → ℕ → List ℕ
+markedServer s t a = answer (tableServerRefusal s t a) (λ r. t) (set t a (allBits (s .k)))
+
+unfoldable pub clearedServer : Shape → List ℕ → ℕ → List ℕ
+clearedServer s t a = answer (tableServerRefusal s t a) (λ r. t) (set t a 0)
