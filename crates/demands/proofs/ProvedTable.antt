@@ -1,12 +1,10 @@
 -- The proved table, proved.
 use Prim.Native.Nat.{ℕ, zero, suc, _-_, _<_, suc-le-suc, zero-le}
 use mathlib.Core.Path.{_≡_, refl, sym, ap, subst}
-use mathlib.Core.Logic.{_⊎_, ⊎-elim}
 use mathlib.Core.Bool.{true, false}
 use mathlib.Core.List.{List, [], _∷_}
 use native.Mathlib.Omega.{arith}
-use native.Mathlib.Decide.{ℕ-discrete}
-use lib.ListN.{length, getD, replicate}
+use lib.ListN.{getD, replicate}
 use Rattle.room.specs.declared.Shape.{Shape}
 use Rattle.room.specs.Shapes.{shapeOf, serversOf, bound, Server}
 use Rattle.room.specs.Digits.{digitsOf, addressOf, padded, differFrom}
@@ -33,7 +31,7 @@ use Rattle.build.specs.Answers.{noBuilding, aBuilding, buildAnswer}
 use Rattle.desk_line.specs.Answers.{deskText}
 use Rattle.desk_line.proofs.Vectors.{worked-line}
 use Rattle.demands.specs.ProvedTable.{digits, ascii, array, Built, dead03, ProvedTable}
-use Rattle.demands.proofs.ShortRoutes.{farOff, noneBefore, none-of, none-before}
+use Rattle.demands.proofs.ShortRoutes.{noneBefore, noneShorter, least, free-parallel}
 
 -- ---- addresses
 
@@ -151,33 +149,21 @@ unfolding bytesOf inTurn byteTo byteOf levelTo addresses.digit addresses.differi
 bytes = refl
 
 -- no way of fewer hops leads around, nor one of as many that comes before
-far : (farOff (shapeOf 4 1) dead03 7 (4096 ∷ 1 ∷ []) 1 0 ≡ true) × (farOff (shapeOf 4 1) dead03 7 (4096 ∷ 1 ∷ []) 2 0 ≡ true) × (farOff (shapeOf 4 1) dead03 7 (4096 ∷ 1 ∷ []) 3 0 ≡ true)
-unfolding serversOf live failed bit isIn switchTo switchAt levelTo addresses.differing differFrom addresses.switchOf addresses.digits digitsOf addressOf
-far = (refl, refl, refl)
-
-first : noneBefore (shapeOf 4 1) dead03 7 (4096 ∷ 1 ∷ []) (0x01 ∷ 0x42 ∷ 0x03 ∷ 0x41 ∷ []) 0 ≡ true
+tests : (noneShorter (shapeOf 4 1) dead03 7 (4096 ∷ 1 ∷ []) 4 0 ≡ true) × (noneBefore (shapeOf 4 1) dead03 7 (4096 ∷ 1 ∷ []) (0x01 ∷ 0x42 ∷ 0x03 ∷ 0x41 ∷ []) 0 ≡ true)
 unfolding serversOf live failed bit isIn switchTo switchAt levelTo byteTo byteOf addresses.digit addresses.differing differFrom addresses.switchOf addresses.digits digitsOf addressOf
-first = refl
+tests = (refl, refl)
 
 alternate : Replaces (shapeOf 4 1) dead03 0 7 (direct ∷ []) around
-alternate = record { route = around-route; avoids = record { each = apart }; first = λ us r f. ⊎-elim (shorter us r (f .each 0 (suc-le-suc zero-le))) (λ b. none-before (shapeOf 4 1) dead03 7 (4096 ∷ 1 ∷ []) us _ first (switches .0) r (f .each 0 (suc-le-suc zero-le)) (b .0) (rw bytes at (b .1))) }
+alternate =
+    record {
+      route = around-route;
+      avoids = record { each = apart };
+      first = λ us r f. least (shapeOf 4 1) dead03 7 (4096 ∷ 1 ∷ []) _ around (tests .0) (tests .1) (sym bytes) refl us r (free-parallel (shapeOf 4 1) dead03 7 (switches .0) (f .each 0 (suc-le-suc zero-le)));
+    }
   where
     apart : (i : ℕ) → i < 1 → Parallel (shapeOf 4 1) around (getD (direct ∷ []) i [])
     apart zero h = around-direct
     apart (suc i) h = let z : ⊥ = omega arith in absurd z
-
-    hops : (us : List ℕ) (m : ℕ) → farOff (shapeOf 4 1) dead03 7 (4096 ∷ 1 ∷ []) m 0 ≡ true → RouteTo (shapeOf 4 1) dead03 0 7 us → Parallel (shapeOf 4 1) us direct → length us ≡ suc m → ⊥
-    hops us m e r p l = none-of (shapeOf 4 1) dead03 7 (4096 ∷ 1 ∷ []) us m e (switches .0) r p l
-
-    shorter : (us : List ℕ) → RouteTo (shapeOf 4 1) dead03 0 7 us → Parallel (shapeOf 4 1) us direct → length us < 5 → ⊥
-    shorter us r p h =
-        elim (ℕ-discrete (length us) 2) [
-          | yes e ↦ hops us 1 (far .0) r p e
-          | no n ↦ elim (ℕ-discrete (length us) 3) [
-            | yes e ↦ hops us 2 (far .1) r p e
-            | no q ↦ hops us 3 (far .2) r p (omega (arith, r .route .some))
-          ]
-        ]
 
 -- slot 1 keeps its built route, slot 0 gets the alternate
 built : (build.builtRoute (shapeOf 4 1) 1 0 7 ≡ direct) × (build.builtRoute (shapeOf 4 1) 0 0 7 ≡ 0 ∷ 3 ∷ 7 ∷ [])

@@ -86,6 +86,32 @@ use Rattle.desk_line.proofs.question_of.Reads as question-of-reads
 use Rattle.desk_line.proofs.question_of.Kinds as question-of-kinds
 use Rattle.desk_line.proofs.answer_line.Reads as answer-line-reads
 use Rattle.desk_line.proofs.answer_line.Kinds as answer-line-kinds
+use Rattle.room.proofs.switches_of.Reads as switches-of-reads
+use Rattle.room.proofs.switches_of.Kinds as switches-of-kinds
+use Rattle.room.proofs.server_at.Reads as server-at-reads
+use Rattle.room.proofs.server_at.Kinds as server-at-kinds
+use Rattle.links.proofs.mark_server.Reads as mark-server-reads
+use Rattle.links.proofs.mark_server.Kinds as mark-server-kinds
+use Rattle.links.proofs.clear_server.Reads as clear-server-reads
+use Rattle.links.proofs.clear_server.Kinds as clear-server-kinds
+use Rattle.path.proofs.byte_of.Reads as byte-of-reads
+use Rattle.path.proofs.byte_of.Kinds as byte-of-kinds
+use Rattle.path.proofs.parts_of.Reads as parts-of-reads
+use Rattle.path.proofs.parts_of.Kinds as parts-of-kinds
+use Rattle.driver.proofs.bcube_version.Reads as c-version-reads
+use Rattle.driver.proofs.bcube_version.Kinds as c-version-kinds
+use Rattle.driver.proofs.bcube_switches.Reads as c-switches-reads
+use Rattle.driver.proofs.bcube_switches.Kinds as c-switches-kinds
+use Rattle.driver.proofs.bcube_server_at.Reads as c-server-at-reads
+use Rattle.driver.proofs.bcube_server_at.Kinds as c-server-at-kinds
+use Rattle.driver.proofs.bcube_mark_server.Reads as c-mark-server-reads
+use Rattle.driver.proofs.bcube_mark_server.Kinds as c-mark-server-kinds
+use Rattle.driver.proofs.bcube_clear_server.Reads as c-clear-server-reads
+use Rattle.driver.proofs.bcube_clear_server.Kinds as c-clear-server-kinds
+use Rattle.driver.proofs.bcube_path_byte.Reads as c-path-byte-reads
+use Rattle.driver.proofs.bcube_path_byte.Kinds as c-path-byte-kinds
+use Rattle.driver.proofs.bcube_path_byte_parts.Reads as c-path-byte-parts-reads
+use Rattle.driver.proofs.bcube_path_byte_parts.Kinds as c-path-byte-parts-kinds
 use Rattle.driver.proofs.bcube_room_of.Reads as c-room-of-reads
 use Rattle.driver.proofs.bcube_room_of.Kinds as c-room-of-kinds
 use Rattle.driver.proofs.bcube_shape.Reads as c-shape-reads
@@ -153,13 +179,19 @@ pub record EveryInput : Type 0 where
   pub switch-of : Takes 0 switch-of-kinds.ps switch-of-reads.Pre
   pub neighbour-of : Takes 0 neighbour-of-kinds.ps neighbour-of-reads.Pre
   pub level-between : Takes 0 level-between-kinds.ps level-between-reads.Pre
+  pub switches-of : Takes 0 switches-of-kinds.ps switches-of-reads.Pre
+  pub server-at : Takes 0 server-at-kinds.ps server-at-reads.Pre
   -- links
   pub failed-link : Takes 1 failed-link-kinds.ps failed-link-reads.Pre
   pub mark-link : Takes 1 mark-link-kinds.ps mark-link-reads.Pre
   pub clear-link : Takes 1 clear-link-kinds.ps clear-link-reads.Pre
   pub is-live : Takes 1 is-live-kinds.ps is-live-reads.Pre
   pub table-refusal : Takes 1 table-refusal-kinds.ps table-refusal-reads.Pre
+  pub mark-server : Takes 1 mark-server-kinds.ps mark-server-reads.Pre
+  pub clear-server : Takes 1 clear-server-kinds.ps clear-server-reads.Pre
   -- path
+  pub byte-of : Takes 0 byte-of-kinds.ps byte-of-reads.Pre
+  pub parts-of : Takes 0 parts-of-kinds.ps parts-of-reads.Pre
   pub hop-of : Takes 0 hop-of-kinds.ps hop-of-reads.Pre
   pub is-among : Takes 1 is-among-kinds.ps is-among-reads.Pre
   pub ends-refusal : Takes 0 ends-refusal-kinds.ps ends-refusal-reads.Pre
@@ -187,6 +219,13 @@ pub record EveryInput : Type 0 where
   pub question-of : Takes 1 question-of-kinds.ps question-of-reads.Pre
   pub answer-line : Takes 1 answer-line-kinds.ps answer-line-reads.Pre
   -- driver: what C calls as bcube_room_of, and so on
+  pub c-version : Takes 0 c-version-kinds.ps c-version-reads.Pre
+  pub c-switches : Takes 0 c-switches-kinds.ps c-switches-reads.Pre
+  pub c-server-at : Takes 0 c-server-at-kinds.ps c-server-at-reads.Pre
+  pub c-mark-server : Takes 1 c-mark-server-kinds.ps c-mark-server-reads.Pre
+  pub c-clear-server : Takes 1 c-clear-server-kinds.ps c-clear-server-reads.Pre
+  pub c-path-byte : Takes 0 c-path-byte-kinds.ps c-path-byte-reads.Pre
+  pub c-path-byte-parts : Takes 0 c-path-byte-parts-kinds.ps c-path-byte-parts-reads.Pre
   pub c-room-of : Takes 0 c-room-of-kinds.ps c-room-of-reads.Pre
   pub c-shape : Takes 0 c-shape-kinds.ps c-shape-reads.Pre
   pub c-servers : Takes 0 c-servers-kinds.ps c-servers-reads.Pre
@@ -234,6 +273,8 @@ pub record Uniqueness : Type 0 where
   pub switch-of : Determined 0 switch-of-kinds.ps switch-of-kinds.r switch-of-reads.Post
   pub neighbour-of : Determined 0 neighbour-of-kinds.ps neighbour-of-kinds.r neighbour-of-reads.Post
   pub level-between : Determined 0 level-between-kinds.ps level-between-kinds.r level-between-reads.Post
+  pub switches-of : Determined 0 switches-of-kinds.ps switches-of-kinds.r switches-of-reads.Post
+  pub server-at : Determined 0 server-at-kinds.ps server-at-kinds.r server-at-reads.Post
   -- links
   pub failed-link : Determined 1 failed-link-kinds.ps failed-link-kinds.r failed-link-reads.Post
   pub mark-link : Determined 1 mark-link-kinds.ps mark-link-kinds.r mark-link-reads.Post
@@ -244,7 +285,15 @@ pub record Uniqueness : Type 0 where
   pub clear-link-leaves : Leaves 1 clear-link-kinds.ps clear-link-kinds.r clear-link-reads.Post (λ κs s. now (s .1 .0))
   pub is-live : Determined 1 is-live-kinds.ps is-live-kinds.r is-live-reads.Post
   pub table-refusal : Determined 1 table-refusal-kinds.ps table-refusal-kinds.r table-refusal-reads.Post
+  pub mark-server : Determined 1 mark-server-kinds.ps mark-server-kinds.r mark-server-reads.Post
+  -- and the bytes of the table that it leaves behind
+  pub mark-server-leaves : Leaves 1 mark-server-kinds.ps mark-server-kinds.r mark-server-reads.Post (λ κs s. now (s .1 .0))
+  pub clear-server : Determined 1 clear-server-kinds.ps clear-server-kinds.r clear-server-reads.Post
+  -- and the bytes of the table that it leaves behind
+  pub clear-server-leaves : Leaves 1 clear-server-kinds.ps clear-server-kinds.r clear-server-reads.Post (λ κs s. now (s .1 .0))
   -- path
+  pub byte-of : Determined 0 byte-of-kinds.ps byte-of-kinds.r byte-of-reads.Post
+  pub parts-of : Determined 0 parts-of-kinds.ps parts-of-kinds.r parts-of-reads.Post
   pub hop-of : Determined 0 hop-of-kinds.ps hop-of-kinds.r hop-of-reads.Post
   pub is-among : Determined 1 is-among-kinds.ps is-among-kinds.r is-among-reads.Post
   pub ends-refusal : Determined 0 ends-refusal-kinds.ps ends-refusal-kinds.r ends-refusal-reads.Post
@@ -273,6 +322,17 @@ pub record Uniqueness : Type 0 where
   pub question-of : Determined 1 question-of-kinds.ps question-of-kinds.r question-of-reads.Post
   pub answer-line : Determined 1 answer-line-kinds.ps answer-line-kinds.r answer-line-reads.Post
   -- driver: what C calls as bcube_room_of, and so on
+  pub c-version : Determined 0 c-version-kinds.ps c-version-kinds.r c-version-reads.Post
+  pub c-switches : Determined 0 c-switches-kinds.ps c-switches-kinds.r c-switches-reads.Post
+  pub c-server-at : Determined 0 c-server-at-kinds.ps c-server-at-kinds.r c-server-at-reads.Post
+  pub c-mark-server : Determined 1 c-mark-server-kinds.ps c-mark-server-kinds.r c-mark-server-reads.Post
+  -- and the buffer that it leaves behind
+  pub c-mark-server-leaves : Leaves 1 c-mark-server-kinds.ps c-mark-server-kinds.r c-mark-server-reads.Post (λ κs s. now (s .1 .1 .0))
+  pub c-clear-server : Determined 1 c-clear-server-kinds.ps c-clear-server-kinds.r c-clear-server-reads.Post
+  -- and the buffer that it leaves behind
+  pub c-clear-server-leaves : Leaves 1 c-clear-server-kinds.ps c-clear-server-kinds.r c-clear-server-reads.Post (λ κs s. now (s .1 .1 .0))
+  pub c-path-byte : Determined 0 c-path-byte-kinds.ps c-path-byte-kinds.r c-path-byte-reads.Post
+  pub c-path-byte-parts : Determined 0 c-path-byte-parts-kinds.ps c-path-byte-parts-kinds.r c-path-byte-parts-reads.Post
   pub c-room-of : Determined 0 c-room-of-kinds.ps c-room-of-kinds.r c-room-of-reads.Post
   pub c-shape : Determined 0 c-shape-kinds.ps c-shape-kinds.r c-shape-reads.Post
   pub c-servers : Determined 0 c-servers-kinds.ps c-servers-kinds.r c-servers-reads.Post

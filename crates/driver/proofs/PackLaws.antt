@@ -179,15 +179,15 @@ step-same x y a b c d e f g h =
     ∙ ap (λ (z : ℕ). record { refusal = y .refusal; delivered = y .delivered; next = y .next; index = y .index; mac = y .mac; port = z }) h
 
 -- the fields of the word, from the lowest
-record Fields (x : Step) (p : ℕ) : Type 0 where
-  number : p % 256 ≡ x .refusal .number
-  hop : p / 256 % 256 ≡ x .refusal .hop
-  delivered : p / 65536 % 256 ≡ flagOf (x .delivered)
-  index : p / 16777216 % 256 ≡ x .index
-  next : p / 4294967296 % 65536 ≡ x .next
-  port : p / 281474976710656 % 256 ≡ x .port
+pub record Fields (x : Step) (p : ℕ) : Type 0 where
+  pub number : p % 256 ≡ x .refusal .number
+  pub hop : p / 256 % 256 ≡ x .refusal .hop
+  pub delivered : p / 65536 % 256 ≡ flagOf (x .delivered)
+  pub index : p / 16777216 % 256 ≡ x .index
+  pub next : p / 4294967296 % 65536 ≡ x .next
+  pub port : p / 281474976710656 % 256 ≡ x .port
 
-word-fields : (x : Step) → Small x → Fields x (stepWord x)
+pub word-fields : (x : Step) → Small x → Fields x (stepWord x)
 unfolding stepWord
 word-fields x h =
     let q = sum (x .refusal .number) (x .refusal .hop) (flagOf (x .delivered)) (x .index) (x .next) (x .port) (h .fits .number) (h .fits .hop) (flag-le (x .delivered)) (h .fits .index) (h .fits .next) (h .port) in

@@ -15,9 +15,9 @@ bcube-path-byte-parts-spec =
     -- shape-in-requires, parts-of-requires
     (λ c κs. search needs)
     (λ c κs. search needs)
-    -- mul, add: the value fits
+    -- mul-result-word, add-result-word: the value fits
     (λ c. let h = parts-found _ _ _ (c .before .parts-of .ensures) in omega (arith, h .level))
-    (λ c. let h = parts-found _ _ _ (c .before .parts-of .ensures) in omega (arith, h .level, h .value))
+    (λ c. let h = parts-found _ _ _ (c .before .before .parts-of .ensures) in omega (arith, h .level, h .value))
     -- result-word-requires, returns
-    (λ c κs. parts-found _ _ _ (c .before .parts-of .ensures) .small)
-    (λ c. let a = c .before .before .before .before .args in said partsWord (λ s. partsAnswer s (a .byte)) (c .result-word .ensures) (c .before .before .parts-of .ensures) (c .before .before .before .shape-in .ensures)))
+    (λ c κs. parts-found _ _ _ (c .before .before .parts-of .ensures) .small)
+    (λ c. let a = c .before .before .before .before .before .args in said partsWord (λ s. partsAnswer s (a .byte)) (c .result-word .ensures) (c .before .before .before .parts-of .ensures) (c .before .before .before .before .shape-in .ensures)))
