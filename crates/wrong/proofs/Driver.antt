@@ -136,6 +136,7 @@ unfolding serversOf bound digitsOf addressOf padded differFrom digits digit with
 wrong-driver o q b =
     record {
       version-in-bytes = clash (λ y. y) refl;
+      version-before = clash (λ y. y) refl;
       version-first-alone = clash (λ y. y) refl;
       room-n-and-k-exchanged = clash (λ (y : Room). y .number) refl;
       room-n-wraps = clash (λ (y : Room). y .number) refl;
@@ -155,6 +156,7 @@ wrong-driver o q b =
       bound-level-cut = clash said refl;
       switches-ports-counted = clash said refl;
       switches-one-level-less = clash said refl;
+      switches-servers-counted = clash said refl;
       switches-all-levels = clash said refl;
       switches-above-k = clash said refl;
       digits-address-wraps = λ κ x p. differ said refl (p .0);
@@ -201,6 +203,7 @@ wrong-driver o q b =
       marks-whole-byte = λ κ r x p. clash-left 3 refl (p .1);
       mark-server-touched = λ κ r x p. clash-left 3 refl (p .1);
       clear-server-n = λ κ x p. differ said refl (p .0);
+      clear-server-table-before-address = λ κ x p. differ said refl (p .0);
       clear-server-counted = λ κ x p. differ said refl (p .0);
       clears-no-server = λ κ r x p. clash-left 3 refl (p .1);
       clears-one-link = λ κ r x p. clash-left 3 refl (p .1);

@@ -38,6 +38,7 @@ wrong-links o =
       server-marked-twice = λ κ r x p. clash-left 3 refl (p .1);
       server-marked-on-refusal = λ κ r x p. clash-left 3 refl (p .1);
       server-n-cleared = λ κ x p. differ (λ (y : Refusal). y .number) refl (p .0);
+      clear-table-before-address = λ κ x p. differ (λ (y : Refusal). y .number) refl (p .0);
       live-server-refused = λ κ x p. differ (λ (y : Refusal). y .number) refl (p .0);
       clears-no-server = λ κ r x p. clash-left 3 refl (p .1);
       clears-one-link = λ κ r x p. clash-left 3 refl (p .1);

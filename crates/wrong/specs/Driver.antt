@@ -51,6 +51,8 @@ pub record Driver (o q b : Loan) : Type 0 where
   -- ---- bcube_version
   -- the numbers packed in bytes
   pub version-in-bytes : Never bcube-version.Post tt 0x020000
+  -- the version before
+  pub version-before : Never bcube-version.Post tt 10000
   -- the first number alone
   pub version-first-alone : Never bcube-version.Post tt 2
   -- ---- bcube_room_of
@@ -94,6 +96,8 @@ pub record Driver (o q b : Loan) : Type 0 where
   pub switches-ports-counted : Never bcube-switches.Post (roomOf 8 3 & 0 & tt) (word none 8)
   -- one level less: n to the power k - 1
   pub switches-one-level-less : Never bcube-switches.Post (roomOf 8 3 & 0 & tt) (word none 64)
+  -- a switch for each server
+  pub switches-servers-counted : Never bcube-switches.Post (roomOf 8 3 & 0 & tt) (word none 4096)
   -- the switches of all levels
   pub switches-all-levels : Never bcube-switches.Post (roomOf 8 3 & 0 & tt) (word none 2048)
   -- those of a level above k
@@ -198,6 +202,8 @@ pub record Driver (o q b : Loan) : Type 0 where
   -- ---- bcube_clear_server
   -- server N cleared
   pub clear-server-n : Never bcube-clear-server.Post (roomOf 4 1 & 16 & b lends healthy & tt) (word none 0)
+  -- 6 tested before 4: server 16, and a bit above k
+  pub clear-server-table-before-address : Never bcube-clear-server.Post (roomOf 4 1 & 16 & b lends failing 3 4 & tt) (word (plain 6) 0)
   -- the links that were cleared counted
   pub clear-server-counted : Never bcube-clear-server.Post (roomOf 4 1 & 3 & b lends failing 3 3 & tt) (word none 2)
   -- nothing cleared

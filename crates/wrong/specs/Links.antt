@@ -67,6 +67,8 @@ pub record Links (o : Loan) : Type 0 where
   -- ---- clear_server
   -- server N cleared
   pub server-n-cleared : Never clear-server.Post (shapeOf 4 1 & o lends healthy & 16 & tt) none
+  -- 6 tested before 4: server 16, and a bit above k
+  pub clear-table-before-address : Never clear-server.Post (shapeOf 4 1 & o lends failing 3 4 & 16 & tt) (plain 6)
   -- a server that is live refused
   pub live-server-refused : Never clear-server.Post (shapeOf 4 1 & o lends healthy & 3 & tt) (plain 6)
   -- nothing cleared

@@ -15,7 +15,7 @@ bcube-path-byte-parts-spec =
     -- shape-in-requires, parts-of-requires
     (λ c κs. search needs)
     (λ c κs. search needs)
-    -- mul, add: the value fits
+    -- mul-result-word, add-result-word: the value fits
     (λ c. let h = parts-found _ _ _ (c .before .parts-of .ensures) in omega (arith, h .level))
     (λ c. let h = parts-found _ _ _ (c .before .before .parts-of .ensures) in omega (arith, h .level, h .value))
     -- result-word-requires, returns
