@@ -217,7 +217,7 @@ BCUBE_RESULT bcube_answer bcube_servers(bcube_room room);
 BCUBE_RESULT bcube_answer bcube_bound(bcube_room room, uint64_t level);
 
 /* How many switches a level has: their numbers are those below it. Refuses 1, 2, 3, 20. Value: that number.
- * Cost: constant; 128 bytes of stack. */
+ * Cost: constant; 0 bytes of stack. */
 BCUBE_RESULT bcube_answer bcube_switches(bcube_room room, uint64_t level);
 
 /* The digits of a server. Refuses 1, 2, 3, 4. Value: 0. Written: digits[i] is digit i, so the lowest comes
@@ -238,7 +238,7 @@ BCUBE_RESULT bcube_answer bcube_switch(bcube_room room, uint64_t server, uint64_
 
 /* The server at a port of a switch: the one whose digit at the level is the port, and whose switch there has this
  * number. Refuses 1, 2, 3, 20, 21 (the level has no switch of that number, or the switch no such port).
- * Value: its address. Cost: constant; 128 bytes of stack. */
+ * Value: its address. Cost: constant; 0 bytes of stack. */
 BCUBE_RESULT bcube_answer bcube_server_at(bcube_room room, uint64_t level, uint64_t number, uint64_t port);
 
 /* The server whose digit at the level is this value, and whose other digits are this server's; where the
@@ -270,22 +270,22 @@ BCUBE_RESULT bcube_answer bcube_clear_link(bcube_room room, uint64_t server, uin
                                            size_t table_len);
 
 /* Marks all links of a server, levels 0 to k, as failed: the server is dead. Refuses 1, 2, 3, 4, 6. Value: 0. No
- * other server's byte changes. Cost: the table; 64 bytes of stack. */
+ * other server's byte changes. Cost: the table; 0 bytes of stack. */
 BCUBE_RESULT bcube_answer bcube_mark_server(bcube_room room, uint64_t server, uint8_t *table, size_t table_len);
 
 /* Clears all links of a server of their marks. Refuses 1, 2, 3, 4, 6. Value: 0. No other server's byte changes.
- * Cost: the table; 64 bytes of stack. */
+ * Cost: the table; 0 bytes of stack. */
 BCUBE_RESULT bcube_answer bcube_clear_server(bcube_room room, uint64_t server, uint8_t *table, size_t table_len);
 
 /* ---- path bytes */
 
 /* The path byte of a hop at this level to this value. Refuses 1, 2, 3, 20, 21 (the value is not below the
- * bound). Value: the byte. Cost: constant; 64 bytes of stack. */
+ * bound). Value: the byte. Cost: constant; 0 bytes of stack. */
 BCUBE_RESULT bcube_answer bcube_path_byte(bcube_room room, uint64_t level, uint64_t value);
 
 /* The level and the value of a path byte. Refuses 1, 2, 3; then, at route 1 and hop 1, 8 (a number above 255
  * too) and 9. Value: both; read it by the two functions below.
- * Cost: constant; 64 bytes of stack. */
+ * Cost: constant; 0 bytes of stack. */
 BCUBE_RESULT bcube_answer bcube_path_byte_parts(bcube_room room, uint64_t byte);
 
 /* The level of those parts; 0 on a refusal. */
