@@ -29,7 +29,7 @@ use Rattle.path.specs.Answers.{noHop, aHop, hopAnswer}
 use Rattle.path.proofs.ListLaws.{in-exactly, at-in, take-filled}
 use Rattle.path.proofs.HopLaws.{switch-id, hop-exactly, hop-server, hop-neighbours, level-only}
 use Rattle.path.proofs.CodecLaws as codec
-use Rattle.select.proofs.LayLaws.{eight-bytes}
+use Rattle.select.proofs.HeldLaws.{eight-bytes}
 use Rattle.select.proofs.SelectLaws as selected
 use Rattle.step.specs.declared.Step.{Step}
 use Rattle.step.specs.Steps.{entry, macAt, portAt, flagAt, stepRefusal, placed, noStep, delivery, forwarded, stepAnswer}
@@ -102,8 +102,8 @@ reverse-twice = codec.reverse-twice
 
 pub no-route-exactly : NoRouteExactly
 no-route-exactly s t a d r f = (
-  λ n. let e = selected.sixteen-only s t a d r f n in (e, selected.sixteen-exactly s t a d r e f .0 n),
-  λ p. selected.sixteen-exactly s t a d r (p .0) f .1 (p .1),
+  λ n. let e = selected.sixteen-only s t a d r f n in (e, selected.none-selected-exactly s t a d r e f .0 n),
+  λ p. selected.none-selected-exactly s t a d r (p .0) f .1 (p .1),
 )
 
 -- ---- the failed-link table

@@ -39,7 +39,8 @@ use Rattle.finder.specs.declared.Found.{Found}
 use Rattle.finder.specs.Answers.{findRefusal, Finding}
 use Rattle.select.specs.declared.Selection.{Selection}
 use Rattle.select.specs.Selection.{selectRefusal, selection, Selecting}
-use Rattle.select.proofs.SelectLaws.{gives, sixteen-exactly}
+use Rattle.select.proofs.SlotLaws.{member-at}
+use Rattle.select.proofs.SelectLaws.{gives, none-selected-exactly}
 use Rattle.pick.specs.Picks.{usable, Source, inFresh, inKept, nowhere, found, listsRefusal, pickSource, missing, pickRefusal, pickAnswer, arrayAt}
 use Rattle.pick.specs.Chosen.{FirstUsable, NoneUsable, Chosen}
 use Rattle.pick.specs.Places.{placeOf, placeAnswer}
@@ -153,10 +154,10 @@ select-routes s t a d x f =
       where
         go : (vss : List (List ℕ)) → x ≡ selection s vss → Whole ((16, Joined s t a d) ∷ []) (x .refusal)
         go [] e =
-            inr (λ j. sixteen-exactly s t a d x z f .0 (ap (λ (y : Selection). y .refusal .number) e) (j .0) (j .1), ap (λ (y : Selection). y .refusal) e)
+            inr (λ j. none-selected-exactly s t a d x z f .0 (ap (λ (y : Selection). y .refusal .number) e) (j .0) (j .1), ap (λ (y : Selection). y .refusal) e)
         go (vs ∷ vss) e =
             let g = gives f (ap (λ (y : Selection). y .refusal .number) e) in
-            inl ((getD (g .routes) 0 [], g .settled .each 0 (g .some)), ap (λ (y : Selection). y .refusal) e)
+            inl ((getD (g .routes) 0 [], g .settled .each (getD (g .routes) 0 []) (member-at (g .routes) 0 (g .some))), ap (λ (y : Selection). y .refusal) e)
 
 -- ---- picking
 

@@ -1,8 +1,8 @@
 -- The proved table, proved.
-use Prim.Native.Nat.{ℕ, zero, suc, _-_, _<_, suc-le-suc, zero-le}
+use Prim.Native.Nat.{ℕ, suc, _-_, _<_}
 use mathlib.Core.Path.{_≡_, refl, sym, ap, subst}
 use mathlib.Core.Bool.{true, false}
-use mathlib.Core.List.{List, [], _∷_}
+use mathlib.Core.List.{List, [], _∷_, List·Memᴰ, List·Memᴰ·head, List·Memᴰ·eq-of-singleton}
 use native.Mathlib.Omega.{arith}
 use lib.ListN.{getD, replicate}
 use Rattle.room.specs.declared.Shape.{Shape}
@@ -22,9 +22,9 @@ use Rattle.verdict.specs.Checks.{disjoint}
 use Rattle.verdict.proofs.AcceptLaws.{disjoint-apart}
 use Rattle.build.specs.declared.Building.{Building}
 use Rattle.build.specs.Built as build
-use Rattle.finder.specs.Alternates.{bytesOf}
+use Rattle.finder.specs.Alternates.{hopBytes}
 use Rattle.select.specs.Avoided.{avoided}
-use Rattle.select.specs.Selection.{Unbroken, Replaces, Slot, kept, replaced, Selects, selectRefusal, Selecting}
+use Rattle.select.specs.Selection.{Unbroken, Replaces, Slot, kept, replaced, SlotBySlot, selectRefusal, Selecting}
 use Rattle.select.proofs.OneAnswer.{selecting-unique}
 use Rattle.build.specs.Sets.{joined, setOf, arrayAt}
 use Rattle.build.specs.Answers.{noBuilding, aBuilding, buildAnswer}
@@ -144,8 +144,8 @@ around-direct =
       servers = disjoint-apart (middle around) (middle direct) refl;
     }
 
-bytes : bytesOf (shapeOf 4 1) around ≡ 0x01 ∷ 0x42 ∷ 0x03 ∷ 0x41 ∷ []
-unfolding bytesOf inTurn byteTo byteOf levelTo addresses.digit addresses.differing differFrom addresses.digits digitsOf
+bytes : hopBytes (shapeOf 4 1) around ≡ 0x01 ∷ 0x42 ∷ 0x03 ∷ 0x41 ∷ []
+unfolding hopBytes inTurn byteTo byteOf levelTo addresses.digit addresses.differing differFrom addresses.digits digitsOf
 bytes = refl
 
 -- no way of fewer hops leads around, nor one of as many that comes before
@@ -158,12 +158,11 @@ alternate =
     record {
       route = around-route;
       avoids = record { each = apart };
-      first = λ us r f. least (shapeOf 4 1) dead03 7 (4096 ∷ 1 ∷ []) _ around (tests .0) (tests .1) (sym bytes) refl us r (free-parallel (shapeOf 4 1) dead03 7 (switches .0) (f .each 0 (suc-le-suc zero-le)));
+      first = λ us r f. least (shapeOf 4 1) dead03 7 (4096 ∷ 1 ∷ []) _ around (tests .0) (tests .1) (sym bytes) refl us r (free-parallel (shapeOf 4 1) dead03 7 (switches .0) (f .each direct (List·Memᴰ·head refl)));
     }
   where
-    apart : (i : ℕ) → i < 1 → Parallel (shapeOf 4 1) around (getD (direct ∷ []) i [])
-    apart zero h = around-direct
-    apart (suc i) h = let z : ⊥ = omega arith in absurd z
+    apart : (vs : List ℕ) → List·Memᴰ vs (direct ∷ []) → Parallel (shapeOf 4 1) around vs
+    apart vs m = subst (Parallel (shapeOf 4 1) around) (sym (List·Memᴰ·eq-of-singleton m)) around-direct
 
 -- slot 1 keeps its built route, slot 0 gets the alternate
 built : (build.builtRoute (shapeOf 4 1) 1 0 7 ≡ direct) × (build.builtRoute (shapeOf 4 1) 0 0 7 ≡ 0 ∷ 3 ∷ 7 ∷ [])
@@ -174,7 +173,7 @@ broken : Unbroken (shapeOf 4 1) dead03 (0 ∷ 3 ∷ 7 ∷ []) → ⊥
 unfolding live failed bit levelTo addresses.differing differFrom addresses.digits digitsOf
 broken u = let e : false ≡ true = u .alive 0 (omega arith) in let z : _≡_ {A = ℕ} 0 1 = cc in omega arith
 
-slots : Selects (shapeOf 4 1) dead03 0 7 2 [] (direct ∷ around ∷ [])
+slots : SlotBySlot (shapeOf 4 1) dead03 0 7 2 [] (direct ∷ around ∷ [])
 unfolding avoided
 slots = (
   direct ∷ [],

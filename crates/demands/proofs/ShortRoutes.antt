@@ -19,7 +19,7 @@ use Rattle.path.specs.Lists.{isIn, inTurn}
 use Rattle.path.specs.Routes.{levelTo, switchTo, byteTo, switchesOf, RouteTo, Parallel}
 use Rattle.path.specs.Walks.{single}
 use Rattle.path.proofs.ListLaws.{Missing, missing-in, length-turn, turn-at}
-use Rattle.finder.specs.Alternates.{bytesOf, Sooner, HopByHop, Before}
+use Rattle.finder.specs.Alternates.{hopBytes, Sooner, HopByHop, Before}
 
 -- ---- the test
 
@@ -139,8 +139,8 @@ module _ (s : Shape) (t : List ℕ) (d : ℕ) (avoid : List ℕ) where
       far m b bs (rw (r .source) e) (omega arith) (goes-all b bs (λ i q. goes-at r f i (suc-le-suc q))) (last-at b bs ∙ r .arrives)
 
   -- nor as many hops as these bytes, and comes before them
-  none-before : {a : ℕ} (us cs : List ℕ) → noneBefore cs a ≡ true → RouteTo s t a d us → Free us → length us ≡ suc (length cs) → HopByHop (bytesOf s us) cs → ⊥
-  unfolding bytesOf
+  none-before : {a : ℕ} (us cs : List ℕ) → noneBefore cs a ≡ true → RouteTo s t a d us → Free us → length us ≡ suc (length cs) → HopByHop (hopBytes s us) cs → ⊥
+  unfolding hopBytes
   none-before [] cs e r f l = omega arith
   none-before (b ∷ bs) cs e r f l =
       first cs b bs (rw (r .source) e) (omega arith) (goes-all b bs (λ i q. goes-at r f i (suc-le-suc q))) (last-at b bs ∙ r .arrives)
@@ -160,7 +160,7 @@ module _ (s : Shape) (t : List ℕ) (d : ℕ) (avoid : List ℕ) where
       ]
 
   -- where both tests pass, no route comes before the one with these bytes
-  pub least : {a : ℕ} (cs vs : List ℕ) → noneShorter (length cs) a ≡ true → noneBefore cs a ≡ true → cs ≡ bytesOf s vs → length vs ≡ suc (length cs) → (us : List ℕ) → RouteTo s t a d us → Free us → Before s us vs → ⊥
+  pub least : {a : ℕ} (cs vs : List ℕ) → noneShorter (length cs) a ≡ true → noneBefore cs a ≡ true → cs ≡ hopBytes s vs → length vs ≡ suc (length cs) → (us : List ℕ) → RouteTo s t a d us → Free us → Before s us vs → ⊥
   least {a} cs vs e g same l us r f =
       ⊎-elim
       (λ h. none-of us (length us - 1) (shorter-at (length cs) (length us - 1) a e (omega (arith, r .route .some))) r f (omega (arith, r .route .some)))

@@ -9,8 +9,9 @@ use Rattle.room.specs.declared.Shape.{Shape}
 use Rattle.path.specs.Routes.{encode, RouteTo}
 use Rattle.build.specs.Built.{downFrom, builtRoute}
 use Rattle.build.specs.Sets.{setOf}
-use Rattle.select.specs.Avoided.{avoided, Avoids}
-use Rattle.select.specs.Selection.{Unbroken, Replaces, Slot, kept, replaced, nothing, Selects}
+use Rattle.laying.specs.Avoids.{Avoids}
+use Rattle.select.specs.Avoided.{avoided}
+use Rattle.select.specs.Selection.{Unbroken, Replaces, Slot, kept, replaced, nothing, SlotBySlot}
 use Rattle.select.proofs.SelectLaws.{gives}
 use Rattle.select.proofs.OneAnswer.{replaces-unique}
 use Rattle.demands.specs.Demand2.{above, SlotGives, together, Slots, BrokenGivesWay, OneSelection}
@@ -74,7 +75,7 @@ one-more {s} {t} {a} {d} {m} {settled} {routes} {given} c f = record { gives = g
               subst (Slot s t a d i _) (sym (below i l)) (subst (λ (x : List (List ℕ)). Slot s t a d i x (f .gives i)) q (f .slot i l))
         ]
 
-family : (s : Shape) (t : List ℕ) (a d m : ℕ) {settled routes : List (List ℕ)} → Selects s t a d m settled routes → Family s t a d m settled routes
+family : (s : Shape) (t : List ℕ) (a d m : ℕ) {settled routes : List (List ℕ)} → SlotBySlot s t a d m settled routes → Family s t a d m settled routes
 family s t a d zero {settled} e =
     record { gives = λ i. []; slot = λ i p. let z : ⊥ = omega arith in absurd z; whole = sym e ∙ sym (append-nil settled) }
 family s t a d (suc m) c = one-more (c .1) (family s t a d m (c .2))
@@ -112,12 +113,12 @@ one-slot {s} {t} {a} {d} {i} {higher} {g} {h} p q =
       | yes e ↦ e
       | no n ↦
           let broken : Unbroken s t (builtRoute s i a d) → ⊥ = λ u. n (p .kept u ∙ sym (q .kept u)) in
-          let none : (vs : List ℕ) → RouteTo s t a d vs → Avoids s (avoided s a d i higher) vs → ⊥ = λ vs r f. n (alike (p .replaced broken vs r f) (q .replaced broken vs r f)) in
+          let none : (vs : List ℕ) → RouteTo s t a d vs → Avoids s (avoided s t a d i higher) vs → ⊥ = λ vs r f. n (alike (p .replaced broken vs r f) (q .replaced broken vs r f)) in
           absurd (n (p .nothing broken none ∙ sym (q .nothing broken none)))
     ]
   where
     Given : List (List ℕ) → Type 0
-    Given x = (us : List ℕ) × (x ≡ us ∷ []) × Replaces s t a d (avoided s a d i higher) us
+    Given x = (us : List ℕ) × (x ≡ us ∷ []) × Replaces s t a d (avoided s t a d i higher) us
 
     alike : Given g → Given h → g ≡ h
     alike x y = x .1 ∙ ap (λ (vs : List ℕ). vs ∷ []) (replaces-unique (x .2) (y .2)) ∙ sym (y .1)

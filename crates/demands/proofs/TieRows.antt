@@ -1,8 +1,8 @@
 -- The rows in which the tie rule decides, proved.
-use Prim.Native.Nat.{ℕ, zero, suc, _-_, _<_, suc-le-suc, zero-le}
+use Prim.Native.Nat.{ℕ, zero, suc, _-_, _<_}
 use mathlib.Core.Path.{_≡_, refl, sym, ap, ap₂, _∙_, subst}
 use mathlib.Core.Bool.{true, false}
-use mathlib.Core.List.{List, [], _∷_}
+use mathlib.Core.List.{List, [], _∷_, List·Memᴰ, List·Memᴰ·head, List·Memᴰ·eq-of-singleton}
 use native.Mathlib.Omega.{arith}
 use lib.ListN.{length, getD, replicate}
 use Rattle.room.specs.declared.Shape.{Shape}
@@ -24,12 +24,12 @@ use Rattle.verdict.proofs.AcceptLaws.{disjoint-apart}
 use Rattle.build.specs.Built.{plusOne, builtHops, metBy, builtRoute}
 use Rattle.build.specs.Sets.{setOf}
 use Rattle.finder.specs.declared.Found.{Found}
-use Rattle.finder.specs.Alternates.{bytesOf}
-use Rattle.finder.specs.Answers.{findRefusal, found, Finding}
+use Rattle.finder.specs.Alternates.{hopBytes}
+use Rattle.finder.specs.Answers.{findRefusal, aRoute, Finding}
 use Rattle.finder.proofs.Unique.{finding-unique}
 use Rattle.select.specs.declared.Selection.{Selection}
 use Rattle.select.specs.Avoided.{avoided}
-use Rattle.select.specs.Selection.{Unbroken, Replaces, replaced, Selects, selectRefusal, Selecting}
+use Rattle.select.specs.Selection.{Unbroken, Replaces, replaced, SlotBySlot, selectRefusal, Selecting}
 use Rattle.select.proofs.OneAnswer.{selecting-unique}
 use Rattle.demands.specs.ProvedTable.{array}
 use Rattle.demands.specs.TieRows.{Finds, manyFailed, TieRows}
@@ -43,7 +43,7 @@ pub record Row (s : Shape) (t : List ℕ) (a d : ℕ) (bs vs ws : List ℕ) : Ty
   pub table : tableRefusal s t ≡ 0
   pub eight : length (array bs) ≡ 8
   pub walked : walk s t a d (array bs) ≡ arrived vs ws
-  pub bytes : bs ≡ bytesOf s vs
+  pub bytes : bs ≡ hopBytes s vs
 
 module _ {s : Shape} {t : List ℕ} {a d : ℕ} {bs vs ws : List ℕ} (w : Row s t a d bs vs ws) where
   sound : RouteTo s t a d vs × (ws ≡ switchesOf s vs) × (array bs ≡ encode s vs)
@@ -52,20 +52,20 @@ module _ {s : Shape} {t : List ℕ} {a d : ℕ} {bs vs ws : List ℕ} (w : Row s
       read-sound t (array bs) vs ws (e .source) (e .differ) (w .eight) (w .walked)
 
   long : length vs ≡ suc (length bs)
-  unfolding bytesOf
+  unfolding hopBytes
   long = omega (arith, sound .0 .route .some, length-turn (byteTo s) vs, ap length (w .bytes))
 
   -- where the two tests pass, the search answers the route and nothing else
   finds : noneShorter s t d [] (length bs) a ≡ true → noneBefore s t d [] bs a ≡ true → Finds s t a d bs
   unfolding findRefusal
-  finds e f r = (λ h. finding-unique s t a d r (found s vs) h given ∙ answer, λ h. subst (Finding s t a d) (sym (h ∙ sym answer)) given)
+  finds e f r = (λ h. finding-unique s t a d r (aRoute s vs) h given ∙ answer, λ h. subst (Finding s t a d) (sym (h ∙ sym answer)) given)
     where
-      answer : found s vs ≡ record { refusal = none; hops = length bs; bytes = array bs }
+      answer : aRoute s vs ≡ record { refusal = none; hops = length bs; bytes = array bs }
       answer =
           let h : length vs - 1 ≡ length bs = omega (arith, long) in
           ap₂ (λ (m : ℕ) (x : List ℕ). record { refusal = none; hops = m; bytes = x }) h (sym (sound .2))
 
-      given : Finding s t a d (found s vs)
+      given : Finding s t a d (aRoute s vs)
       given =
           record {
             refused = λ n. absurd (n (sym (chain-goes 0 (endsRefusal s a d) _ 0 (sym (w .ends)) refl (sym (w .table)))));
@@ -84,25 +84,24 @@ module _ {s : Shape} {t : List ℕ} {a d : ℕ} {bs vs ws : List ℕ} (w : Row s
       record {
         route = sound .0;
         avoids = record { each = apart };
-        first = λ xs r g. least s t d avoid bs vs e f (w .bytes) long xs r (free-parallel s t d same (g .each 0 (suc-le-suc zero-le)));
+        first = λ xs r g. least s t d avoid bs vs e f (w .bytes) long xs r (free-parallel s t d same (g .each us (List·Memᴰ·head refl)));
       }
     where
-      apart : (i : ℕ) → i < 1 → Parallel s vs (getD (us ∷ []) i [])
-      apart zero h = p
-      apart (suc i) h = let z : ⊥ = omega arith in absurd z
+      apart : (xs : List ℕ) → List·Memᴰ xs (us ∷ []) → Parallel s vs xs
+      apart xs h = subst (Parallel s vs) (sym (List·Memᴰ·eq-of-singleton h)) p
 
 -- ---- the search
 
 level-then-value : Row (shapeOf 3 1) (replicate 9 0) 0 7 (0x42 ∷ 0x01 ∷ []) (0 ∷ 6 ∷ 7 ∷ []) (4096 ∷ 2 ∷ [])
-unfolding endsRefusal pairRefusal serverRefusal shapeRefusal serversOf tableRefusal bitsFit bound _or-else_ walk walkFrom fault hopRefusal hopTo withDigit digit digits digitsOf addressOf live failed bit isIn switchAt switchOf ended filled bytesOf inTurn byteTo byteOf levelTo differing differFrom
+unfolding endsRefusal pairRefusal serverRefusal shapeRefusal serversOf tableRefusal bitsFit bound _or-else_ walk walkFrom fault hopRefusal hopTo withDigit digit digits digitsOf addressOf live failed bit isIn switchAt switchOf ended filled hopBytes inTurn byteTo byteOf levelTo differing differFrom
 level-then-value = record { ends = refl; table = refl; eight = refl; walked = refl; bytes = refl }
 
 lower-value : Row (shapeOf 3 1) (1 ∷ replicate 8 0) 0 1 (0x41 ∷ 0x01 ∷ 0x40 ∷ []) (0 ∷ 3 ∷ 4 ∷ 1 ∷ []) (4096 ∷ 1 ∷ 4097 ∷ [])
-unfolding endsRefusal pairRefusal serverRefusal shapeRefusal serversOf tableRefusal bitsFit bound _or-else_ walk walkFrom fault hopRefusal hopTo withDigit digit digits digitsOf addressOf live failed bit isIn switchAt switchOf ended filled bytesOf inTurn byteTo byteOf levelTo differing differFrom
+unfolding endsRefusal pairRefusal serverRefusal shapeRefusal serversOf tableRefusal bitsFit bound _or-else_ walk walkFrom fault hopRefusal hopTo withDigit digit digits digitsOf addressOf live failed bit isIn switchAt switchOf ended filled hopBytes inTurn byteTo byteOf levelTo differing differFrom
 lower-value = record { ends = refl; table = refl; eight = refl; walked = refl; bytes = refl }
 
 from-the-source : Row (shapeOf 2 2) (0 ∷ 0 ∷ 0 ∷ 0 ∷ 0 ∷ 0 ∷ 2 ∷ 0 ∷ []) 0 7 (0x81 ∷ 0x01 ∷ 0x41 ∷ []) (0 ∷ 4 ∷ 5 ∷ 7 ∷ []) (8192 ∷ 2 ∷ 4099 ∷ [])
-unfolding endsRefusal pairRefusal serverRefusal shapeRefusal serversOf tableRefusal bitsFit bound _or-else_ walk walkFrom fault hopRefusal hopTo withDigit digit digits digitsOf addressOf live failed bit isIn switchAt switchOf ended filled bytesOf inTurn byteTo byteOf levelTo differing differFrom
+unfolding endsRefusal pairRefusal serverRefusal shapeRefusal serversOf tableRefusal bitsFit bound _or-else_ walk walkFrom fault hopRefusal hopTo withDigit digit digits digitsOf addressOf live failed bit isIn switchAt switchOf ended filled hopBytes inTurn byteTo byteOf levelTo differing differFrom
 from-the-source = record { ends = refl; table = refl; eight = refl; walked = refl; bytes = refl }
 
 -- ---- selection, both built routes broken
@@ -115,7 +114,7 @@ abbrev low : List ℕ
 low = 0 ∷ 2 ∷ 14 ∷ 15 ∷ 7 ∷ []
 
 alternates : Row (shapeOf 4 1) manyFailed 0 7 (0x42 ∷ 0x01 ∷ 0x41 ∷ 0x03 ∷ []) high (4096 ∷ 2 ∷ 4097 ∷ 1 ∷ []) × Row (shapeOf 4 1) manyFailed 0 7 (0x02 ∷ 0x43 ∷ 0x03 ∷ 0x41 ∷ []) low (0 ∷ 4098 ∷ 3 ∷ 4099 ∷ [])
-unfolding endsRefusal pairRefusal serverRefusal shapeRefusal serversOf tableRefusal bitsFit bound _or-else_ walk walkFrom fault hopRefusal hopTo withDigit digit digits digitsOf addressOf live failed bit isIn switchAt switchOf ended filled bytesOf inTurn byteTo byteOf levelTo differing differFrom
+unfolding endsRefusal pairRefusal serverRefusal shapeRefusal serversOf tableRefusal bitsFit bound _or-else_ walk walkFrom fault hopRefusal hopTo withDigit digit digits digitsOf addressOf live failed bit isIn switchAt switchOf ended filled hopBytes inTurn byteTo byteOf levelTo differing differFrom
 alternates = (
   record { ends = refl; table = refl; eight = refl; walked = refl; bytes = refl },
   record { ends = refl; table = refl; eight = refl; walked = refl; bytes = refl },
@@ -163,7 +162,7 @@ low-given : Replaces (shapeOf 4 1) manyFailed 0 7 (high ∷ []) low
 unfolding serversOf live failed bit isIn switchTo switchAt levelTo byteTo byteOf digit differing differFrom switchOf digits digitsOf addressOf
 low-given = replaces (alternates .1) (4096 ∷ 2 ∷ 4097 ∷ 1 ∷ []) (sound (alternates .0) .1) low-parallel refl refl
 
-slots : Selects (shapeOf 4 1) manyFailed 0 7 2 [] (high ∷ low ∷ [])
+slots : SlotBySlot (shapeOf 4 1) manyFailed 0 7 2 [] (high ∷ low ∷ [])
 unfolding avoided
 slots = (
   high ∷ [],

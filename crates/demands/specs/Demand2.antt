@@ -26,7 +26,8 @@ use Rattle.build.specs.Built.{downFrom, builtRoute}
 use Rattle.build.specs.Sets.{added, arrayAt, setOf}
 use Rattle.build.specs.Answers.{buildAnswer}
 use Rattle.select.specs.declared.Selection.{Selection}
-use Rattle.select.specs.Avoided.{avoided, Avoids}
+use Rattle.laying.specs.Avoids.{Avoids}
+use Rattle.select.specs.Avoided.{avoided}
 use Rattle.select.specs.Selection.{Unbroken, Replaces, selectRefusal, Selecting}
 use Rattle.pick.specs.Picks.{listsRefusal, pickSource, pickAnswer, pickedBytes, pickedAt}
 use Rattle.pick.specs.Places.{placeAnswer}
@@ -239,9 +240,9 @@ pub record SlotGives (s : Shape) (t : List ℕ) (a d i : ℕ) (higher given : Li
   pub kept : Unbroken s t (builtRoute s i a d) → given ≡ builtRoute s i a d ∷ []
   -- a broken one gives way to the alternate where a route exists that avoids what the slot has to avoid
   pub replaced : (Unbroken s t (builtRoute s i a d) → ⊥)
-      → (vs : List ℕ) → RouteTo s t a d vs → Avoids s (avoided s a d i higher) vs → (us : List ℕ) × (given ≡ us ∷ []) × Replaces s t a d (avoided s a d i higher) us
+      → (vs : List ℕ) → RouteTo s t a d vs → Avoids s (avoided s t a d i higher) vs → (us : List ℕ) × (given ≡ us ∷ []) × Replaces s t a d (avoided s t a d i higher) us
   -- and to nothing where none exists
-  pub nothing : (Unbroken s t (builtRoute s i a d) → ⊥) → ((vs : List ℕ) → RouteTo s t a d vs → Avoids s (avoided s a d i higher) vs → ⊥) → given ≡ []
+  pub nothing : (Unbroken s t (builtRoute s i a d) → ⊥) → ((vs : List ℕ) → RouteTo s t a d vs → Avoids s (avoided s t a d i higher) vs → ⊥) → given ≡ []
 
 -- what these slots give, in this order
 abbrev pub together : (ℕ → List (List ℕ)) → List ℕ → List (List ℕ)

@@ -1,23 +1,12 @@
 // The call, and what it refuses.
 ghost use mathlib.Core.Path.{_≡_};
-ghost use Rattle.finder.specs.Answers.{findRefusal, notFound, Finding};
+ghost use Rattle.finder.specs.Answers.{findRefusal, Finding};
 use crate::Found;
+use crate::answers::no_route;
 use crate::scan::search;
 use links::table_refusal;
 use path::ends_refusal;
-use room::Refusal;
 use room::Shape;
-
-// No route, with a refusal's number or 0.
-pub(crate) fn no_route(number: usize) -> Found
-    ensures { λ r. ⌜ r ≡ notFound number ⌝ }
-{
-    Found {
-        refusal: Refusal::plain(number),
-        hops: 0,
-        bytes: [0; 8],
-    }
-}
 
 // The first of 1, 2, 3, 4, 5, 6 that refuses the search, or 0.
 fn find_refusal(shape: Shape, table: &[u8], source: usize, destination: usize) -> usize

@@ -24,15 +24,15 @@ use Rattle.path.specs.Bytes.{madeRefusal, byteAnswer, partsRefusal, partsAnswer
 use Rattle.path.specs.Walks.{stopped, arrived, hopTo, hopRefusal, fault, ended, walkFrom, walk, writeFault, writeFrom}
 use Rattle.path.specs.Answers.{endsRefusal, arrayRefusal, walkAnswer, readAnswer, reverseAnswer, serversRefusal, writeRefusal, onTheWay, writeAnswer}
 use Rattle.verdict.specs.Checks.{arrays, disjoint, switchesIn, between, parallel, firstStop, firstMeeting, firstOf, firstPair, roomRefusal, listRefusal, walksOf, checkAnswer}
-use Rattle.build.specs.Built.{plusOne, builtHops, bytesOf as hopBytes, builtBytes, builtArrays}
+use Rattle.build.specs.Built.{plusOne, builtHops, bytesOf as builtBytesOf, builtBytes, builtArrays}
 use Rattle.build.specs.Sets.{joined, setOf, arrayAt}
 use Rattle.build.specs.Answers.{buildAnswer}
 use Rattle.finder.specs.declared.Found.{Found}
-use Rattle.finder.specs.Alternates.{bytesOf, Before}
+use Rattle.finder.specs.Alternates.{hopBytes, Before}
 use Rattle.finder.specs.Answers.{findRefusal, Finding}
 use Rattle.select.specs.declared.Selection.{Selection}
 use Rattle.select.specs.Selection.{selectRefusal, Selecting}
-use Rattle.select.proofs.SelectLaws.{sixteen-exactly}
+use Rattle.select.proofs.SelectLaws.{none-selected-exactly}
 use Rattle.pick.specs.Picks.{usable, firstUsable, firstIn, found, fits, listsRefusal, pickSource, pickRefusal}
 use Rattle.pick.specs.Places.{placeAnswer}
 use Rattle.step.specs.Steps.{entry, macAt, portAt, flagAt, givenRefusal, byteRefusal, awayRefusal, stepRefusal, atHop, placed, stepAnswer}
@@ -115,7 +115,7 @@ refused-5 h z = differ (λ y. y) refl (sym z ∙ ap (λ (r : Found). r .refusal 
 refused-16 : {r : Selection} → Selecting (shapeOf 4 1) (failing 7 3) 0 7 r → r .refusal .number ≢ 0
 unfolding selectRefusal links.bit links.failed links.tableRefusal links.bitsFit endsRefusal pairRefusal serverRefusal shapeRefusal serversOf _or-else_
 refused-16 {r} h z =
-    differ (λ y. y) refl (sym z ∙ sixteen-exactly (shapeOf 4 1) (failing 7 3) 0 7 r refl h .1 (dead-end dead))
+    differ (λ y. y) refl (sym z ∙ none-selected-exactly (shapeOf 4 1) (failing 7 3) 0 7 r refl h .1 (dead-end dead))
   where
     each : (l : ℕ) → l ≤ 1 → links.failed (failing 7 3) 7 l ≡ true
     each zero p = refl
@@ -128,7 +128,7 @@ refused-16 {r} h z =
 -- ---- all of them
 
 pub wrong-driver : (o q b : Loan) → Driver o q b
-unfolding serversOf bound digitsOf addressOf padded differFrom digits digit withDigit switchOf differing _or-else_ shapeRefusal levelRefusal serverRefusal pairRefusal linkRefusal valueRefusal placeBound placesFit placesRefusal serversAnswer boundAnswer digitsAnswer digitAnswer addressAnswer switchAnswer neighbourAnswer betweenAnswer links.bit links.failed links.live links.raised links.lowered links.marked links.cleared links.bitsFit links.tableRefusal links.tableLinkRefusal failedAnswer linkAnswer markedTable clearedTable isIn inTurn middle filled byteOf switchAt levelTo switchTo byteTo encode hopTo hopRefusal fault ended walkFrom walk writeFault writeFrom endsRefusal arrayRefusal walkAnswer readAnswer reverseAnswer serversRefusal writeRefusal onTheWay writeAnswer arrays disjoint switchesIn between parallel firstStop firstMeeting firstOf firstPair roomRefusal listRefusal walksOf checkAnswer plusOne builtHops hopBytes builtBytes builtArrays joined setOf arrayAt buildAnswer bytesOf findRefusal selectRefusal usable firstUsable firstIn found fits listsRefusal pickSource pickRefusal placeAnswer entry macAt portAt flagAt givenRefusal byteRefusal awayRefusal stepRefusal atHop placed stepAnswer held roomOf shapeIn switchesAt serverAt portRefusal switchesAnswer serverAtAnswer tableServerRefusal allBits serverAnswer markedServer clearedServer madeRefusal byteAnswer partsRefusal partsAnswer packed stepWord bytesNumber macNumber word refusalIn valueIn betweenWord askedWord
+unfolding serversOf bound digitsOf addressOf padded differFrom digits digit withDigit switchOf differing _or-else_ shapeRefusal levelRefusal serverRefusal pairRefusal linkRefusal valueRefusal placeBound placesFit placesRefusal serversAnswer boundAnswer digitsAnswer digitAnswer addressAnswer switchAnswer neighbourAnswer betweenAnswer links.bit links.failed links.live links.raised links.lowered links.marked links.cleared links.bitsFit links.tableRefusal links.tableLinkRefusal failedAnswer linkAnswer markedTable clearedTable isIn inTurn middle filled byteOf switchAt levelTo switchTo byteTo encode hopTo hopRefusal fault ended walkFrom walk writeFault writeFrom endsRefusal arrayRefusal walkAnswer readAnswer reverseAnswer serversRefusal writeRefusal onTheWay writeAnswer arrays disjoint switchesIn between parallel firstStop firstMeeting firstOf firstPair roomRefusal listRefusal walksOf checkAnswer plusOne builtHops builtBytesOf builtBytes builtArrays joined setOf arrayAt buildAnswer hopBytes findRefusal selectRefusal usable firstUsable firstIn found fits listsRefusal pickSource pickRefusal placeAnswer entry macAt portAt flagAt givenRefusal byteRefusal awayRefusal stepRefusal atHop placed stepAnswer held roomOf shapeIn switchesAt serverAt portRefusal switchesAnswer serverAtAnswer tableServerRefusal allBits serverAnswer markedServer clearedServer madeRefusal byteAnswer partsRefusal partsAnswer packed stepWord bytesNumber macNumber word refusalIn valueIn betweenWord askedWord
 wrong-driver o q b =
     record {
       version-before = clash (λ y. y) refl;
@@ -222,7 +222,7 @@ wrong-driver o q b =
       find-tie-from-the-other-end = λ κ r x p. find-beaten refl (walks (array (0x81 ∷ 0x41 ∷ 0x01 ∷ [])) _ _ refl refl refl) p refl (inr (refl, inl (inl (omega arith))));
       find-not-written = λ κ r x p. find-no-route refl (walks (array (0x81 ∷ 0x41 ∷ 0x01 ∷ [])) _ _ refl refl refl) p refl;
       find-touched = λ κ r x p. clash-left 0 refl (p .leaves ∙ sym (left-lent (p .answer .refusal .number) (stale 8) (p .answer .bytes) (refused-5 (p .finding))));
-      select-sixteen-with-a-route = λ κ x p. sixteen-exactly _ _ _ _ _ refl (p .selecting) .0 (sym (number p)) _ (straight .route);
+      select-sixteen-with-a-route = λ κ x p. none-selected-exactly _ _ _ _ _ refl (p .selecting) .0 (sym (number p)) _ (straight .route);
       select-denied = λ κ x p. one-route (p .selecting) (sym (number p)) (sym (count p));
       select-lower-slots-first = λ κ r x p e. differ (λ (y : List ℕ). getD y 0 0) refl (sym (first-array p) ∙ ap (take 8) e);
       select-not-written = λ κ r x p e. differ (λ (y : List ℕ). getD y 0 0) refl (sym (first-array p) ∙ ap (take 8) e);

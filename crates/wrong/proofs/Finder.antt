@@ -17,8 +17,8 @@ use Rattle.path.specs.Routes.{byteOf, switchAt, levelTo, byteTo, encode}
 use Rattle.path.specs.Walks.{stopped, arrived, hopTo, hopRefusal, fault, ended, walkFrom, walk}
 use Rattle.path.specs.Answers.{endsRefusal}
 use Rattle.finder.specs.declared.Found.{Found}
-use Rattle.finder.specs.Alternates.{bytesOf, Before}
-use Rattle.finder.specs.Answers.{findRefusal, Given, Finding}
+use Rattle.finder.specs.Alternates.{hopBytes, Before}
+use Rattle.finder.specs.Answers.{findRefusal, GivesAlternate, Finding}
 use Rattle.wrong.specs.Never.{Loan}
 use Rattle.wrong.specs.Examples.{array}
 use Rattle.wrong.specs.Finder.{Finder}
@@ -26,7 +26,7 @@ use Rattle.wrong.proofs.Clash.{differ}
 use Rattle.wrong.proofs.Routes.{Walks, walks, never-stops, same-route}
 
 module _ {s : Shape} {t : List ℕ} {a d : ℕ} {r : Found} (taken : findRefusal s t a d ≡ 0) (some : 0 < r .hops) (h : Finding s t a d r) where
-  given : Given s t a d r
+  given : GivesAlternate s t a d r
   given = h .given taken some
 
   bytes : r .bytes ≡ encode s (given .servers)
@@ -60,7 +60,7 @@ some-hops {r = r} {vs} e k h =
     elim (ℕ-discrete (r .hops) 0) [ yes z ↦ absurd (h .none e z .1 vs (k .route)) | no n ↦ omega arith ]
 
 pub wrong-finder : (o : Loan) → Finder o
-unfolding serversOf bound digitsOf addressOf differFrom digits digit withDigit switchOf differing _or-else_ shapeRefusal serverRefusal pairRefusal bit failed live bitsFit tableRefusal isIn inTurn filled byteOf switchAt levelTo byteTo hopTo hopRefusal fault ended walkFrom walk endsRefusal bytesOf findRefusal
+unfolding serversOf bound digitsOf addressOf differFrom digits digit withDigit switchOf differing _or-else_ shapeRefusal serverRefusal pairRefusal bit failed live bitsFit tableRefusal isIn inTurn filled byteOf switchAt levelTo byteTo hopTo hopRefusal fault ended walkFrom walk endsRefusal hopBytes findRefusal
 wrong-finder o =
     record {
       lower-level-first = λ κ x h. beaten refl (omega arith) h refl (walks (array (0x81 ∷ 0x41 ∷ 0x01 ∷ [])) _ _ refl refl refl) (inr (refl, inl (inl (omega arith))));

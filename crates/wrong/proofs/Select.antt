@@ -2,7 +2,7 @@
 use Prim.Native.Nat.{ℕ, zero, suc, _<_}
 use mathlib.Core.Path.{_≡_, refl, sym, ap, _∙_, subst}
 use mathlib.Core.Logic.{inl, inr}
-use mathlib.Core.List.{List, [], _∷_, _++_}
+use mathlib.Core.List.{List, [], _∷_, _++_, List·Memᴰ as In, List·Memᴰ·eq-of-singleton}
 use native.Mathlib.Omega.{arith}
 use lib.ListN.{length, getD}
 use Rattle.room.specs.declared.Shape.{Shape}
@@ -13,20 +13,22 @@ use Rattle.room.specs.Addresses.{digits, digit, withDigit, switchOf, differing}
 use Rattle.room.specs.Refusals.{_or-else_, shapeRefusal, serverRefusal, pairRefusal}
 use Rattle.links.specs.Table.{bit, failed, live, bitsFit, tableRefusal}
 use Rattle.path.specs.Lists.{isIn, inTurn, middle, filled}
-use Rattle.path.specs.Routes.{byteOf, switchAt, levelTo, byteTo, RouteTo, Parallel}
+use Rattle.path.specs.Routes.{byteOf, switchAt, levelTo, byteTo, encode, RouteTo, Parallel}
 use Rattle.path.specs.Walks.{arrived, hopTo, hopRefusal, fault, ended, walkFrom, walk}
 use Rattle.path.specs.Answers.{endsRefusal, arrayRefusal, walkAnswer}
 use Rattle.verdict.specs.Checks.{arrays, disjoint, switchesIn, between, parallel, firstStop, firstMeeting, firstOf, firstPair, roomRefusal, listRefusal, walksOf, checkAnswer}
 use Rattle.build.specs.declared.RouteSet.{RouteSet}
 use Rattle.build.specs.Built.{plusOne, builtHops, metBy, bytesOf as builtBytesOf, builtRoute, builtBytes}
 use Rattle.build.specs.Sets.{joined, setOf, arrayAt}
-use Rattle.finder.specs.Alternates.{bytesOf, Before}
+use Rattle.finder.specs.Alternates.{hopBytes, Before}
 use Rattle.select.specs.declared.Selection.{Selection}
-use Rattle.select.specs.Avoided.{avoided, Avoids}
-use Rattle.select.specs.Selection.{Unbroken, Slot, kept, replaced, nothing, selectRefusal, Selecting}
-use Rattle.select.proofs.LayLaws.{route-array, set-count}
+use Rattle.laying.specs.Avoids.{Avoids}
+use Rattle.select.specs.Avoided.{avoided}
+use Rattle.select.specs.Selection.{Unbroken, Slot, kept, replaced, nothing, selectRefusal, selection, GivesRoutes, Selecting}
+use Rattle.select.proofs.HeldLaws.{route-array, set-count}
 use Rattle.select.proofs.OneAnswer.{slot-unique}
-use Rattle.select.proofs.SelectLaws.{Gives, gives, selection-checked, sixteen-exactly, built-kept}
+use Rattle.select.proofs.SlotLaws.{member-at}
+use Rattle.select.proofs.SelectLaws.{Gives, gives, selection-checked, none-selected-exactly}
 use Rattle.wrong.specs.Never.{Loan}
 use Rattle.wrong.specs.Examples.{array, failing, bothBroken, direct, other}
 use Rattle.wrong.specs.Select.{Select}
@@ -36,21 +38,20 @@ use Rattle.wrong.proofs.Routes.{Walks, walks, parallel-walks, same-rout
 -- ---- slots
 
 -- what a slot gives has no route before it
-beaten : {s : Shape} {t : List ℕ} {a d i : ℕ} {settled : List (List ℕ)} {us vs : List ℕ} → Slot s t a d i settled (vs ∷ []) → (Unbroken s t (builtRoute s i a d) → ⊥) → RouteTo s t a d us → Avoids s (avoided s a d i settled) us → Before s us vs → ⊥
+beaten : {s : Shape} {t : List ℕ} {a d i : ℕ} {settled : List (List ℕ)} {us vs : List ℕ} → Slot s t a d i settled (vs ∷ []) → (Unbroken s t (builtRoute s i a d) → ⊥) → RouteTo s t a d us → Avoids s (avoided s t a d i settled) us → Before s us vs → ⊥
 beaten (kept u) b r f o = b u
 beaten {us} (replaced b k) c r f o = k .first us r f o
 
 -- and a slot gives nothing only where there is none
-denied : {s : Shape} {t : List ℕ} {a d i : ℕ} {settled : List (List ℕ)} {us : List ℕ} → Slot s t a d i settled [] → RouteTo s t a d us → Avoids s (avoided s a d i settled) us → ⊥
+denied : {s : Shape} {t : List ℕ} {a d i : ℕ} {settled : List (List ℕ)} {us : List ℕ} → Slot s t a d i settled [] → RouteTo s t a d us → Avoids s (avoided s t a d i settled) us → ⊥
 denied {us} (nothing b k) r f = k us r f
 
 -- one route is avoided where the other is parallel to it
 avoids-one : {s : Shape} {us vs : List ℕ} → Parallel s us vs → Avoids s (vs ∷ []) us
 avoids-one {s} {us} {vs} p = record { each = each }
   where
-    each : (i : ℕ) → i < 1 → Parallel s us (getD (vs ∷ []) i [])
-    each zero q = p
-    each (suc i) q = let z : ⊥ = omega arith in absurd z
+    each : (ws : List ℕ) → In ws (vs ∷ []) → Parallel s us ws
+    each ws q = subst (Parallel s us) (sym (List·Memᴰ·eq-of-singleton q)) p
 
 -- ---- answers
 
@@ -66,8 +67,8 @@ module _ {s : Shape} {t : List ℕ} {a d : ℕ} {r : Selection} (h : Selecting s
   route-at : (i : ℕ) → i < r .routes .count → {us ws : List ℕ} → walk s t a d (arrayAt i (r .routes)) ≡ arrived us ws → getD (given .routes) i [] ≡ us
   route-at i p w =
       let q : i < length (given .routes) = omega (arith, counted) in
-      same-route (given .settled .each i q)
-      (ap (arrayAt i) (given .written) ∙ route-array s (given .routes) (λ j m. given .settled .each j m .route .few) i q) w
+      same-route (given .settled .each _ (member-at (given .routes) i q))
+      (ap (arrayAt i) (given .written) ∙ route-array s (given .routes) (λ vs m. given .settled .each vs m .route .few) i q) w
 
 -- slot 0 gives g after what slot 1 keeps, its built route, and the two are all these routes
 abbrev After : List ℕ → ℕ → ℕ → List (List ℕ) → List (List ℕ) → Type 0
@@ -100,7 +101,7 @@ broken : Unbroken (shapeOf 4 1) (failing 3 3) (builtRoute (shapeOf 4 1) 0 0 7) �
 unfolding live failed bit levelTo differing differFrom digits digitsOf builtRoute builtHops metBy plusOne bound withDigit addressOf
 broken u = differ truth refl (u .alive 0 (omega arith))
 
-avoids : Avoids (shapeOf 4 1) (avoided (shapeOf 4 1) 0 7 0 (builtRoute (shapeOf 4 1) 1 0 7 ∷ [])) (0 ∷ 1 ∷ 9 ∷ 11 ∷ 7 ∷ [])
+avoids : Avoids (shapeOf 4 1) (avoided (shapeOf 4 1) (failing 3 3) 0 7 0 (builtRoute (shapeOf 4 1) 1 0 7 ∷ [])) (0 ∷ 1 ∷ 9 ∷ 11 ∷ 7 ∷ [])
 unfolding avoided disjoint isIn middle
 avoids = rw (built .0) (avoids-one (parallel-walks around straight refl refl))
 
@@ -126,11 +127,25 @@ module _ {r : Selection} (h : Selecting (shapeOf 4 1) (failing 3 3) 0 7 r) (n : 
 
 -- slot 1 keeps its route, which comes first
 pub slot-1-first : {r : Selection} → Selecting (shapeOf 4 1) (failing 3 3) 0 7 r → (r .refusal .number ≡ 0) × (arrayAt 0 (r .routes) ≡ direct)
-unfolding serversOf bound digitsOf digits _or-else_ shapeRefusal serverRefusal pairRefusal bitsFit tableRefusal endsRefusal selectRefusal filled byteOf plusOne builtHops builtBytesOf builtBytes
-slot-1-first {r} h =
-    let k = built-kept (shapeOf 4 1) (failing 3 3) 0 7 r refl h 1 (omega arith) unbroken in
-    let z : 0 ≡ k .1 .place = omega (arith, k .1 .few-higher) in
-    (ap (λ (y : Refusal). y .number) (k .0), ap (λ (i : ℕ). arrayAt i (r .routes)) z ∙ k .1 .there)
+unfolding serversOf bound digitsOf digits digit _or-else_ shapeRefusal serverRefusal pairRefusal bitsFit tableRefusal endsRefusal selectRefusal filled inTurn byteOf byteTo levelTo differing differFrom encode
+slot-1-first {r} h = (number, first)
+  where
+    c : GivesRoutes (shapeOf 4 1) (failing 3 3) 0 7 r
+    c = h .given refl
+
+    number : r .refusal .number ≡ 0
+    number =
+        let q = ap (λ (x : List (List ℕ)). x ++ c .slots .2 .0) (slot-unique (kept unbroken) (c .slots .1)) ∙ c .slots .2 .2 in
+        ap (λ (x : Selection). x .refusal .number) (c .answer ∙ ap (selection (shapeOf 4 1)) (sym q))
+
+    first : arrayAt 0 (r .routes) ≡ direct
+    first =
+        let g = given h number in
+        let k = after h number unbroken in
+        ap (arrayAt 0) (g .written)
+        ∙ route-array (shapeOf 4 1) (g .routes) (λ vs m. g .settled .each vs m .route .few) 0 (omega (arith, ap length (k .1 .1)))
+        ∙ ap (λ (x : List (List ℕ)). encode (shapeOf 4 1) (getD x 0 [])) (sym (k .1 .1))
+        ∙ ap (encode (shapeOf 4 1)) (built .0)
 
 -- ---- 00 to 13 of (4,1) where both built routes are broken
 
@@ -161,7 +176,7 @@ two-routes h n c w = let k = given h n .slots in go (k .0) (k .2 .0) (k .1) (k .
 -- ---- all of them
 
 pub wrong-select : (o : Loan) → Select o
-unfolding serversOf bound digitsOf addressOf differFrom digits digit withDigit switchOf differing _or-else_ shapeRefusal serverRefusal pairRefusal bit failed live bitsFit tableRefusal isIn inTurn middle filled byteOf switchAt levelTo byteTo hopTo hopRefusal fault ended walkFrom walk endsRefusal arrayRefusal walkAnswer arrays disjoint switchesIn between parallel firstStop firstMeeting firstOf firstPair roomRefusal listRefusal walksOf checkAnswer joined setOf arrayAt bytesOf selectRefusal
+unfolding serversOf bound digitsOf addressOf differFrom digits digit withDigit switchOf differing _or-else_ shapeRefusal serverRefusal pairRefusal bit failed live bitsFit tableRefusal isIn inTurn middle filled byteOf switchAt levelTo byteTo hopTo hopRefusal fault ended walkFrom walk endsRefusal arrayRefusal walkAnswer arrays disjoint switchesIn between parallel firstStop firstMeeting firstOf firstPair roomRefusal listRefusal walksOf checkAnswer joined setOf arrayAt hopBytes selectRefusal
 wrong-select o =
     record {
       broken-kept = λ κ x h. differ (λ (y : Refusal). y .number) refl (selection-checked _ _ _ _ _ h refl);
@@ -171,7 +186,7 @@ wrong-select o =
       settled-not-avoided = λ κ x h. differ (λ (y : Refusal). y .number) refl (selection-checked _ _ _ _ _ h refl);
       switches-not-avoided = λ κ x h. differ (λ (y : Refusal). y .number) refl (selection-checked _ _ _ _ _ h refl);
       lower-slots-first = λ κ x h. differ (λ (y : List ℕ). getD y 0 0) refl (slot-1-first h .1);
-      sixteen-with-a-route = λ κ x h. sixteen-exactly _ _ _ _ _ refl h .0 refl _ (straight .route);
+      sixteen-with-a-route = λ κ x h. none-selected-exactly _ _ _ _ _ refl h .0 refl _ (straight .route);
       sixteen-not-told = λ κ x h. differ (λ (y : Refusal). y .number) refl (selection-checked _ _ _ _ _ h refl);
       not-closed-up = λ κ x h. differ (λ (y : Refusal). y .number) refl (selection-checked _ _ _ _ _ h refl);
     }

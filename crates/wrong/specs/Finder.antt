@@ -4,7 +4,7 @@ use mathlib.Core.List.{List, [], _∷_}
 use Rattle.room.specs.Shapes.{shapeOf}
 use Rattle.room.specs.Refusals.{none}
 use Rattle.finder.specs.declared.Found.{Found}
-use Rattle.finder.specs.Answers.{notFound}
+use Rattle.finder.specs.Answers.{noRoute}
 use Rattle.finder.proofs.find_route.Reads as find-route
 use Rattle.wrong.specs.Never.{Never, Loan, _&_, _lends_}
 use Rattle.wrong.specs.Examples.{array, healthy, failing, tied}
@@ -24,10 +24,10 @@ pub record Finder (o : Loan) : Type 0 where
   -- more hops than are needed: 00 to 13 of (4,1), where 41 03 is a route
   pub not-the-fewest-hops : Never find-route.Post (shapeOf 4 1 & o lends healthy & 0 & 7 & tt) (going 3 (0x42 ∷ 0x03 ∷ 0x41 ∷ []))
   -- an alternate that exists denied
-  pub alternate-denied : Never find-route.Post (shapeOf 4 1 & o lends failing 0 1 & 0 & 1 & tt) (notFound 0)
+  pub alternate-denied : Never find-route.Post (shapeOf 4 1 & o lends failing 0 1 & 0 & 1 & tt) (noRoute 0)
   -- the receiver's link forgotten: 00 to 13 of (4,1), where the level-1 link of 10 is failed
   pub receiver-forgotten : Never find-route.Post (shapeOf 4 1 & o lends failing 4 2 & 0 & 7 & tt) (going 2 (0x41 ∷ 0x03 ∷ []))
   -- the hops made up: the servers counted, and not the hops
   pub servers-for-hops : Never find-route.Post (shapeOf 4 1 & o lends healthy & 0 & 7 & tt) (going 3 (0x41 ∷ 0x03 ∷ []))
   -- 16 told, which is selection's to say: 13 is dead
-  pub sixteen-told : Never find-route.Post (shapeOf 4 1 & o lends failing 7 3 & 0 & 7 & tt) (notFound 16)
+  pub sixteen-told : Never find-route.Post (shapeOf 4 1 & o lends failing 7 3 & 0 & 7 & tt) (noRoute 16)
