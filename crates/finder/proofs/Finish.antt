@@ -8,16 +8,17 @@ use lib.Dec.{eqb}
 use lib.ListN.{length, getD, take, drop, replicate, length-map, length-drop, length-replicate, getD-replicate, take-append-drop}
 use lib.Seq.{ext-getD, getD-drop}
 use borrow.Author.Tests.{eqb-false, not-true}
+use Rattle.lists.specs.Lists.{inTurn, filled}
+use Rattle.refusals.specs.Refusals.{none, _or-else_}
+use Rattle.refusals.proofs.ChainLaws.{or-else-zero, test-held, chain-goes}
 use Rattle.room.specs.declared.Shape.{Shape}
 use Rattle.room.specs.Shapes.{Server}
-use Rattle.room.specs.Refusals.{none, shapeRefusal, pairRefusal, _or-else_}
-use Rattle.room.proofs.RefusalLaws.{or-else-zero, test-held, pair-of, valid-none, chain-goes}
-use Rattle.links.specs.Table.{tableRefusal, roomTableRefusal}
-use Rattle.path.specs.Lists.{inTurn, filled}
+use Rattle.room.specs.Refusals.{shapeRefusal, pairRefusal, endsRefusal}
+use Rattle.room.proofs.RefusalLaws.{pair-of, valid-none}
+use Rattle.links.specs.Table.{tableRefusal, roomTableRefusal, roomRefusal}
 use Rattle.path.specs.Routes.{byteTo, encode}
-use Rattle.path.specs.Answers.{endsRefusal}
 use Rattle.finder.specs.declared.Found.{Found}
-use Rattle.finder.specs.Answers.{findRefusal, notFound, found, Finding}
+use Rattle.finder.specs.Answers.{notFound, found, Finding}
 use Rattle.finder.specs.Walks.{Walk, Least}
 use Rattle.finder.specs.Hops.{turned, stepOf, Ok}
 use Rattle.finder.specs.State.{trail}
@@ -36,8 +37,8 @@ pub record Ready (s : Shape) (a d : ℕ) : Type 0 where
   pub destination : Server s d
   pub apart : a ≢ d
 
-pub ready : (s : Shape) (t : List ℕ) (a d : ℕ) → findRefusal s t a d ≡ 0 → Ready s a d
-unfolding findRefusal endsRefusal
+pub ready : (s : Shape) (t : List ℕ) (a d : ℕ) → roomRefusal s t a d ≡ 0 → Ready s a d
+unfolding roomRefusal endsRefusal
 ready s t a d e =
     let z = or-else-zero _ _ e in
     let y = or-else-zero (pairRefusal s a d) _ (z .0) in
@@ -52,7 +53,7 @@ table-next s t a d r x e z f =
     let v : 0 ≡ shapeRefusal s = valid-none (pair-of s a d (y .0) .0 .valid) in
     chain-goes r _ _ x e z (rw (← v) at f)
 
-pub refused-answer : {s : Shape} {t : List ℕ} {a d : ℕ} (q : ℕ) → q ≡ findRefusal s t a d → (q ≡ 0 → ⊥) → (r : Found) → r ≡ notFound q → Finding s t a d r
+pub refused-answer : {s : Shape} {t : List ℕ} {a d : ℕ} (q : ℕ) → q ≡ roomRefusal s t a d → (q ≡ 0 → ⊥) → (r : Found) → r ≡ notFound q → Finding s t a d r
 refused-answer q e ne r f =
     record { refused = λ n. f ∙ ap notFound e; given = λ z. absurd (ne (e ∙ z)); none = λ z. absurd (ne (e ∙ z)) }
 
@@ -79,7 +80,7 @@ pub record Ended (s : Shape) (t : List ℕ) (a : ℕ) (back queue : List ℕ) (n
   pub kept : Kept-in s t a back queue n reach
   pub how : (n * 256 ≤ reach) ⊎ (getD back d 0 ≡ 4294967295 → ⊥)
 
-module _ {s : Shape} {t : List ℕ} {a d : ℕ} {back queue : List ℕ} {n : ℕ} (pre : findRefusal s t a d ≡ 0) (e : Ended s t a back queue n d) where
+module _ {s : Shape} {t : List ℕ} {a d : ℕ} {back queue : List ℕ} {n : ℕ} (pre : roomRefusal s t a d ≡ 0) (e : Ended s t a back queue n d) where
   given : Ready s a d
   given = ready s t a d pre
 

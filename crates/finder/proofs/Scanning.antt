@@ -13,13 +13,12 @@ use Rattle.room.specs.declared.Shape.{Shape}
 use Rattle.room.specs.Shapes.{serversOf, Valid, Server, Value}
 use Rattle.room.specs.Addresses.{digit, withDigit, switchOf, Beside}
 use Rattle.room.proofs.RoomLaws.{bound-le, digit-lt, with-server, with-switch, switch-same}
-use Rattle.links.specs.Table.{failed}
+use Rattle.links.specs.Table.{failed, roomRefusal}
 use Rattle.links.proofs.TableLaws.{live-exactly}
 use Rattle.finder.specs.declared.Side.{Side}
 use Rattle.finder.specs.Hops.{stepOf, Ok}
 use Rattle.finder.specs.Kept.{Kept}
 use Rattle.finder.specs.Scan.{markAt, Scanned, Swept, Siding, Sided, Trying, Tried}
-use Rattle.finder.specs.Answers.{findRefusal}
 use Rattle.finder.proofs.Order.{split}
 use Rattle.finder.proofs.Tables.{recast}
 use Rattle.finder.proofs.Back.{zeros}
@@ -144,7 +143,7 @@ module _ (s : Shape) (t : List ℕ) (a d : ℕ) where
     pub sweeping : Sweeping s t marks queue tail level u (side .count)
     pub kept : Kept-in s t a back queue tail (head * 256 + ((s .k - level) * 64 + v))
 
-  pub scan-starts : findRefusal s t a d ≡ 0 → (back queue : List ℕ)
+  pub scan-starts : roomRefusal s t a d ≡ 0 → (back queue : List ℕ)
       → ((s′ : Shape) (t′ : List ℕ) → serversOf s′ ≤ 4096 → a < serversOf s′ → Kept (stepOf s′) (Ok s′ t′) (serversOf s′) a back queue 1 0)
       → (m : ℕ) → m ≡ 16384 → AtServer back queue (replicate m 0) 0 1
   scan-starts pre back queue f m e =

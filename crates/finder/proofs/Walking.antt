@@ -7,13 +7,13 @@ use mathlib.Core.Logic.{_≢_}
 use mathlib.Core.Bool.{true, false}
 use mathlib.Core.List.{List, [], _∷_, _++_, map}
 use lib.ListN.{length, getD, take, drop, length-map}
+use Rattle.lists.specs.Lists.{inTurn}
 use Rattle.room.specs.declared.Shape.{Shape}
 use Rattle.room.specs.Shapes.{serversOf, bound, Server, Link, Value}
 use Rattle.room.specs.Addresses.{digit, withDigit, switchOf, switchesAt, Beside, Neighbours}
 use Rattle.room.proofs.RoomLaws.{bound-le, digit-lt, with-server, with-same, with-own, with-beside, with-switch, beside-with, switch-lt, neighbours-exactly}
 use Rattle.links.specs.Table.{live, failed}
 use Rattle.links.proofs.TableLaws.{live-exactly}
-use Rattle.path.specs.Lists.{inTurn}
 use Rattle.path.specs.Routes.{byteOf, switchAt, levelTo, switchTo, byteTo, Route, RouteTo}
 use Rattle.finder.specs.Alternates.{bytesOf}
 use Rattle.finder.specs.Walks.{Walk}

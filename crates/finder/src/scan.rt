@@ -6,10 +6,11 @@ ghost use mathlib.Core.List.{List, [], _∷_};
 ghost use lib.ListN.{length};
 ghost use Rattle.room.specs.declared.Shape.{Shape as AShape};
 ghost use Rattle.room.specs.Shapes.{serversOf};
+ghost use Rattle.links.specs.Table.{roomRefusal};
 ghost use Rattle.finder.specs.Hops.{stepOf, Ok};
 ghost use Rattle.finder.specs.Kept.{Blank, Kept};
 ghost use Rattle.finder.specs.Scan.{Siding, Sided, Trying, Tried};
-ghost use Rattle.finder.specs.Answers.{findRefusal, Finding};
+ghost use Rattle.finder.specs.Answers.{Finding};
 use crate::Found;
 use crate::Side;
 use crate::finding::no_route;
@@ -98,7 +99,7 @@ fn begin(back: &mut [u32; 4096], queue: &mut [u16; 4096], source: usize)
 // The least route, where nothing is refused: servers in the order in which they are found, levels down
 // from k, values up from 0; a switch is scanned once.
 pub(crate) fn search(shape: Shape, table: &[u8], source: usize, destination: usize) -> Found
-    requires { ⌜ findRefusal shape (now table) source destination ≡ 0 ⌝ }
+    requires { ⌜ roomRefusal shape (now table) source destination ≡ 0 ⌝ }
     ensures { λ r. ⌜ Finding shape (now (table .entry)) source destination r ⌝ }
 {
     let mut back = [NONE; 4096];

@@ -2,14 +2,14 @@
 ghost use mathlib.Core.Path.{_≡_};
 ghost use mathlib.Core.List.{_∷_, map};
 ghost use lib.ListN.{take};
-ghost use Rattle.room.specs.Refusals.{none};
+ghost use Rattle.refusals.specs.Refusals.{none};
 ghost use Rattle.finder.specs.Hops.{turned};
 ghost use Rattle.finder.specs.Kept.{keyed};
 ghost use Rattle.finder.specs.State.{trail};
 ghost use Rattle.finder.specs.Trace.{Reached, Traced};
 use crate::Found;
 use crate::finding::no_route;
-use room::Refusal;
+use refusals::Refusal;
 use room::Shape;
 
 // Eight bytes with one more in front; the last goes.

@@ -8,15 +8,15 @@ use native.Mathlib.Omega.{arith}
 use native.Mathlib.Nat.{le-of-suc-le-suc}
 use native.Mathlib.Decide.{decLt}
 use lib.ListN.{length, getD}
+use Rattle.lists.specs.Lists.{isIn, middle}
+use Rattle.lists.proofs.ListLaws.{Missing, in-missing, missing-in, length-turn, turn-at, length-middle, middle-at}
 use Rattle.room.specs.declared.Shape.{Shape}
 use Rattle.room.specs.Shapes.{Server, Link}
 use Rattle.room.specs.Addresses.{Neighbours}
 use Rattle.room.proofs.RoomLaws.{same-switch}
 use Rattle.links.specs.Table.{failed, live}
 use Rattle.links.proofs.TableLaws.{live-exactly}
-use Rattle.path.specs.Lists.{isIn, middle}
 use Rattle.path.specs.Routes.{switchAt, levelTo, switchTo, switchesOf, Route, RouteTo}
-use Rattle.path.proofs.ListLaws.{Missing, in-missing, missing-in, length-turn, turn-at, length-middle, middle-at}
 use Rattle.finder.specs.Alternates.{Alternate}
 use Rattle.select.specs.Avoided.{Avoids}
 use Rattle.select.specs.Selection.{Replaces}

@@ -6,19 +6,17 @@ use mathlib.Core.List.{List, [], _∷_, _++_, map}
 use native.Mathlib.Omega.{arith}
 use lib.ListN.{length, getD, take, drop, length-drop, length-append, length-map}
 use lib.Seq.{getD-take, getD-drop, length-take-le}
+use Rattle.lists.proofs.ListLaws.{take-filled, length-filled, All, map-at}
 use Rattle.room.specs.declared.Shape.{Shape}
 use Rattle.links.specs.Table.{TableOf}
 use Rattle.path.specs.declared.Reading.{Reading}
 use Rattle.path.specs.Routes.{Route, RouteTo, Encodes, encode}
 use Rattle.path.specs.Answers.{readAnswer}
-use Rattle.path.proofs.ListLaws.{take-filled, length-filled}
 use Rattle.path.proofs.CodecLaws.{encode-long, read-given, read-exactly}
 use Rattle.build.specs.declared.RouteSet.{RouteSet}
 use Rattle.build.specs.Sets.{emptySet, added, arrayAt, setOf}
-use Rattle.build.proofs.ListLaws.{All}
 use Rattle.build.proofs.SetLaws.{gathered, gathered-set, set-array}
 use Rattle.select.specs.Inside.{takes, taken, Marks, Laid, readOf, routesAt}
-use Rattle.select.proofs.SlotLaws.{map-at}
 use Rattle.select.proofs.MarkLaws.{marks-none, marks-then, or-assoc}
 
 -- ---- eight bytes of a set

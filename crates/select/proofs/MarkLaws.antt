@@ -2,7 +2,7 @@
 use Prim.Native.Nat.{ℕ, suc, _+_, _-_, _*_, _/_, _%_, _^_, _≤_, _<_}
 use mathlib.Core.Path.{_≡_, refl, sym, ap, ap₂, _∙_, subst}
 use mathlib.Core.Logic.{_⊎_, inl, inr, ⊎-elim}
-use mathlib.Core.Bool.{Bool, true, false, not, _&&_, _||_}
+use mathlib.Core.Bool.{Bool, true, false, _&&_, _||_}
 use mathlib.Core.List.{List, [], _∷_, _++_}
 use native.Mathlib.Omega.{arith}
 use native.Mathlib.Numerals.{add-one}
@@ -11,6 +11,8 @@ use lib.Dec.{ltb, eqb}
 use lib.ListN.{length, getD, set, take, drop}
 use lib.Seq.{take-suc, take-all, set-getD}
 use borrow.Author.Tests.{eq-eqb, ne-eqb, lt-ltb, le-ltb}
+use Rattle.lists.specs.Lists.{isIn, middle}
+use Rattle.lists.proofs.ListLaws.{length-turn, turn-at, length-middle, middle-at}
 use Rattle.room.specs.declared.Shape.{Shape}
 use Rattle.room.specs.Shapes.{bound, Server, Link, Value}
 use Rattle.room.specs.declared.Number.{Number}
@@ -19,13 +21,11 @@ use Rattle.room.specs.Addresses.{digit, withDigit, switchOf}
 use Rattle.room.specs.Answers.{onlyLevel, boundAnswer, neighbourAnswer, betweenAnswer}
 use Rattle.room.proofs.AnswerLaws.{bound-answered, neighbour-answered, between-answered}
 use Rattle.room.proofs.RoomLaws.{digit-lt, with-server, with-same, with-switch, beside-with, switch-same, neighbours-exactly}
-use Rattle.links.specs.Table.{bit, failed, marked, TableOf}
-use Rattle.links.proofs.BitLaws.{raised-set, raised-clear}
-use Rattle.links.proofs.TableLaws.{marked-own, marked-other, marked-table}
+use Rattle.links.specs.Table.{bit, failed, marked, TableOf, changed}
+use Rattle.links.proofs.BitLaws.{put-same, put-raised}
+use Rattle.links.proofs.TableLaws.{changed-own, changed-other, changed-table}
 use Rattle.links.proofs.LinkLaws.{bit-by, raise-fits}
-use Rattle.path.specs.Lists.{isIn, middle}
 use Rattle.path.specs.Routes.{switchAt, levelTo, switchTo, switchesOf, Route}
-use Rattle.path.proofs.ListLaws.{length-turn, turn-at, length-middle, middle-at}
 use Rattle.path.proofs.HopLaws.{switch-id}
 use Rattle.select.specs.Inside.{takes, Marks}
 
@@ -79,16 +79,16 @@ marks-same {s} {t} {u} p q e h =
 pub marks-more : {s : Shape} {t u : List ℕ} {y m : ℕ} (p q : ℕ → ℕ → Bool) → Link s y m → Marks s t p u → ((x l : ℕ) → Link s x l → q x l ≡ p x l || only y m x l) → Marks s t q (marked y m u)
 marks-more {s} {t} {u} {y} {m} p q k h e =
     record {
-      table = marked-table (h .table) y m (k .level);
+      table = changed-table true (h .table) y m (k .level);
       marks = λ x l z.
           ⊎-elim
           (λ w.
-          let own : failed (marked y m u) x l ≡ true = ap₂ (λ (i j : ℕ). failed (marked y m u) i j) (w .0) (w .1) ∙ marked-own y m u (omega (arith, k .server .below, h .table .long)) in
+          let own : failed (marked y m u) x l ≡ true = ap₂ (λ (i j : ℕ). failed (marked y m u) i j) (w .0) (w .1) ∙ changed-own true y m u (omega (arith, k .server .below, h .table .long)) in
           let all : q x l ≡ true = e x l z ∙ ap (λ (b : Bool). p x l || b) (only-own y m x l (w .0) (w .1)) ∙ or-true (p x l) in
           own ∙ sym (ap (λ (b : Bool). failed t x l || b) all ∙ or-true (failed t x l)))
           (λ w.
           let same : q x l ≡ p x l = e x l z ∙ ap (λ (b : Bool). p x l || b) (only-other y m x l w) ∙ or-false (p x l) in
-          marked-other y m x l u w ∙ h .marks x l z ∙ ap (λ (b : Bool). failed t x l || b) (sym same))
+          changed-other true y m x l u w ∙ h .marks x l z ∙ ap (λ (b : Bool). failed t x l || b) (sym same))
           (same-link y m x l);
     }
 
@@ -116,15 +116,15 @@ pub stored-fits : (l x w : ℕ) → w ≡ 2 ^ l → x / w % 2 ≡ 0 → l ≤ 3 
 stored-fits l x w e h k b = raise-fits l x w false (clear-bit l x w e h) refl e (omega arith) b
 
 pub mark-stored : (a l w : ℕ) (t : List ℕ) → w ≡ 2 ^ l → getD t a 0 / w % 2 ≡ 0 → set t a (getD t a 0 + w) ≡ marked a l t
-unfolding marked
+unfolding changed
 mark-stored a l w t e h =
-    ap (λ (y : ℕ). set t a y) (ap (λ (m : ℕ). getD t a 0 + m) e ∙ sym (raised-clear l (getD t a 0) (sym (clear-bit l (getD t a 0) w e h))))
+    ap (λ (y : ℕ). set t a y) (ap (λ (m : ℕ). getD t a 0 + m) e ∙ sym (put-raised l (getD t a 0) (sym (clear-bit l (getD t a 0) w e h))))
 
 pub mark-kept : (a l w : ℕ) (t : List ℕ) → w ≡ 2 ^ l → (getD t a 0 / w % 2 ≡ 0 → ⊥) → t ≡ marked a l t
-unfolding marked
+unfolding changed
 mark-kept a l w t e h =
     let o : getD t a 0 / w % 2 ≡ 1 = omega arith in
-    sym (set-getD t a 0) ∙ ap (λ (y : ℕ). set t a y) (sym (raised-set l (getD t a 0) (sym (bit-by l (getD t a 0) w e) ∙ eq-eqb (getD t a 0 / w % 2) 1 o)))
+    sym (set-getD t a 0) ∙ ap (λ (y : ℕ). set t a y) (sym (put-same true l (getD t a 0) (sym (bit-by l (getD t a 0) w e) ∙ eq-eqb (getD t a 0 / w % 2) 1 o)))
 
 -- ---- all levels of a server
 

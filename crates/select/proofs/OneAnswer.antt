@@ -1,31 +1,32 @@
 -- There is one answer: of two routes one comes before the other, so each slot gives one thing, and the slots one after another too.
-use Prim.Native.Nat.{ℕ, zero, suc, _+_, _-_, _/_, _%_}
+use Prim.Native.Nat.{ℕ, zero, suc, _+_, _-_}
 use mathlib.Core.Path.{_≡_, refl, sym, ap, ap₂, _∙_, subst}
 use mathlib.Core.Logic.{_⊎_, inl, inr, ⊎-elim}
 use mathlib.Core.List.{List, [], _∷_, _++_}
 use native.Mathlib.Omega.{arith}
 use native.Mathlib.Decide.{ℕ-discrete, decLt}
 use lib.ListN.{length}
+use Rattle.lists.specs.Lists.{filled}
+use Rattle.lists.proofs.ListLaws.{length-turn}
 use Rattle.room.specs.declared.Shape.{Shape}
-use Rattle.path.specs.Lists.{filled}
-use Rattle.path.specs.Routes.{byteTo, encode, RouteTo}
-use Rattle.path.proofs.ListLaws.{length-turn}
+use Rattle.links.specs.Table.{roomRefusal}
+use Rattle.path.specs.Routes.{byteTo, encode, RouteTo, levelOf, valueOf}
 use Rattle.path.proofs.CodecLaws.{encodes-unique}
 use Rattle.finder.specs.Alternates.{bytesOf, Sooner, HopByHop, Before}
 use Rattle.select.specs.declared.Selection.{Selection}
-use Rattle.select.specs.Selection.{Replaces, Slot, kept, replaced, nothing, Selects, selectRefusal, selection, Selecting}
+use Rattle.select.specs.Selection.{Replaces, Slot, kept, replaced, nothing, Selects, selection, Selecting}
 
 -- ---- of two routes one comes before the other
 
 hop-order : (b c : ℕ) → (Sooner b c ⊎ Sooner c b) ⊎ (b ≡ c)
 hop-order b c =
-    elim (decLt (c / 64) (b / 64)) [
+    elim (decLt (levelOf c) (levelOf b)) [
       | yes h ↦ inl (inl (inl h))
-      | no h ↦ elim (decLt (b / 64) (c / 64)) [
+      | no h ↦ elim (decLt (levelOf b) (levelOf c)) [
         | yes k ↦ inl (inr (inl k))
-        | no k ↦ elim (decLt (b % 64) (c % 64)) [
+        | no k ↦ elim (decLt (valueOf b) (valueOf c)) [
           | yes p ↦ inl (inl (inr (omega arith, p)))
-          | no p ↦ elim (decLt (c % 64) (b % 64)) [
+          | no p ↦ elim (decLt (valueOf c) (valueOf b)) [
             | yes q ↦ inl (inr (inr (omega arith, q)))
             | no q ↦ inr (omega arith)
           ]
@@ -97,7 +98,7 @@ selects-unique s t a d (suc i) settled us vs c e =
 
 pub selecting-unique : {s : Shape} {t : List ℕ} {a d : ℕ} {q r : Selection} → Selecting s t a d q → Selecting s t a d r → q ≡ r
 selecting-unique {s} {t} {a} {d} {q} {r} h k =
-    elim (ℕ-discrete (selectRefusal s t a d) 0) [
+    elim (ℕ-discrete (roomRefusal s t a d) 0) [
       | yes e ↦ let x = h .given e in
           let y = k .given e in
           x .answer ∙ ap (selection s) (selects-unique s t a d (suc (s .k)) [] (x .routes) (y .routes) (x .slots) (y .slots)) ∙ sym (y .answer)

@@ -11,48 +11,49 @@ use native.Mathlib.Decide.{ℕ-discrete}
 use lib.Dec.{ltb, leb, eqb}
 use lib.ListN.{length, getD, replicate, length-append, length-map}
 use lib.Seq.{append-snoc, take-at, getD-append-seam}
+use Rattle.lists.specs.Lists.{filled, downFrom}
+use Rattle.refusals.specs.Refusals.{none, _or-else_, _unless_}
+use Rattle.refusals.proofs.ChainLaws.{or-else-zero}
+use Rattle.refusals.proofs.AnswerLaws.{answer-none}
 use Rattle.room.specs.declared.Shape.{Shape}
-use Rattle.room.specs.Shapes.{serversOf}
-use Rattle.room.specs.Refusals.{none, _or-else_, _unless_, shapeRefusal, serverRefusal, pairRefusal}
-use Rattle.room.proofs.RefusalLaws.{or-else-zero, answer-none}
-use Rattle.links.specs.Table.{live, bitsFit, tableRefusal}
+use Rattle.room.specs.Shapes.{serversOf, Ends}
+use Rattle.room.specs.Refusals.{shapeRefusal, serverRefusal, pairRefusal, endsRefusal}
+use Rattle.room.proofs.RefusalLaws.{ends-of}
+use Rattle.links.specs.Table.{bitsFit, tableRefusal, roomRefusal}
 use Rattle.links.proofs.TableLaws.{live-zeros}
-use Rattle.path.specs.Lists.{filled}
 use Rattle.path.specs.Routes.{encode, RouteTo}
-use Rattle.path.specs.Answers.{endsRefusal}
-use Rattle.path.proofs.CodecLaws.{Ends, ends-of}
-use Rattle.verdict.specs.Checks.{roomRefusal, checkAnswer}
+use Rattle.verdict.specs.Checks.{checkAnswer}
 use Rattle.verdict.specs.Accepted.{encodeAll, Accepted}
 use Rattle.verdict.proofs.AcceptLaws.{encoded-long, of-accepted}
 use Rattle.build.specs.declared.RouteSet.{RouteSet}
 use Rattle.build.specs.declared.Building.{Building}
-use Rattle.build.specs.Built.{downFrom, builtRoute, builtBytes, builtArrays}
+use Rattle.build.specs.Built.{builtRoute, builtBytes, builtArrays}
 use Rattle.build.specs.Sets.{arrayAt, joined, setOf, held}
 use Rattle.build.specs.Answers.{buildAnswer, noBuilding, aBuilding}
 use Rattle.build.proofs.BuiltLaws.{built-encode}
 use Rattle.select.specs.declared.Selection.{Selection}
 use Rattle.select.specs.Avoided.{avoided, Avoids}
-use Rattle.select.specs.Selection.{Unbroken, Slot, kept, replaced, nothing, Selects, selectRefusal, selection, Chosen, Selecting}
+use Rattle.select.specs.Selection.{Unbroken, Slot, kept, replaced, nothing, Selects, selection, Chosen, Selecting}
 use Rattle.select.specs.Inside.{Settled}
 use Rattle.select.proofs.SlotLaws.{settled-none, slots-settled, lower}
 use Rattle.select.proofs.LayLaws.{set-count, route-array}
 
 -- ---- where nothing is refused
 
-pub select-ends : (s : Shape) (t : List ℕ) (a d : ℕ) → selectRefusal s t a d ≡ 0 → Ends s a d
-unfolding selectRefusal
+pub select-ends : (s : Shape) (t : List ℕ) (a d : ℕ) → roomRefusal s t a d ≡ 0 → Ends s a d
+unfolding roomRefusal
 select-ends s t a d e = ends-of s a d (or-else-zero (endsRefusal s a d) (tableRefusal s t) e .0)
 
-pub select-table : (s : Shape) (t : List ℕ) (a d : ℕ) → selectRefusal s t a d ≡ 0 → tableRefusal s t ≡ 0
-unfolding selectRefusal
+pub select-table : (s : Shape) (t : List ℕ) (a d : ℕ) → roomRefusal s t a d ≡ 0 → tableRefusal s t ≡ 0
+unfolding roomRefusal
 select-table s t a d e = or-else-zero (endsRefusal s a d) (tableRefusal s t) e .1
 
-select-ends-zero : (s : Shape) (t : List ℕ) (a d : ℕ) → selectRefusal s t a d ≡ 0 → endsRefusal s a d ≡ 0
-unfolding selectRefusal
+select-ends-zero : (s : Shape) (t : List ℕ) (a d : ℕ) → roomRefusal s t a d ≡ 0 → endsRefusal s a d ≡ 0
+unfolding roomRefusal
 select-ends-zero s t a d e = or-else-zero (endsRefusal s a d) (tableRefusal s t) e .0
 
-select-room : (s : Shape) (t : List ℕ) (a d : ℕ) → selectRefusal s t a d ≡ 0 → roomRefusal s t a d ≡ 0
-unfolding selectRefusal roomRefusal
+select-room : (s : Shape) (t : List ℕ) (a d : ℕ) → roomRefusal s t a d ≡ 0 → roomRefusal s t a d ≡ 0
+unfolding roomRefusal
 select-room s t a d e = e
 
 -- the routes that were chosen, every two parallel
@@ -88,9 +89,9 @@ given-by [] c e h n = let z : _≡_ {A = ℕ} 16 0 = sym (ap (λ (x : Selection)
 given-by (vs ∷ vss) c e h n =
     record { routes = vs ∷ vss; some = suc-le-suc zero-le; settled = h; written = ap (λ (x : Selection). x .routes) e; slots = c }
 
-no-refusal : {s : Shape} {t : List ℕ} {a d : ℕ} {r : Selection} → Selecting s t a d r → r .refusal .number ≡ 0 → selectRefusal s t a d ≡ 0
+no-refusal : {s : Shape} {t : List ℕ} {a d : ℕ} {r : Selection} → Selecting s t a d r → r .refusal .number ≡ 0 → roomRefusal s t a d ≡ 0
 no-refusal {s} {t} {a} {d} {r} h n =
-    elim (ℕ-discrete (selectRefusal s t a d) 0) [
+    elim (ℕ-discrete (roomRefusal s t a d) 0) [
       | yes e ↦ e
       | no e ↦ absurd (e (sym (ap (λ (x : Selection). x .refusal .number) (h .refused e)) ∙ n))
     ]
@@ -228,16 +229,16 @@ ends-le s a d =
     or-else-le 6 (serverRefusal s a or-else serverRefusal s d) (5 unless not (eqb a d)) (or-else-le 6 (serverRefusal s a) (serverRefusal s d) (server-le s a) (server-le s d))
     (unless-le 6 5 (not (eqb a d)) (omega arith))
 
-pub select-le : (s : Shape) (t : List ℕ) (a d : ℕ) → selectRefusal s t a d ≤ 6
-unfolding selectRefusal tableRefusal
+pub select-le : (s : Shape) (t : List ℕ) (a d : ℕ) → roomRefusal s t a d ≤ 6
+unfolding roomRefusal tableRefusal
 select-le s t a d =
     or-else-le 6 (endsRefusal s a d) (6 unless (eqb (length t) (serversOf s) && bitsFit (s .k) t)) (ends-le s a d)
     (unless-le 6 6 (eqb (length t) (serversOf s) && bitsFit (s .k) t) (omega arith))
 
 -- 16 only where nothing else is refused
-pub sixteen-only : (s : Shape) (t : List ℕ) (a d : ℕ) (r : Selection) → Selecting s t a d r → r .refusal .number ≡ 16 → selectRefusal s t a d ≡ 0
+pub sixteen-only : (s : Shape) (t : List ℕ) (a d : ℕ) (r : Selection) → Selecting s t a d r → r .refusal .number ≡ 16 → roomRefusal s t a d ≡ 0
 sixteen-only s t a d r h n =
-    elim (ℕ-discrete (selectRefusal s t a d) 0) [
+    elim (ℕ-discrete (roomRefusal s t a d) 0) [
       | yes e ↦ e
       | no e ↦ let z : ⊥ = omega (arith, ap (λ (x : Selection). x .refusal .number) (h .refused e), select-le s t a d, n) in absurd z
     ]
@@ -247,7 +248,7 @@ none-sixteen s [] e = refl
 none-sixteen s (vs ∷ vss) e = let z : ⊥ = omega arith in absurd z
 
 -- where nothing else is refused: 16 exactly when no route at all, of eight hops or fewer, crosses only live links
-pub sixteen-exactly : (s : Shape) (t : List ℕ) (a d : ℕ) (r : Selection) → selectRefusal s t a d ≡ 0 → Selecting s t a d r → (r .refusal .number ≡ 16) ↔ ((vs : List ℕ) → RouteTo s t a d vs → ⊥)
+pub sixteen-exactly : (s : Shape) (t : List ℕ) (a d : ℕ) (r : Selection) → roomRefusal s t a d ≡ 0 → Selecting s t a d r → (r .refusal .number ≡ 16) ↔ ((vs : List ℕ) → RouteTo s t a d vs → ⊥)
 sixteen-exactly s t a d r e h = (there, back (c .routes) (c .answer) (chosen-settled (select-ends s t a d e) c))
   where
     c : Chosen s t a d r
@@ -296,7 +297,7 @@ pub record KeptAt (s : Shape) (a d i : ℕ) (r : Selection) : Type 0 where
   pub few-lower : r .routes .count ≤ place + suc i
   pub there : arrayAt place (r .routes) ≡ builtBytes s i a d
 
-pub built-kept : (s : Shape) (t : List ℕ) (a d : ℕ) (r : Selection) → selectRefusal s t a d ≡ 0 → Selecting s t a d r → (i : ℕ) → i ≤ s .k → Unbroken s t (builtRoute s i a d) → (r .refusal ≡ none) × KeptAt s a d i r
+pub built-kept : (s : Shape) (t : List ℕ) (a d : ℕ) (r : Selection) → roomRefusal s t a d ≡ 0 → Selecting s t a d r → (i : ℕ) → i ≤ s .k → Unbroken s t (builtRoute s i a d) → (r .refusal ≡ none) × KeptAt s a d i r
 built-kept s t a d r e h i p u = go (c .routes) (c .answer) (built-stays s t a d (c .routes) (c .slots) i p u) (chosen-settled ends c)
   where
     c : Chosen s t a d r
@@ -322,7 +323,7 @@ built-kept s t a d r e h i p u = go (c .routes) (c .answer) (built-stays s t a d
                 ap (arrayAt (length (k .higher))) w
                 ∙ route-array s (vs ∷ vss) (λ j y. f .each j y .route .few) (length (k .higher)) (omega arith)
                 ∙ ap (encode s) (ap (λ (x : List (List ℕ)). getD x (length (k .higher)) []) (k .whole) ∙ getD-append-seam (k .higher) (builtRoute s i a d) (k .lowers) [])
-                ∙ built-encode s a d (ends .source) (ends .dest) (ends .differ) i p;
+                ∙ built-encode s a d (ends .source) (ends .destination) (ends .differ) i p;
           },
         )
 
@@ -338,9 +339,9 @@ all-unbroken s t a d (suc i) settled routes u c =
 encode-lower : {s : Shape} {a d : ℕ} → Ends s a d → (m : ℕ) → m ≤ suc (s .k) → map (encode s) (lower s a d m) ≡ map (λ (i : ℕ). builtBytes s i a d) (downFrom m)
 encode-lower h zero p = refl
 encode-lower {s} {a} {d} h (suc i) p =
-    ap₂ (λ (x : List ℕ) (y : List (List ℕ)). x ∷ y) (built-encode s a d (h .source) (h .dest) (h .differ) i (le-of-suc-le-suc p)) (encode-lower h i (omega arith))
+    ap₂ (λ (x : List ℕ) (y : List (List ℕ)). x ∷ y) (built-encode s a d (h .source) (h .destination) (h .differ) i (le-of-suc-le-suc p)) (encode-lower h i (omega arith))
 
-pub unbroken-built : (s : Shape) (t : List ℕ) (a d : ℕ) (r : Selection) → selectRefusal s t a d ≡ 0 → Selecting s t a d r → ((i : ℕ) → i ≤ s .k → Unbroken s t (builtRoute s i a d)) → (r .refusal ≡ buildAnswer s a d .refusal) × (r .routes ≡ buildAnswer s a d .routes)
+pub unbroken-built : (s : Shape) (t : List ℕ) (a d : ℕ) (r : Selection) → roomRefusal s t a d ≡ 0 → Selecting s t a d r → ((i : ℕ) → i ≤ s .k → Unbroken s t (builtRoute s i a d)) → (r .refusal ≡ buildAnswer s a d .refusal) × (r .routes ≡ buildAnswer s a d .routes)
 unfolding buildAnswer builtArrays
 unbroken-built s t a d r e h u =
     let c = h .given e in
@@ -357,5 +358,5 @@ unbroken-built s t a d r e h u =
     or-zero = select-ends-zero s t a d e
 
 -- and so with no failed link
-pub no-failed-built : (s : Shape) (m : ℕ) (a d : ℕ) (r : Selection) → selectRefusal s (replicate m 0) a d ≡ 0 → Selecting s (replicate m 0) a d r → (r .refusal ≡ buildAnswer s a d .refusal) × (r .routes ≡ buildAnswer s a d .routes)
+pub no-failed-built : (s : Shape) (m : ℕ) (a d : ℕ) (r : Selection) → roomRefusal s (replicate m 0) a d ≡ 0 → Selecting s (replicate m 0) a d r → (r .refusal ≡ buildAnswer s a d .refusal) × (r .routes ≡ buildAnswer s a d .routes)
 no-failed-built s m a d r e h = unbroken-built s (replicate m 0) a d r e h (λ i p. record { alive = λ j q. live-zeros m _ _ _ })

@@ -7,17 +7,21 @@ use native.Mathlib.Numerals.{add-one}
 use native.Mathlib.Decide.{ℕ-discrete}
 use lib.ListN.{length, getD, take, drop, set, replicate, length-replicate, drop-of-length-le}
 use lib.Seq.{take-suc, take-suc-set, take-all, drop-cons, length-take-le}
+use Rattle.refusals.specs.declared.Refusal.{Refusal}
+use Rattle.refusals.specs.Refusals.{none}
+use Rattle.refusals.proofs.ChainLaws.{chain-goes}
+use Rattle.refusals.proofs.AnswerLaws.{answer-none}
 use Rattle.room.specs.declared.Shape.{Shape}
-use Rattle.room.specs.declared.Refusal.{Refusal}
-use Rattle.room.specs.Refusals.{none}
-use Rattle.room.proofs.RefusalLaws.{chain-goes, answer-none}
-use Rattle.links.specs.Table.{tableRefusal, TableOf}
+use Rattle.room.specs.Refusals.{endsRefusal}
+use Rattle.room.specs.Shapes.{Ends}
+use Rattle.room.proofs.RefusalLaws.{ends-none}
+use Rattle.links.specs.Table.{tableRefusal, TableOf, roomRefusal}
 use Rattle.links.proofs.TableLaws.{table-of, table-none}
 use Rattle.path.specs.declared.Walked.{Walked}
 use Rattle.path.specs.Routes.{RouteTo, encode}
-use Rattle.path.specs.Answers.{endsRefusal, readAnswer, walkAnswer}
+use Rattle.path.specs.Answers.{readAnswer, walkAnswer}
 use Rattle.path.proofs.ReverseLaws.{route-to-plain}
-use Rattle.path.proofs.CodecLaws.{Ends, ends-none, encodes-unique, walk-exactly}
+use Rattle.path.proofs.CodecLaws.{encodes-unique, walk-exactly}
 use Rattle.build.specs.declared.RouteSet.{RouteSet}
 use Rattle.build.specs.declared.Building.{Building}
 use Rattle.build.specs.Answers.{buildAnswer, noBuilding, aBuilding}
@@ -26,10 +30,10 @@ use Rattle.build.specs.Sets.{emptySet, added, arrayAt, setOf}
 use Rattle.build.proofs.SetLaws.{gathered, gathered-set}
 use Rattle.build.proofs.ArrayLaws.{arrays-encode, routes-count, routes-at}
 use Rattle.finder.specs.declared.Found.{Found}
-use Rattle.finder.specs.Answers.{findRefusal, Finding}
+use Rattle.finder.specs.Answers.{Finding}
 use Rattle.select.specs.declared.Selection.{Selection}
 use Rattle.select.specs.Avoided.{avoided}
-use Rattle.select.specs.Selection.{Unbroken, kept, replaced, nothing, Selects, selectRefusal, noSelection, selection, Chosen, Selecting}
+use Rattle.select.specs.Selection.{Unbroken, kept, replaced, nothing, Selects, noSelection, selection, Chosen, Selecting}
 use Rattle.select.specs.Inside.{Laid, readOf, routesAt, Settled, Stands, Slotted, Around, SlotDone, SlotsDone}
 use Rattle.select.proofs.AvoidLaws.{Routes, laid-from, alternate-exactly}
 use Rattle.select.proofs.SlotLaws.{lower, unbroken-route, settled-none, built-to, slot-settled, avoided-routes}
@@ -109,7 +113,7 @@ module _ {s : Shape} {a d : ℕ} (ends : Ends s a d) (built : RouteSet) (h : bui
   all = builtRoutes s a d
 
   built-held : built ≡ setOf (map (encode s) (builtRoutes s a d))
-  built-held = h ∙ ap setOf (arrays-encode (record { source = ends .source; destination = ends .dest; differ = ends .differ }))
+  built-held = h ∙ ap setOf (arrays-encode (record { source = ends .source; destination = ends .destination; differ = ends .differ }))
 
   built-plain : Routes s [] a d (builtRoutes s a d)
   built-plain =
@@ -151,7 +155,7 @@ avoided-laid {s} {t} {u} {v} {w} {a} {d} {i} {set} {routes} ends built b h e p q
     (subst (λ (x : List (List ℕ)). Laid s v x w) (built-lower ends built b i (slot-inside (h .settled))) q)
 
 pub around-of : {s : Shape} {t v : List ℕ} {a d : ℕ} {r : Found} (routes : List (List ℕ)) → Ends s a d → Routes s [] a d routes → Laid s t routes v → Finding s v a d r → Around s t a d routes r
-unfolding findRefusal
+unfolding roomRefusal
 around-of {s} {t} {v} {a} {d} {r} routes ends h l f =
     record {
       given = λ p. let g = f .given none p in
@@ -159,7 +163,7 @@ around-of {s} {t} {v} {a} {d} {r} routes ends h l f =
       none = λ p vs k m. f .none none p .1 vs (laid-from routes l h k m);
     }
   where
-    none : findRefusal s v a d ≡ 0
+    none : roomRefusal s v a d ≡ 0
     none = sym (chain-goes 0 (endsRefusal s a d) (tableRefusal s v) 0 (ends-none ends) refl (table-none (l .table)))
 
 -- ---- a built route, walked over the table
@@ -215,12 +219,12 @@ going-start s t a d set e =
     subst (λ (m : ℕ). GoingOn s t a d m set) (sym (add-one (s .k)))
     (record { routes = []; stands = record { held = e ∙ none-held s; settled = settled-none s t a d }; onward = λ x c. c })
 
-pub going-slotted : {s : Shape} {t : List ℕ} {a d m : ℕ} {set : RouteSet} (built : RouteSet) → selectRefusal s t a d ≡ 0 → built ≡ setOf (builtArrays s a d) → 0 < m → GoingOn s t a d m set → Slotted s t a d (m - 1) built set
+pub going-slotted : {s : Shape} {t : List ℕ} {a d m : ℕ} {set : RouteSet} (built : RouteSet) → roomRefusal s t a d ≡ 0 → built ≡ setOf (builtArrays s a d) → 0 < m → GoingOn s t a d m set → Slotted s t a d (m - 1) built set
 going-slotted {s} {t} {a} {d} {m} {set} built e b p g =
     let q : m ≡ suc (m - 1) = omega arith in
     record { refusal = e; built-routes = b; routes = g .routes; stands = subst (λ (j : ℕ). Stands s t a d j set (g .routes)) q (g .stands) }
 
-pub going-more : {s : Shape} {t : List ℕ} {a d m : ℕ} {set next : RouteSet} → selectRefusal s t a d ≡ 0 → 0 < m → GoingOn s t a d m set → ((routes : List (List ℕ)) → Stands s t a d (suc (m - 1)) set routes → SlotDone s t a d (m - 1) routes next) → GoingOn s t a d (m - 1) next
+pub going-more : {s : Shape} {t : List ℕ} {a d m : ℕ} {set next : RouteSet} → roomRefusal s t a d ≡ 0 → 0 < m → GoingOn s t a d m set → ((routes : List (List ℕ)) → Stands s t a d (suc (m - 1)) set routes → SlotDone s t a d (m - 1) routes next) → GoingOn s t a d (m - 1) next
 going-more {s} {t} {a} {d} {m} {set} {next} e p g f =
     let q : m ≡ suc (m - 1) = omega arith in
     let st = subst (λ (j : ℕ). Stands s t a d j set (g .routes)) q (g .stands) in
@@ -289,12 +293,12 @@ module _ {s : Shape} {t : List ℕ} {a d i : ℕ} {built settled : RouteSet} (p 
 
 -- ---- the answer
 
-pub built-answered : (s : Shape) (t : List ℕ) (a d r : ℕ) (x : Building) → r ≡ selectRefusal s t a d → r ≡ 0 → x ≡ buildAnswer s a d → x .routes ≡ setOf (builtArrays s a d)
+pub built-answered : (s : Shape) (t : List ℕ) (a d r : ℕ) (x : Building) → r ≡ roomRefusal s t a d → r ≡ 0 → x ≡ buildAnswer s a d → x .routes ≡ setOf (builtArrays s a d)
 unfolding buildAnswer
 built-answered s t a d r x e z q =
     ap (λ (y : Building). y .routes) (q ∙ answer-none (endsRefusal s a d) noBuilding (aBuilding (setOf (builtArrays s a d))) (ends-none (select-ends s t a d (sym e ∙ z))))
 
-module _ {s : Shape} {t : List ℕ} {a d : ℕ} (r : ℕ) (e : r ≡ selectRefusal s t a d) where
+module _ {s : Shape} {t : List ℕ} {a d : ℕ} (r : ℕ) (e : r ≡ roomRefusal s t a d) where
   pub selecting-refused : (r ≡ 0 → ⊥) → (x : Selection) → x ≡ noSelection r → Selecting s t a d x
   selecting-refused n x q = record { refused = λ m. q ∙ ap noSelection e; given = λ z. absurd (n (e ∙ z)) }
 

@@ -2,9 +2,10 @@
 use Prim.Native.Nat.{ℕ, _<_}
 use mathlib.Core.List.{List, [], _++_, map}
 use lib.ListN.{length, getD}
+use Rattle.lists.specs.Lists.{downFrom}
 use Rattle.room.specs.declared.Shape.{Shape}
 use Rattle.path.specs.Routes.{Parallel}
-use Rattle.build.specs.Built.{downFrom, builtRoute}
+use Rattle.build.specs.Built.{builtRoute}
 
 -- what slot i avoids: the routes settled so far, and the built routes of the lower slots
 unfoldable pub avoided : Shape → ℕ → ℕ → ℕ → List (List ℕ) → List (List ℕ)

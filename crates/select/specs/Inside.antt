@@ -4,10 +4,10 @@ use mathlib.Core.Path.{_≡_}
 use mathlib.Core.List.{List, [], _∷_, _++_, map}
 use mathlib.Core.Bool.{Bool, false, _||_}
 use lib.ListN.{length, getD, take}
+use Rattle.lists.specs.Lists.{isIn, middle}
 use Rattle.room.specs.declared.Shape.{Shape}
 use Rattle.room.specs.Shapes.{Link}
-use Rattle.links.specs.Table.{failed, TableOf}
-use Rattle.path.specs.Lists.{isIn, middle}
+use Rattle.links.specs.Table.{failed, TableOf, roomRefusal}
 use Rattle.path.specs.Routes.{switchAt, switchesOf, encode, RouteTo, Parallel}
 use Rattle.path.specs.Answers.{readAnswer}
 use Rattle.build.specs.declared.RouteSet.{RouteSet}
@@ -15,7 +15,7 @@ use Rattle.build.specs.Built.{builtRoute, builtArrays}
 use Rattle.build.specs.Sets.{arrayAt, setOf}
 use Rattle.finder.specs.declared.Found.{Found}
 use Rattle.select.specs.Avoided.{Avoids}
-use Rattle.select.specs.Selection.{Replaces, Slot, Selects, selectRefusal}
+use Rattle.select.specs.Selection.{Replaces, Slot, Selects}
 
 -- ---- links marked in a copy of the failed-link table, to keep the search away from routes
 
@@ -66,7 +66,7 @@ pub record Stands (s : Shape) (t : List ℕ) (a d i : ℕ) (set : RouteSet) (rou
 
 -- what slot i is given
 pub record Slotted (s : Shape) (t : List ℕ) (a d i : ℕ) (built settled : RouteSet) : Type 0 where
-  pub refusal : selectRefusal s t a d ≡ 0
+  pub refusal : roomRefusal s t a d ≡ 0
   pub built-routes : built ≡ setOf (builtArrays s a d)
   pub routes : List (List ℕ)
   pub stands : Stands s t a d (suc i) settled routes

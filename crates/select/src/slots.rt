@@ -2,9 +2,9 @@
 ghost use mathlib.Core.Path.{_≡_};
 ghost use mathlib.Core.List.{List};
 ghost use Prim.Native.Nat.{ℕ, suc};
+ghost use Rattle.links.specs.Table.{roomRefusal};
 ghost use Rattle.build.specs.Built.{builtArrays};
 ghost use Rattle.build.specs.Sets.{setOf};
-ghost use Rattle.select.specs.Selection.{selectRefusal};
 ghost use Rattle.select.specs.Inside.{Stands, Slotted, SlotDone, SlotsDone};
 use crate::alternates::alternate;
 use crate::laying::array_at;
@@ -45,7 +45,7 @@ pub(crate) fn settle_slots(
     destination: usize,
     built: RouteSet,
 ) -> RouteSet
-    requires { ⌜ (selectRefusal shape (now table) source destination ≡ 0) × (built ≡ setOf (builtArrays shape source destination)) ⌝ }
+    requires { ⌜ (roomRefusal shape (now table) source destination ≡ 0) × (built ≡ setOf (builtArrays shape source destination)) ⌝ }
     ensures { λ r. ⌜ SlotsDone shape (now (table .entry)) source destination r ⌝ }
 {
     let mut settled = RouteSet::new();
