@@ -6,10 +6,11 @@ use mathlib.Core.Bool.{Bool, true, false, cond}
 use mathlib.Core.List.{List, [], _∷_}
 use native.Mathlib.Omega.{arith}
 use lib.Dec.{lit<}
-use Rattle.room.specs.declared.Refusal.{Refusal}
+use Rattle.refusals.specs.declared.Refusal.{Refusal}
+use Rattle.refusals.specs.Refusals.{answer}
 use Rattle.room.specs.Refusals.{shapeRefusal}
-use Rattle.room.specs.Answers.{answer, betweenAnswer}
-use Rattle.links.specs.Answers.{failedAnswer, linkAnswer, markedTable, clearedTable}
+use Rattle.room.specs.Answers.{betweenAnswer}
+use Rattle.links.specs.Answers.{failedAnswer, linkAnswer, changedTable}
 use Rattle.step.proofs.PackLaws.{step-unpacks}
 use Rattle.driver.specs.Words.{word, refusalIn, valueIn, Small, betweenWord, askedWord}
 use Rattle.driver.proofs.WordLaws.{refusal-back, value-back, plain-small, left-lent}
@@ -70,7 +71,7 @@ kept zero t u n = absurd (n refl)
 kept (suc q) t u n = refl
 
 pub every-buffer : EveryBuffer
-unfolding linkAnswer markedTable clearedTable
+unfolding linkAnswer changedTable
 every-buffer =
     record {
       marked = λ s t a l n. kept _ t _ n;

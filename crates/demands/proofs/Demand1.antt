@@ -8,27 +8,28 @@ use native.Mathlib.Decide.{ℕ-discrete}
 use lib.Dec.{ltb, leb, eqb}
 use lib.ListN.{length, getD, length-map}
 use borrow.Author.Tests.{eqb-true, not-true}
+use Rattle.lists.proofs.ListLaws.{both-held}
+use Rattle.lists.specs.Lists.{isIn}
+use Rattle.refusals.specs.declared.Refusal.{Refusal}
+use Rattle.refusals.specs.Refusals.{none, plain, refusedAt, _unless_, answer}
+use Rattle.refusals.proofs.ChainLaws.{or-else-zero, test-held}
 use Rattle.room.specs.declared.Shape.{Shape}
-use Rattle.room.specs.declared.Refusal.{Refusal}
-use Rattle.room.specs.Refusals.{none, plain, refusedAt, _unless_}
 use Rattle.room.specs.Addresses.{differing}
-use Rattle.room.specs.Answers.{answer, onlyLevel, serversAnswer, boundAnswer, digitsAnswer, digitAnswer, addressAnswer, switchAnswer, neighbourAnswer, betweenAnswer}
-use Rattle.room.proofs.RefusalLaws.{or-else-zero, test-held, both-held}
-use Rattle.links.specs.Table.{tableRefusal}
+use Rattle.room.specs.Answers.{onlyLevel, serversAnswer, boundAnswer, digitsAnswer, digitAnswer, addressAnswer, switchAnswer, neighbourAnswer, betweenAnswer}
+use Rattle.room.specs.Refusals.{endsRefusal}
+use Rattle.links.specs.Table.{tableRefusal, roomRefusal}
 use Rattle.links.specs.Answers.{failedAnswer, linkAnswer}
-use Rattle.path.specs.Lists.{isIn}
 use Rattle.path.specs.Routes.{encode}
 use Rattle.path.specs.Walks.{Walk, stopped, arrived, walk, hopTo}
-use Rattle.path.specs.Answers.{noHop, aHop, hopAnswer, walked, walkAnswer, reading, readAnswer, noWriting, aWriting, reversed, reverseAnswer, written, onTheWay, writeAnswer, endsRefusal}
+use Rattle.path.specs.Answers.{noHop, aHop, hopAnswer, walked, walkAnswer, reading, readAnswer, noWriting, aWriting, reversed, reverseAnswer, written, onTheWay, writeAnswer}
 use Rattle.path.proofs.CodecLaws.{array-of, listed-of}
-use Rattle.verdict.specs.Checks.{arrays, firstStop, firstPair, roomRefusal, listRefusal, walksOf, checkAnswer}
+use Rattle.verdict.specs.Checks.{arrays, firstStop, firstPair, listRefusal, walksOf, checkAnswer}
 use Rattle.build.specs.Answers.{buildAnswer}
-use Rattle.laying.specs.Answers as laying
 use Rattle.laying.specs.Answers.{layRefusal}
 use Rattle.finder.specs.declared.Found.{Found}
-use Rattle.finder.specs.Answers.{findRefusal, Finding}
+use Rattle.finder.specs.Answers.{Finding}
 use Rattle.select.specs.declared.Selection.{Selection}
-use Rattle.select.specs.Selection.{selectRefusal, selection, Selecting}
+use Rattle.select.specs.Selection.{selection, Selecting}
 use Rattle.pick.specs.Picks.{Source, inFresh, inKept, nowhere, found, fits, listsRefusal, pickSource, missing, pickRefusal, pickAnswer}
 use Rattle.pick.specs.Places.{placeOf, placeAnswer}
 use Rattle.pick.proofs.Promises.{empty-exactly}
@@ -171,16 +172,16 @@ module _ (s : Shape) where
       bare-refuses (λ x. x) (λ r. r) (λ r. refl) m _ _ (one-of refl (k .0)) (k .1))
 
   lay-route : (t : List ℕ) (a d : ℕ) (bs : List ℕ) → RefusalOf 1 (1 ∷ 2 ∷ 3 ∷ 4 ∷ 5 ∷ 6 ∷ 7 ∷ 8 ∷ 9 ∷ 10 ∷ 12 ∷ 13 ∷ 14 ∷ []) (layRefusal s t a d bs)
-  unfolding layRefusal laying.roomRefusal isIn
+  unfolding layRefusal roomRefusal isIn
   lay-route t a d bs =
       answer-refuses (λ x. x) (λ r. r) (λ r. refl) 1 _ _ (room-numbers s t a d) refl refl
       (λ z. let w = read-path a d bs in record { number = one-of refl (w .number); placed = w .placed; nothing-else = λ n. refl })
 
   find-route : (t : List ℕ) (a d : ℕ) (x : Found) → Finding s t a d x → FoundOf (1 ∷ 2 ∷ 3 ∷ 4 ∷ 5 ∷ 6 ∷ []) x
-  unfolding findRefusal
+  unfolding roomRefusal
   find-route t a d x f =
-      elim (ℕ-discrete (findRefusal s t a d) 0) [
-        | no n ↦ subst (FoundOf _) (sym (f .refused n)) (bare-refuses _ _ (λ r. refl) 0 _ (plain (findRefusal s t a d)) (room-numbers s t a d) (plain-placed refl (room-numbers s t a d)))
+      elim (ℕ-discrete (roomRefusal s t a d) 0) [
+        | no n ↦ subst (FoundOf _) (sym (f .refused n)) (bare-refuses _ _ (λ r. refl) 0 _ (plain (roomRefusal s t a d)) (room-numbers s t a d) (plain-placed refl (room-numbers s t a d)))
         | yes z ↦ elim (ℕ-discrete (x .hops) 0) [
           | yes o ↦ given-refuses _ _ (λ r. refl) 0 _ x (ap (λ (y : Found). y .refusal) (f .none z o .0))
           | no o ↦ given-refuses _ _ (λ r. refl) 0 _ x (ap (λ (y : Found). y .refusal) (f .given z (omega arith) .answer))
@@ -193,10 +194,10 @@ module _ (s : Shape) where
   selection-refuses (vs ∷ vss) = given-refuses _ _ (λ r. refl) 0 _ _ refl
 
   select-routes : (t : List ℕ) (a d : ℕ) (x : Selection) → Selecting s t a d x → SelectionOf (1 ∷ 2 ∷ 3 ∷ 4 ∷ 5 ∷ 6 ∷ 16 ∷ []) x
-  unfolding selectRefusal isIn
+  unfolding roomRefusal isIn
   select-routes t a d x f =
-      elim (ℕ-discrete (selectRefusal s t a d) 0) [
-        | no n ↦ subst (SelectionOf _) (sym (f .refused n)) (bare-refuses _ _ (λ r. refl) 0 _ (plain (selectRefusal s t a d)) (one-of refl (room-numbers s t a d)) (plain-placed refl (room-numbers s t a d)))
+      elim (ℕ-discrete (roomRefusal s t a d) 0) [
+        | no n ↦ subst (SelectionOf _) (sym (f .refused n)) (bare-refuses _ _ (λ r. refl) 0 _ (plain (roomRefusal s t a d)) (one-of refl (room-numbers s t a d)) (plain-placed refl (room-numbers s t a d)))
         | yes z ↦ subst (SelectionOf _) (sym (f .given z .answer)) (selection-refuses (f .given z .routes))
       ]
 

@@ -1,5 +1,5 @@
 -- Demand 2, proved.
-use Prim.Native.Nat.{ℕ, suc, _*_, _/_, _%_, _^_}
+use Prim.Native.Nat.{ℕ, suc, _*_, _^_}
 use mathlib.Core.Path.{_≡_, refl, sym, ap, subst, _∙_}
 use mathlib.Core.Bool.{Bool, true, false, cond}
 use mathlib.Core.List.{List, [], _∷_, _++_, reverse}
@@ -8,23 +8,24 @@ use native.Mathlib.Nat.{pow-suc, pow-zero, mul-zero, mul-add, mul-assoc, mul-com
 use lib.Dec.{eqb}
 use lib.ListN.{length, getD, take}
 use borrow.Author.Tests.{eq-eqb, ne-eqb}
+use Rattle.lists.specs.Lists.{filled}
+use Rattle.lists.proofs.ListLaws.{take-filled}
+use Rattle.refusals.specs.Refusals.{none}
+use Rattle.refusals.proofs.AnswerLaws.{answered}
 use Rattle.room.specs.declared.Shape.{Shape}
-use Rattle.room.specs.Shapes.{Server}
+use Rattle.room.specs.Shapes.{Server, Ends}
 use Rattle.room.specs.Digits.{addressOf}
 use Rattle.room.specs.Addresses.{digits, digit}
-use Rattle.room.specs.Refusals.{none}
-use Rattle.room.proofs.RefusalLaws.{answered}
 use Rattle.room.proofs.RoomLaws as rooms
+use Rattle.room.proofs.RefusalLaws.{ends-of}
 use Rattle.links.specs.Answers.{linkAnswer}
 use Rattle.links.proofs.TableLaws as tables
-use Rattle.links.proofs.AnswerLaws.{marked-answered, cleared-answered, mark-again, clear-again}
+use Rattle.links.proofs.AnswerLaws.{changed-answered, change-again}
+use Rattle.path.specs.Routes.{levelOf, valueOf}
 use Rattle.path.specs.declared.Reading.{Reading}
-use Rattle.path.specs.Lists.{filled}
 use Rattle.path.specs.Walks.{hopTo, hopRefusal}
-use Rattle.path.proofs.ListLaws.{take-filled}
 use Rattle.path.proofs.HopLaws.{hop-exactly, hop-server, hop-neighbours}
 use Rattle.path.proofs.CodecLaws as codec
-use Rattle.path.proofs.CodecLaws.{Ends, ends-of}
 use Rattle.build.specs.Built.{builtRoute, builtHops}
 use Rattle.build.proofs.BuiltLaws as built
 use Rattle.select.specs.Selection.{Slot, kept, replaced, nothing}
@@ -69,15 +70,15 @@ pub built-exactly : BuiltExactly
 built-exactly s a d i e p =
     let h = ends-of s a d e in
     record {
-      route = built.built-route s a d (h .source) (h .dest) (h .differ) i p;
-      bytes = built.built-encode s a d (h .source) (h .dest) (h .differ) i p;
-      direct = λ q. omega (arith, long h, built.built-direct s a d (h .source) (h .dest) (h .differ) i p q);
-      detour = λ q. omega (arith, long h, built.built-detour s a d (h .source) (h .dest) (h .differ) i p q);
-      short = omega (arith, long h, built.built-short s a d (h .source) (h .dest) (h .differ) i p);
+      route = built.built-route s a d (h .source) (h .destination) (h .differ) i p;
+      bytes = built.built-encode s a d (h .source) (h .destination) (h .differ) i p;
+      direct = λ q. omega (arith, long h, built.built-direct s a d (h .source) (h .destination) (h .differ) i p q);
+      detour = λ q. omega (arith, long h, built.built-detour s a d (h .source) (h .destination) (h .differ) i p q);
+      short = omega (arith, long h, built.built-short s a d (h .source) (h .destination) (h .differ) i p);
     }
   where
     long : Ends s a d → length (builtRoute s i a d) ≡ suc (length (builtHops s i a d))
-    long h = built.route-long s a d (h .source) (h .dest) (h .differ) i p
+    long h = built.route-long s a d (h .source) (h .destination) (h .differ) i p
 
 -- ---- servers to bytes and bytes to servers
 
@@ -172,32 +173,32 @@ pub marking : Marking
 unfolding linkAnswer
 marking s t a l z =
     let p = tables.table-link-of s t a l z in
-    let e = marked-answered (p .0) (p .1) in (
+    let e = changed-answered true (p .0) (p .1) in (
       subst (Changes s t a l true) (sym e)
           (record {
-            own = tables.marked-own a l t (omega (arith, p .0 .server .below, p .1 .long));
-            other = λ b m q. tables.marked-other a l b m t q;
-            bytes = λ b q. tables.marked-byte a l b t q;
-            long = tables.marked-long a l t;
-            table = tables.marked-table (p .1) a l (p .0 .level);
+            own = tables.changed-own true a l t (omega (arith, p .0 .server .below, p .1 .long));
+            other = λ b m q. tables.changed-other true a l b m t q;
+            bytes = λ b q. tables.changed-byte true a l b t q;
+            long = tables.changed-long true a l t;
+            table = tables.changed-table true (p .1) a l (p .0 .level);
           }),
-      mark-again s t a l,
+      change-again true true s t a l,
     )
 
 pub clearing : Clearing
 unfolding linkAnswer
 clearing s t a l z =
     let p = tables.table-link-of s t a l z in
-    let e = cleared-answered (p .0) (p .1) in (
+    let e = changed-answered false (p .0) (p .1) in (
       subst (Changes s t a l false) (sym e)
           (record {
-            own = tables.cleared-own a l t (omega (arith, p .0 .server .below, p .1 .long));
-            other = λ b m q. tables.cleared-other a l b m t q;
-            bytes = λ b q. tables.cleared-byte a l b t q;
-            long = tables.cleared-long a l t;
-            table = tables.cleared-table (p .1) a l;
+            own = tables.changed-own false a l t (omega (arith, p .0 .server .below, p .1 .long));
+            other = λ b m q. tables.changed-other false a l b m t q;
+            bytes = λ b q. tables.changed-byte false a l b t q;
+            long = tables.changed-long false a l t;
+            table = tables.changed-table false (p .1) a l (p .0 .level);
           }),
-      clear-again s t a l,
+      change-again false false s t a l,
     )
 
 -- ---- one forwarding step
@@ -207,7 +208,7 @@ unfolding stepAnswer
 step-answered s a d i bs e z =
     answered (λ (x : Step). x .refusal .number) (λ r. noStep (placed i r)) (λ r. placed-number i r) (stepRefusal s a d i bs e) (stepAnswer s a d i bs e) _ refl z
 
-hop-digit : {s : Shape} {a : ℕ} → Server s a → (b : ℕ) → hopRefusal s a b ≡ 0 → digit s (b / 64) (hopTo s a b) ≡ b % 64
+hop-digit : {s : Shape} {a : ℕ} → Server s a → (b : ℕ) → hopRefusal s a b ≡ 0 → digit s (levelOf b) (hopTo s a b) ≡ valueOf b
 unfolding hopTo
 hop-digit h b t = rooms.with-same (hop-exactly h b .0 t .0)
 

@@ -6,23 +6,27 @@ use native.Mathlib.Omega.{arith}
 use native.Mathlib.Nat.{le-of-suc-le-suc, le-refl, zero-add, suc-add}
 use lib.ListN.{length, getD, take, drop, replicate, length-append}
 use lib.Seq.{take-at}
+use Rattle.lists.specs.Lists.{filled, downFrom}
+use Rattle.lists.proofs.ListLaws.{take-filled}
+use Rattle.refusals.specs.declared.Refusal.{Refusal}
+use Rattle.refusals.specs.Refusals.{none, plain}
+use Rattle.refusals.proofs.ChainLaws.{chain-goes, or-else-zero}
+use Rattle.refusals.proofs.AnswerLaws.{answered}
 use Rattle.room.specs.declared.Shape.{Shape}
-use Rattle.room.specs.declared.Refusal.{Refusal}
-use Rattle.room.specs.Refusals.{none, plain}
-use Rattle.room.proofs.RefusalLaws.{chain-goes, or-else-zero, answered}
-use Rattle.links.specs.Table.{live, tableRefusal}
+use Rattle.room.specs.Refusals.{endsRefusal}
+use Rattle.room.specs.Shapes.{Ends}
+use Rattle.room.proofs.RefusalLaws.{ends-of, ends-none}
+use Rattle.links.specs.Table.{live, tableRefusal, roomRefusal}
 use Rattle.path.specs.declared.Reading.{Reading}
-use Rattle.path.specs.Lists.{filled}
 use Rattle.path.specs.Routes.{RouteTo, Parallel, Encodes, encode}
-use Rattle.path.specs.Answers.{endsRefusal, readAnswer}
-use Rattle.path.proofs.ListLaws.{take-filled}
+use Rattle.path.specs.Answers.{readAnswer}
 use Rattle.path.proofs.ReverseLaws.{source-server, dest-server, ends-differ, route-to-plain}
-use Rattle.path.proofs.CodecLaws.{Ends, ends-of, ends-none, encode-long, read-given}
-use Rattle.verdict.specs.Checks.{roomRefusal, listRefusal, checkAnswer}
+use Rattle.path.proofs.CodecLaws.{encode-long, read-given}
+use Rattle.verdict.specs.Checks.{listRefusal, checkAnswer}
 use Rattle.verdict.specs.Accepted.{encodeAll, Accepted}
 use Rattle.verdict.proofs.AcceptLaws.{accepted-of, of-accepted, encoded-long}
 use Rattle.build.specs.declared.Building.{Building}
-use Rattle.build.specs.Built.{downFrom, builtRoute, builtBytes, builtArrays}
+use Rattle.build.specs.Built.{builtRoute, builtBytes, builtArrays}
 use Rattle.build.specs.Sets.{joined, setOf, held}
 use Rattle.build.specs.Answers.{buildAnswer, noBuilding, aBuilding}
 use Rattle.build.proofs.ArrayLaws.{arrays-count}
@@ -44,7 +48,7 @@ accepted-room : (s : Shape) (t : List ℕ) (a d : ℕ) (bs : List ℕ) → table
 unfolding roomRefusal
 accepted-room s t a d bs e h =
     let r = h .each 0 (h .some) in
-    sym (chain-goes _ _ _ _ (ends-none (record { source = source-server r; dest = dest-server r; differ = ends-differ r })) refl (sym e))
+    sym (chain-goes _ _ _ _ (ends-none (record { source = source-server r; destination = dest-server r; differ = ends-differ r })) refl (sym e))
 
 pub accepted-exactly : AcceptedExactly
 accepted-exactly s t a d bs = (
@@ -90,7 +94,7 @@ joined-encoded s a d (suc m) h =
 
 pub built-list : (s : Shape) (t : List ℕ) (a d : ℕ) → Ends s a d → Healthy s t → Accepted s t a d (joined (builtArrays s a d))
 unfolding builtArrays
-built-list s t a d e h = record { routes = R; some = omega (arith, R-long); most = omega (arith, R-long); bytes = joined-encoded s a d (suc (s .k)) (λ i p. built-encode s a d (e .source) (e .dest) (e .differ) i (le-of-suc-le-suc p)); each = each; apart = apart }
+built-list s t a d e h = record { routes = R; some = omega (arith, R-long); most = omega (arith, R-long); bytes = joined-encoded s a d (suc (s .k)) (λ i p. built-encode s a d (e .source) (e .destination) (e .differ) i (le-of-suc-le-suc p)); each = each; apart = apart }
   where
     R : List (List ℕ)
     R = map (λ i. builtRoute s i a d) (downFrom (suc (s .k)))
@@ -102,12 +106,12 @@ built-list s t a d e h = record { routes = R; some = omega (arith, R-long); most
     R-at i p = slot-at (λ i. builtRoute s i a d) (suc (s .k)) i [] (omega (arith, R-long))
 
     each : (i : ℕ) → i < length R → RouteTo s t a d (getD R i [])
-    each i p = rw (R-at i p) (healthy-route h (built-route s a d (e .source) (e .dest) (e .differ) (suc (s .k) - suc i) (omega arith)))
+    each i p = rw (R-at i p) (healthy-route h (built-route s a d (e .source) (e .destination) (e .differ) (suc (s .k) - suc i) (omega arith)))
 
     apart : (i j : ℕ) → i < j → j < length R → Parallel s (getD R i []) (getD R j [])
     apart i j p q =
         rw (R-at i (omega arith), R-at j q)
-        (built-parallel s a d (e .source) (e .dest) (e .differ) (suc (s .k) - suc i) (suc (s .k) - suc j) (omega arith) (omega arith) (λ z. omega (arith, R-long)))
+        (built-parallel s a d (e .source) (e .destination) (e .differ) (suc (s .k) - suc i) (suc (s .k) - suc j) (omega arith) (omega arith) (λ z. omega (arith, R-long)))
 
 -- the list of the arrays that building puts into a set
 joined-long : (s : Shape) (a d m : ℕ) → ((i : ℕ) → i < m → length (builtBytes s i a d) ≡ 8) → length (joined (map (λ i. builtBytes s i a d) (downFrom m))) ≡ 8 * m
@@ -126,8 +130,8 @@ built-held s a d e =
     long : (i : ℕ) → i < suc (s .k) → length (builtBytes s i a d) ≡ 8
     long i p =
         let q = le-of-suc-le-suc p in
-        sym (ap length (built-encode s a d (e .source) (e .dest) (e .differ) i q))
-        ∙ encode-long s (builtRoute s i a d) (built-route s a d (e .source) (e .dest) (e .differ) i q .route .few)
+        sym (ap length (built-encode s a d (e .source) (e .destination) (e .differ) i q))
+        ∙ encode-long s (builtRoute s i a d) (built-route s a d (e .source) (e .destination) (e .differ) i q .route .few)
 
 pub built-accepted : BuiltAccepted
 unfolding roomRefusal buildAnswer setOf

@@ -9,36 +9,39 @@ use native.Mathlib.Decide.{decLt, ℕ-discrete}
 use lib.Dec.{leb, eqb}
 use lib.ListN.{length, getD}
 use borrow.Author.Tests.{le-leb, lt-leb, leb-true, leb-false, eq-eqb, eqb-true}
+use Rattle.lists.proofs.ListLaws.{both-held}
+use Rattle.refusals.specs.declared.Refusal.{Refusal}
+use Rattle.refusals.specs.Refusals.{none, plain, _or-else_, _unless_, answer}
+use Rattle.refusals.proofs.ChainLaws.{or-else-zero, chain-goes, test-held}
 use Rattle.room.specs.declared.Shape.{Shape}
-use Rattle.room.specs.declared.Refusal.{Refusal}
 use Rattle.room.specs.declared.Number.{Number}
 use Rattle.room.specs.declared.Digits.{Digits}
 use Rattle.room.specs.declared.Switch.{Switch}
 use Rattle.room.specs.declared.Between.{Between}
 use Rattle.room.specs.Shapes.{serversOf, bound, Server}
 use Rattle.room.specs.Addresses.{differing}
-use Rattle.room.specs.Refusals.{none, plain, shapeRefusal, levelRefusal, serverRefusal, pairRefusal, linkRefusal, valueRefusal, placeBound, placesRefusal, _or-else_, _unless_}
-use Rattle.room.specs.Answers.{answer, noNumber, noDigits, noSwitch, noBetween, onlyLevel, serversAnswer, boundAnswer, digitsAnswer, digitAnswer, addressAnswer, switchAnswer, neighbourAnswer, betweenAnswer}
-use Rattle.room.proofs.RefusalLaws.{or-else-zero, chain-goes, test-held, both-held, valid-of, valid-none, level-of, level-none, server-of, server-none, pair-of, pair-none, link-of, link-none, value-of, value-none, Places, places-of, places-none}
+use Rattle.room.specs.Refusals.{shapeRefusal, levelRefusal, serverRefusal, pairRefusal, linkRefusal, valueRefusal, placeBound, placesRefusal, endsRefusal}
+use Rattle.room.specs.Answers.{noNumber, noDigits, noSwitch, noBetween, onlyLevel, serversAnswer, boundAnswer, digitsAnswer, digitAnswer, addressAnswer, switchAnswer, neighbourAnswer, betweenAnswer}
+use Rattle.room.proofs.RefusalLaws.{valid-of, valid-none, level-of, level-none, server-of, server-none, pair-of, pair-none, link-of, link-none, value-of, value-none, Places, places-of, places-none, ends-of, ends-none}
 use Rattle.links.specs.declared.Asked.{Asked}
-use Rattle.links.specs.Table.{tableRefusal, tableLinkRefusal, TableOf}
+use Rattle.links.specs.Table.{tableRefusal, tableLinkRefusal, TableOf, roomRefusal}
 use Rattle.links.specs.Answers.{notAsked, failedAnswer, linkAnswer}
 use Rattle.links.proofs.TableLaws.{table-of, table-none, room-table-of, room-table-none, table-link-of, table-link-none}
 use Rattle.path.specs.declared.Hop.{Hop}
 use Rattle.path.specs.Routes.{RouteTo}
 use Rattle.path.specs.Walks.{hopRefusal}
-use Rattle.path.specs.Answers.{noHop, hopAnswer, endsRefusal}
+use Rattle.path.specs.Answers.{noHop, hopAnswer}
 use Rattle.path.proofs.HopLaws.{hop-exactly}
-use Rattle.path.proofs.CodecLaws.{ends-of, ends-none, walk-exactly, read-exactly, reverse-exactly, write-exactly}
-use Rattle.verdict.specs.Checks.{roomRefusal, checkAnswer}
+use Rattle.path.proofs.CodecLaws.{walk-exactly, read-exactly, reverse-exactly, write-exactly}
+use Rattle.verdict.specs.Checks.{checkAnswer}
 use Rattle.verdict.specs.Accepted.{Accepted}
 use Rattle.build.specs.declared.Building.{Building}
 use Rattle.build.specs.Answers.{noBuilding, buildAnswer}
 use Rattle.laying.proofs.LayLaws.{lay-exactly}
 use Rattle.finder.specs.declared.Found.{Found}
-use Rattle.finder.specs.Answers.{findRefusal, Finding}
+use Rattle.finder.specs.Answers.{Finding}
 use Rattle.select.specs.declared.Selection.{Selection}
-use Rattle.select.specs.Selection.{selectRefusal, selection, Selecting}
+use Rattle.select.specs.Selection.{selection, Selecting}
 use Rattle.select.proofs.SlotLaws.{member-at}
 use Rattle.select.proofs.SelectLaws.{gives, none-selected-exactly}
 use Rattle.pick.specs.Picks.{Source, inFresh, inKept, nowhere, found, fits, listsRefusal, missing, pickRefusal, pickAnswer}
@@ -160,10 +163,10 @@ only-none (l ∷ []) = refl
 only-none (l ∷ m ∷ ls) = refl
 
 two-of : (s : Shape) (a d : ℕ) → endsRefusal s a d ≡ 0 → TwoServers s a d
-two-of s a d e = let h = ends-of s a d e in (h .source, h .dest, h .differ)
+two-of s a d e = let h = ends-of s a d e in (h .source, h .destination, h .differ)
 
 two-none : {s : Shape} {a d : ℕ} → TwoServers s a d → 0 ≡ endsRefusal s a d
-two-none p = ends-none (record { source = p .0; dest = p .1; differ = p .2 })
+two-none p = ends-none (record { source = p .0; destination = p .1; differ = p .2 })
 
 room-of : (s : Shape) (t : List ℕ) (a d : ℕ) → endsRefusal s a d or-else tableRefusal s t ≡ 0 → TwoServers s a d × TableOf s t
 room-of s t a d e = let z = or-else-zero (endsRefusal s a d) (tableRefusal s t) e in (two-of s a d (z .0), table-of s t (z .1))
@@ -179,42 +182,42 @@ hop-of s a b =
     (λ p. chain-goes _ _ _ _ (server-none (p .0)) refl (sym (hop-exactly (p .0) b .1 (p .1))))
 
 find-route : (s : Shape) (t : List ℕ) (a d : ℕ) (x : Found) → Finding s t a d x → (x .refusal .number ≡ 0) ↔ (TwoServers s a d × TableOf s t)
-unfolding findRefusal
+unfolding roomRefusal
 find-route s t a d x f = (there, back)
   where
     there : x .refusal .number ≡ 0 → TwoServers s a d × TableOf s t
     there e =
-        elim (ℕ-discrete (findRefusal s t a d) 0) [
+        elim (ℕ-discrete (roomRefusal s t a d) 0) [
           | yes z ↦ room-of s t a d z
           | no n ↦ absurd (n (sym (ap (λ (y : Found). y .refusal .number) (f .refused n)) ∙ e))
         ]
 
     back : TwoServers s a d × TableOf s t → x .refusal .number ≡ 0
     back p =
-        let z : findRefusal s t a d ≡ 0 = sym (room-none (p .0) (p .1)) in
+        let z : roomRefusal s t a d ≡ 0 = sym (room-none (p .0) (p .1)) in
         elim (ℕ-discrete (x .hops) 0) [
           | yes o ↦ ap (λ (y : Found). y .refusal .number) (f .none z o .0)
           | no o ↦ ap (λ (y : Found). y .refusal .number) (f .given z (omega arith) .answer)
         ]
 
 select-routes : (s : Shape) (t : List ℕ) (a d : ℕ) (x : Selection) → Selecting s t a d x → (x .refusal .number ≡ 0) ↔ (TwoServers s a d × TableOf s t × ((vs : List ℕ) × RouteTo s t a d vs))
-unfolding selectRefusal
+unfolding roomRefusal
 select-routes s t a d x f = (there, back)
   where
     there : x .refusal .number ≡ 0 → TwoServers s a d × TableOf s t × ((vs : List ℕ) × RouteTo s t a d vs)
     there e =
-        elim (ℕ-discrete (selectRefusal s t a d) 0) [
+        elim (ℕ-discrete (roomRefusal s t a d) 0) [
           | yes z ↦ let p = room-of s t a d z in let g = gives f e in (p .0, p .1, (getD (g .routes) 0 [], g .settled .each (getD (g .routes) 0 []) (member-at (g .routes) 0 (g .some))))
           | no n ↦ absurd (n (sym (ap (λ (y : Selection). y .refusal .number) (f .refused n)) ∙ e))
         ]
 
-    sorted : (z : selectRefusal s t a d ≡ 0) (vss : List (List ℕ)) → x ≡ selection s vss → (vs : List ℕ) → RouteTo s t a d vs → x .refusal .number ≡ 0
+    sorted : (z : roomRefusal s t a d ≡ 0) (vss : List (List ℕ)) → x ≡ selection s vss → (vs : List ℕ) → RouteTo s t a d vs → x .refusal .number ≡ 0
     sorted z [] e vs v = absurd (none-selected-exactly s t a d x z f .0 (ap (λ (y : Selection). y .refusal .number) e) vs v)
     sorted z (us ∷ vss) e vs v = ap (λ (y : Selection). y .refusal .number) e
 
     back : TwoServers s a d × TableOf s t × ((vs : List ℕ) × RouteTo s t a d vs) → x .refusal .number ≡ 0
     back p =
-        let z : selectRefusal s t a d ≡ 0 = sym (room-none (p .0) (p .1)) in
+        let z : roomRefusal s t a d ≡ 0 = sym (room-none (p .0) (p .1)) in
         let c = f .given z in
         sorted z (c .routes) (c .answer) (p .2 .0) (p .2 .1)
 

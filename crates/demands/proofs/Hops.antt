@@ -1,5 +1,5 @@
 -- The hop where a refusal of an array arises, where one never arrives, and where the writer refuses, proved.
-use Prim.Native.Nat.{ℕ, zero, suc, _+_, _-_, _/_, _≤_, _<_, suc-le-suc, zero-le}
+use Prim.Native.Nat.{ℕ, zero, suc, _+_, _-_, _≤_, _<_, suc-le-suc, zero-le}
 use mathlib.Core.Path.{_≡_, refl, sym, ap, _∙_, subst}
 use mathlib.Core.Logic.{_≢_, ⊎-elim}
 use mathlib.Core.Bool.{Bool, cond}
@@ -10,21 +10,20 @@ use lib.Dec.{leb, eqb}
 use lib.ListN.{length, getD}
 use lib.Seq.{append-snoc}
 use borrow.Author.Tests.{leb-true, eq-eqb, ne-eqb}
+use Rattle.lists.specs.Lists.{inTurn}
+use Rattle.lists.proofs.ListLaws.{length-snoc, snoc-last, snoc-at, turn-snoc, length-turn}
+use Rattle.refusals.specs.declared.Refusal.{Refusal}
+use Rattle.refusals.specs.Refusals.{plain, refusedAt, answer}
+use Rattle.refusals.proofs.AnswerLaws.{answer-none}
 use Rattle.room.specs.declared.Shape.{Shape}
-use Rattle.room.specs.declared.Refusal.{Refusal}
-use Rattle.room.specs.Shapes.{Server}
-use Rattle.room.specs.Refusals.{plain, refusedAt}
-use Rattle.room.specs.Answers.{answer}
-use Rattle.room.proofs.RefusalLaws.{answer-none}
+use Rattle.room.specs.Shapes.{Server, Ends}
 use Rattle.path.specs.declared.Walked.{Walked}
 use Rattle.path.specs.declared.Writing.{Writing}
-use Rattle.path.specs.Lists.{inTurn}
-use Rattle.path.specs.Routes.{switchAt, switchTo, byteTo, switchesOf, encode}
+use Rattle.path.specs.Routes.{switchAt, switchTo, byteTo, switchesOf, encode, levelOf}
 use Rattle.path.specs.Walks.{Walk, stopped, arrived, hopTo, fault, walkFrom, walk, writeFault, writeFrom}
 use Rattle.path.specs.Answers.{arrayRefusal, walked, walkAnswer, noWriting, aWriting, writeRefusal, written, onTheWay, writeAnswer}
-use Rattle.path.proofs.ListLaws.{length-snoc, snoc-last, snoc-at, turn-snoc, length-turn}
 use Rattle.path.proofs.HopLaws.{hop-byte, hop-switch}
-use Rattle.path.proofs.CodecLaws.{Ends, array-of, write-step, Servers, listed-of}
+use Rattle.path.proofs.CodecLaws.{array-of, write-step, Servers, listed-of}
 use Rattle.path.proofs.RouteLaws.{lastOf, Prefix, prefix-one, prefix-snoc, Step, switches-snoc, fault-step, walk-refused, walk-arrives, walk-goes}
 use Rattle.demands.specs.Demand1.{OneOf, nought, listed, Arises, HopPlace, NeverArrives, NoArrival, WriteArises, WritePlace}
 use Rattle.demands.proofs.Refusing.{all-at}
@@ -44,7 +43,7 @@ module _ {s : Shape} {t : List ℕ} {a d : ℕ} {bs vs : List ℕ} {x b : ℕ} {
   server : Server s x
   server = subst (Server s) (g .here) (g .way .servers (length vs - 1) (omega (arith, g .way .some)))
 
-  used : switchesOf s (vs ++ (hopTo s x b ∷ [])) ≡ switchesOf s vs ++ (switchAt s (b / 64) x ∷ [])
+  used : switchesOf s (vs ++ (hopTo s x b ∷ [])) ≡ switchesOf s vs ++ (switchAt s (levelOf b) x ∷ [])
   used =
       switches-snoc s vs (hopTo s x b) (g .way .some)
       ∙ ap (λ (z : ℕ). switchesOf s vs ++ (switchTo s z (hopTo s x b) ∷ [])) (g .here)

@@ -1,21 +1,22 @@
 -- What each chain of tests refuses, by document 01's numbers.
-use Prim.Native.Nat.{ℕ, suc, _-_, _*_, _/_, _%_}
+use Prim.Native.Nat.{ℕ, suc, _-_, _*_, _%_}
 use mathlib.Core.Path.{refl}
 use mathlib.Core.Bool.{not, _&&_}
 use mathlib.Core.List.{List, [], _∷_}
 use lib.Dec.{ltb, leb, eqb}
 use lib.ListN.{length, getD}
+use Rattle.lists.specs.Lists.{isIn}
+use Rattle.refusals.specs.Refusals.{_or-else_}
 use Rattle.room.specs.declared.Shape.{Shape}
 use Rattle.room.specs.Shapes.{serversOf, bound}
 use Rattle.room.specs.Addresses.{digit, differing}
-use Rattle.room.specs.Refusals.{shapeRefusal, levelRefusal, serverRefusal, pairRefusal, linkRefusal, valueRefusal, placesFit, placesRefusal, _or-else_}
-use Rattle.links.specs.Table.{live, bitsFit, tableRefusal, roomTableRefusal, tableLinkRefusal}
+use Rattle.room.specs.Refusals.{shapeRefusal, levelRefusal, serverRefusal, pairRefusal, linkRefusal, valueRefusal, placesFit, placesRefusal, endsRefusal}
+use Rattle.links.specs.Table.{live, bitsFit, tableRefusal, roomTableRefusal, tableLinkRefusal, roomRefusal}
 use Rattle.links.proofs.TableLaws.{live-empty}
-use Rattle.path.specs.Lists.{isIn}
-use Rattle.path.specs.Routes.{switchAt, switchTo}
+use Rattle.path.specs.Routes.{switchAt, switchTo, levelOf, valueOf}
 use Rattle.path.specs.Walks.{hopTo, hopRefusal, fault, single, writeFault}
-use Rattle.path.specs.Answers.{endsRefusal, arrayRefusal, serversRefusal, writeRefusal}
-use Rattle.verdict.specs.Checks.{roomRefusal, listRefusal}
+use Rattle.path.specs.Answers.{arrayRefusal, serversRefusal, writeRefusal}
+use Rattle.verdict.specs.Checks.{listRefusal}
 use Rattle.demands.specs.Demand1.{OneOf, nought}
 use Rattle.demands.proofs.Refusing.{test-one, chain-one, one-of}
 
@@ -77,17 +78,17 @@ module _ (s : Shape) where
 
   pub hop-numbers : (a b : ℕ) → OneOf (8 ∷ 9 ∷ 10 ∷ []) (hopRefusal s a b)
   unfolding hopRefusal
-  hop-numbers a b = chain-one _ _ (chain-one _ _ (test-one 8 (leb (b / 64) (s .k))) (test-one 9 (ltb (b % 64) (bound s (b / 64))))) (test-one 10 (not (eqb (digit s (b / 64) a) (b % 64))))
+  hop-numbers a b = chain-one _ _ (chain-one _ _ (test-one 8 (leb (levelOf b) (s .k))) (test-one 9 (ltb (valueOf b) (bound s (levelOf b))))) (test-one 10 (not (eqb (digit s (levelOf b) a) (valueOf b))))
 
   pub fault-numbers : (t met used : List ℕ) (a b : ℕ) → OneOf (8 ∷ 9 ∷ 10 ∷ 11 ∷ 12 ∷ []) (fault s t met used a b)
   unfolding fault
-  fault-numbers t met used a b = chain-one _ _ (chain-one _ _ (hop-numbers a b) (test-one 11 (live t (b / 64) a (hopTo s a b)))) (test-one 12 (not (isIn (hopTo s a b) met) && not (isIn (switchAt s (b / 64) a) used)))
+  fault-numbers t met used a b = chain-one _ _ (chain-one _ _ (hop-numbers a b) (test-one 11 (live t (levelOf b) a (hopTo s a b)))) (test-one 12 (not (isIn (hopTo s a b) met) && not (isIn (switchAt s (levelOf b) a) used)))
 
   -- plain reading has no 11
   pub plain-numbers : (met used : List ℕ) (a b : ℕ) → OneOf (8 ∷ 9 ∷ 10 ∷ 12 ∷ []) (fault s [] met used a b)
   unfolding fault
   plain-numbers met used a b =
-      chain-one _ _ (chain-one {B = []} _ _ (hop-numbers a b) (rw (live-empty (b / 64) a (hopTo s a b)) (nought refl))) (test-one 12 (not (isIn (hopTo s a b) met) && not (isIn (switchAt s (b / 64) a) used)))
+      chain-one _ _ (chain-one {B = []} _ _ (hop-numbers a b) (rw (live-empty (levelOf b) a (hopTo s a b)) (nought refl))) (test-one 12 (not (isIn (hopTo s a b) met) && not (isIn (switchAt s (levelOf b) a) used)))
 
   pub write-fault-numbers : (met used : List ℕ) (a b : ℕ) → OneOf (23 ∷ 12 ∷ []) (writeFault s met used a b)
   unfolding writeFault

@@ -9,12 +9,11 @@ use native.Mathlib.Nat.{le-of-suc-le-suc}
 use native.Mathlib.Decide.{ℕ-discrete}
 use lib.ListN.{length, getD}
 use borrow.Author.Tests.{eq-eqb, ne-eqb}
+use Rattle.lists.specs.Lists.{isIn}
+use Rattle.refusals.specs.declared.Refusal.{Refusal}
+use Rattle.refusals.specs.Refusals.{plain, refusedAt, answer}
+use Rattle.refusals.proofs.AnswerLaws.{answer-none}
 use Rattle.room.specs.declared.Shape.{Shape}
-use Rattle.room.specs.declared.Refusal.{Refusal}
-use Rattle.room.specs.Refusals.{plain, refusedAt}
-use Rattle.room.specs.Answers.{answer}
-use Rattle.room.proofs.RefusalLaws.{answer-none}
-use Rattle.path.specs.Lists.{isIn}
 use Rattle.path.specs.Walks.{Walk, stopped, arrived, hopTo, fault, ended, walkFrom, walk}
 use Rattle.path.specs.declared.Walked.{Walked}
 use Rattle.path.specs.Answers.{arrayRefusal, noWalk, walked, walkAnswer}

@@ -10,14 +10,16 @@ use lib.Dec.{eqb}
 use lib.ListN.{length, take, drop, length-drop}
 use lib.Seq.{length-take-le}
 use borrow.Author.Tests.{eq-eqb, ne-eqb}
+use Rattle.lists.specs.Lists.{isIn}
+use Rattle.refusals.specs.declared.Refusal.{Refusal}
+use Rattle.refusals.specs.Refusals.{none, refusedAt}
+use Rattle.refusals.proofs.ChainLaws.{chain-goes}
+use Rattle.refusals.proofs.AnswerLaws.{answer-none}
 use Rattle.room.specs.declared.Shape.{Shape}
-use Rattle.room.specs.declared.Refusal.{Refusal}
-use Rattle.room.specs.Refusals.{none, refusedAt}
-use Rattle.room.proofs.RefusalLaws.{chain-goes, answer-none}
+use Rattle.room.specs.Refusals.{endsRefusal}
 use Rattle.path.specs.declared.Walked.{Walked}
-use Rattle.path.specs.Lists.{isIn}
 use Rattle.path.specs.Walks.{Walk, stopped, arrived, hopTo, fault, ended, walkFrom, walk, writeFault, writeFrom}
-use Rattle.path.specs.Answers.{endsRefusal, arrayRefusal, walked, walkAnswer}
+use Rattle.path.specs.Answers.{arrayRefusal, walked, walkAnswer}
 use Rattle.path.proofs.RouteLaws.{walk-refused, walk-arrives, walk-goes}
 use Rattle.verdict.specs.Checks.{arrays, parallel, firstStop, firstMeeting, firstOf, firstPair}
 use Rattle.demands.specs.Demand1.{ofAHop, Place, whole, at-hop, no-arrival, later, Placed, OneOf, nought, listed}

@@ -7,15 +7,17 @@ use mathlib.Core.List.{List, [], _∷_, _++_}
 use mathlib.Core.Bool.{Bool, true, false, cond, _&&_, _||_}
 use lib.Dec.{leb, eqb}
 use lib.ListN.{length, getD, replicate}
+use Rattle.lists.specs.Lists.{isIn, inTurn}
+use Rattle.refusals.specs.declared.Refusal.{Refusal}
+use Rattle.refusals.specs.Refusals.{none, plain, refusedAt}
 use Rattle.room.specs.declared.Shape.{Shape}
-use Rattle.room.specs.declared.Refusal.{Refusal}
 use Rattle.room.specs.declared.Number.{Number}
 use Rattle.room.specs.declared.Digits.{Digits}
 use Rattle.room.specs.declared.Switch.{Switch}
 use Rattle.room.specs.declared.Between.{Between}
 use Rattle.room.specs.Shapes.{serversOf, bound, Valid, Server, Link, Value}
 use Rattle.room.specs.Addresses.{digit}
-use Rattle.room.specs.Refusals.{none, plain, refusedAt, shapeRefusal, serverRefusal, linkRefusal}
+use Rattle.room.specs.Refusals.{shapeRefusal, serverRefusal, linkRefusal, endsRefusal}
 use Rattle.room.specs.Answers.{serversAnswer, boundAnswer, digitsAnswer, digitAnswer, addressAnswer, switchAnswer, neighbourAnswer, betweenAnswer}
 use Rattle.links.specs.declared.Asked.{Asked}
 use Rattle.links.specs.Table.{roomTableRefusal, TableOf}
@@ -24,10 +26,9 @@ use Rattle.path.specs.declared.Hop.{Hop}
 use Rattle.path.specs.declared.Walked.{Walked}
 use Rattle.path.specs.declared.Reading.{Reading}
 use Rattle.path.specs.declared.Writing.{Writing}
-use Rattle.path.specs.Lists.{isIn, inTurn}
-use Rattle.path.specs.Routes.{byteTo, switchesOf, Route, RouteTo, Encodes}
+use Rattle.path.specs.Routes.{byteTo, switchesOf, Route, RouteTo, Encodes, levelOf, valueOf}
 use Rattle.path.specs.Walks.{fault, writeFault}
-use Rattle.path.specs.Answers.{endsRefusal, hopAnswer, walkAnswer, readAnswer, writeAnswer, reverseAnswer}
+use Rattle.path.specs.Answers.{hopAnswer, walkAnswer, readAnswer, writeAnswer, reverseAnswer}
 use Rattle.path.proofs.RouteLaws.{Prefix}
 use Rattle.verdict.specs.Checks.{parallel, listRefusal, walksOf, checkAnswer}
 use Rattle.verdict.specs.Accepted.{Accepted}
@@ -197,7 +198,7 @@ TwoServers s a d = Server s a × Server s d × (a ≢ d)
 
 -- byte b names a neighbour of server a: a level and a value of the room, not a's own
 abbrev pub NamesHop : Shape → ℕ → ℕ → Type 0
-NamesHop s a b = Value s a (b / 64) (b % 64) × (digit s (b / 64) a ≢ b % 64)
+NamesHop s a b = Value s a (levelOf b) (valueOf b) × (digit s (levelOf b) a ≢ valueOf b)
 
 -- what a step is made of: at the destination any index, elsewhere one that names the byte of an available neighbour
 pub record Steps (s : Shape) (a d i : ℕ) (bs e : List ℕ) : Type 0 where

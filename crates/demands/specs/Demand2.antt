@@ -1,27 +1,28 @@
 -- Demand 2: addresses, switches, built routes and path bytes are the paper's; servers to bytes and bytes to servers undo each other; a
 -- broken route gives way to the alternate where one exists; "no route" is said exactly when there is none; marking, clearing and one
 -- step change what document 01 says.
-use Prim.Native.Nat.{ℕ, suc, _+_, _-_, _*_, _/_, _%_, _^_, _≤_, _<_}
+use Prim.Native.Nat.{ℕ, suc, _+_, _-_, _*_, _^_, _≤_, _<_}
 use mathlib.Core.Path.{_≡_}
 use mathlib.Core.Logic.{_↔_, _≢_}
 use mathlib.Core.Bool.{Bool, true, false}
 use mathlib.Core.List.{List, [], _∷_, _++_, map, reverse}
 use lib.ListN.{length, getD, take}
+use Rattle.lists.specs.Lists.{filled}
+use Rattle.refusals.specs.Refusals.{none}
 use Rattle.room.specs.declared.Shape.{Shape}
 use Rattle.room.specs.Shapes.{Valid, Server, Link}
 use Rattle.room.specs.Addresses.{digits, digit, switchOf, switchesAt, differing, Written, Beside, Neighbours}
-use Rattle.room.specs.Refusals.{none}
-use Rattle.links.specs.Table.{failed, TableOf}
+use Rattle.room.specs.Refusals.{endsRefusal}
+use Rattle.links.specs.Table.{failed, TableOf, roomRefusal}
 use Rattle.links.specs.Answers.{linkAnswer, markedTable, clearedTable}
-use Rattle.path.specs.Lists.{filled}
-use Rattle.path.specs.Routes.{Route, RouteTo, encode, Encodes}
-use Rattle.path.specs.Answers.{endsRefusal, readAnswer, writeAnswer, reverseAnswer}
+use Rattle.path.specs.Routes.{Route, RouteTo, encode, Encodes, levelOf, valueOf}
+use Rattle.path.specs.Answers.{readAnswer, writeAnswer, reverseAnswer}
 use Rattle.build.specs.Built.{builtRoute, builtBytes}
 use Rattle.build.specs.Sets.{setOf}
 use Rattle.select.specs.declared.Selection.{Selection}
 use Rattle.laying.specs.Avoids.{Avoids}
 use Rattle.select.specs.Avoided.{avoided}
-use Rattle.select.specs.Selection.{Unbroken, Replaces, selectRefusal, Selecting}
+use Rattle.select.specs.Selection.{Unbroken, Replaces, Selecting}
 use Rattle.pick.specs.Picks.{listsRefusal, pickAnswer}
 use Rattle.pick.specs.Chosen.{NoneUsable}
 use Rattle.step.specs.declared.Step.{Step}
@@ -146,7 +147,7 @@ abbrev pub NoRouteExactly : Type 0
 NoRouteExactly =
     (s : Shape) (t : List ℕ) (a d : ℕ) (r : Selection) →
     Selecting s t a d r →
-    (r .refusal .number ≡ 16) ↔ ((selectRefusal s t a d ≡ 0) × ((vs : List ℕ) → RouteTo s t a d vs → ⊥))
+    (r .refusal .number ≡ 16) ↔ ((roomRefusal s t a d ≡ 0) × ((vs : List ℕ) → RouteTo s t a d vs → ⊥))
 
 -- picking says 16 exactly when refusals 1 to 7 do not apply and no array of either list is usable
 abbrev pub NonePickedExactly : Type 0
@@ -186,8 +187,8 @@ pub record Goes (s : Shape) (a i : ℕ) (e : List ℕ) (b : ℕ) (x : Step) : Ty
   pub refusal : x .refusal ≡ none
   pub delivered : x .delivered ≡ false
   pub server : Server s (x .next)
-  pub neighbour : Neighbours s (b / 64) a (x .next)
-  pub value : digit s (b / 64) (x .next) ≡ b % 64
+  pub neighbour : Neighbours s (levelOf b) a (x .next)
+  pub value : digit s (levelOf b) (x .next) ≡ valueOf b
   pub index : x .index ≡ i + 1
   pub mac : x .mac ≡ macAt e b
   pub port : x .port ≡ portAt e b

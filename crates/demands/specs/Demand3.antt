@@ -6,8 +6,8 @@ use mathlib.Core.Logic.{_↔_}
 use mathlib.Core.Bool.{false}
 use mathlib.Core.List.{List}
 use lib.ListN.{length, getD, take, drop}
+use Rattle.refusals.specs.Refusals.{none}
 use Rattle.room.specs.declared.Shape.{Shape}
-use Rattle.room.specs.Refusals.{none}
 use Rattle.links.specs.Table.{failed, tableRefusal}
 use Rattle.path.specs.Answers.{readAnswer}
 use Rattle.verdict.specs.Checks.{checkAnswer}

@@ -4,12 +4,12 @@ use mathlib.Core.List.{List}
 use mathlib.Core.Bool.{not, _&&_}
 use lib.Dec.{ltb, leb, eqb, lit≤}
 use lib.ListN.{length}
+use Rattle.refusals.specs.Refusals.{_or-else_, _unless_}
 use Rattle.room.specs.declared.Shape.{Shape}
 use Rattle.room.specs.Shapes.{serversOf, bound}
-use Rattle.room.specs.Refusals.{shapeRefusal, levelRefusal, serverRefusal, pairRefusal, linkRefusal, valueRefusal, placesFit, placesRefusal, _or-else_, _unless_}
-use Rattle.links.specs.Table.{bitsFit, tableRefusal, tableLinkRefusal}
-use Rattle.path.specs.Answers.{endsRefusal, arrayRefusal}
-use Rattle.verdict.specs.Checks.{roomRefusal}
+use Rattle.room.specs.Refusals.{shapeRefusal, levelRefusal, serverRefusal, pairRefusal, linkRefusal, valueRefusal, placesFit, placesRefusal, endsRefusal}
+use Rattle.links.specs.Table.{bitsFit, tableRefusal, tableLinkRefusal, roomRefusal}
+use Rattle.path.specs.Answers.{arrayRefusal}
 use Rattle.driver.proofs.WordLaws.{chain-le, test-le}
 
 pub shape-le : (s : Shape) → shapeRefusal s ≤ 23

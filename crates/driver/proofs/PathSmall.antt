@@ -10,24 +10,23 @@ use lib.Dec.{ltb, leb, eqb, lit≤, lit<}
 use lib.ListN.{length, getD, set, drop, take, replicate, length-set, drop-of-length-le}
 use lib.Seq.{drop-cons, take-suc, take-all}
 use borrow.Author.Tests.{lt-leb}
+use Rattle.lists.specs.Lists.{isIn}
+use Rattle.lists.proofs.ListLaws.{taken-on, length-snoc, filled-at, filled-past}
+use Rattle.refusals.specs.declared.Refusal.{Refusal}
+use Rattle.refusals.specs.Refusals.{plain, refusedAt, _or-else_, _unless_, answer}
 use Rattle.room.specs.declared.Shape.{Shape}
-use Rattle.room.specs.declared.Refusal.{Refusal}
 use Rattle.room.specs.Shapes.{bound}
 use Rattle.room.specs.Addresses.{digit, differing}
-use Rattle.room.specs.Refusals.{none, plain, refusedAt, shapeRefusal, serverRefusal, _or-else_, _unless_}
-use Rattle.room.specs.Answers.{answer}
-use Rattle.links.specs.Table.{live}
+use Rattle.room.specs.Refusals.{shapeRefusal, serverRefusal}
+use Rattle.links.specs.Table.{live, roomRefusal}
 use Rattle.path.specs.declared.Walked.{Walked}
 use Rattle.path.specs.declared.Reading.{Reading}
 use Rattle.path.specs.declared.Writing.{Writing}
-use Rattle.path.specs.Lists.{isIn}
-use Rattle.path.specs.Routes.{switchAt, switchTo}
+use Rattle.path.specs.Routes.{switchAt, switchTo, levelOf, valueOf}
 use Rattle.path.specs.Walks.{Walk, stopped, arrived, hopTo, hopRefusal, fault, ended, walkFrom, walk, single, writeFault, writeFrom}
 use Rattle.path.specs.Answers.{arrayRefusal, noWalk, walked, walkAnswer, readAnswer, noWriting, reversed, reverseAnswer, serversRefusal, writeRefusal, written, onTheWay, writeAnswer}
-use Rattle.path.proofs.ListSteps.{taken-on}
-use Rattle.path.proofs.ListLaws.{length-snoc, filled-at, filled-past}
 use Rattle.path.proofs.CodecLaws.{array-of, listed-of, read-exactly, read-given}
-use Rattle.verdict.specs.Checks.{arrays, parallel, firstStop, firstMeeting, firstOf, firstPair, roomRefusal, listRefusal, walksOf, checkAnswer}
+use Rattle.verdict.specs.Checks.{arrays, parallel, firstStop, firstMeeting, firstOf, firstPair, listRefusal, walksOf, checkAnswer}
 use Rattle.verdict.proofs.LengthLaws.{list-few}
 use Rattle.driver.specs.Words.{Small, FourBytes}
 use Rattle.driver.proofs.WordLaws.{chain-le, test-le, none-small, plain-small}
@@ -51,18 +50,18 @@ at-small r i h a b c = record { number = omega arith; route = b; hop = c; value 
 hop-le : (s : Shape) (a b : ℕ) → hopRefusal s a b ≤ 23
 unfolding hopRefusal
 hop-le s a b =
-    let p = 8 unless leb (b / 64) (s .k) in
-    let q = 9 unless ltb (b % 64) (bound s (b / 64)) in
-    let r = 10 unless not (eqb (digit s (b / 64) a) (b % 64)) in
+    let p = 8 unless leb (levelOf b) (s .k) in
+    let q = 9 unless ltb (valueOf b) (bound s (levelOf b)) in
+    let r = 10 unless not (eqb (digit s (levelOf b) a) (valueOf b)) in
     chain-le 23 (p or-else q) r
-    (chain-le 23 p q (test-le 23 8 (leb (b / 64) (s .k)) (lit≤ tt)) (test-le 23 9 (ltb (b % 64) (bound s (b / 64))) (lit≤ tt)))
-    (test-le 23 10 (not (eqb (digit s (b / 64) a) (b % 64))) (lit≤ tt))
+    (chain-le 23 p q (test-le 23 8 (leb (levelOf b) (s .k)) (lit≤ tt)) (test-le 23 9 (ltb (valueOf b) (bound s (levelOf b))) (lit≤ tt)))
+    (test-le 23 10 (not (eqb (digit s (levelOf b) a) (valueOf b))) (lit≤ tt))
 
 fault-le : (s : Shape) (t met used : List ℕ) (a b : ℕ) → fault s t met used a b ≤ 23
 unfolding fault
 fault-le s t met used a b =
-    let l = live t (b / 64) a (hopTo s a b) in
-    let o = not (isIn (hopTo s a b) met) && not (isIn (switchAt s (b / 64) a) used) in
+    let l = live t (levelOf b) a (hopTo s a b) in
+    let o = not (isIn (hopTo s a b) met) && not (isIn (switchAt s (levelOf b) a) used) in
     chain-le 23 (hopRefusal s a b or-else 11 unless l) (12 unless o)
     (chain-le 23 (hopRefusal s a b) (11 unless l) (hop-le s a b) (test-le 23 11 l (lit≤ tt)))
     (test-le 23 12 o (lit≤ tt))
@@ -86,7 +85,7 @@ walk-fits s t d h met used a (b ∷ bs) l m =
     let r = fault s t met used a b in
     let next = hopTo s a b in
     let met' = met ++ (next ∷ []) in
-    let used' = used ++ (switchAt s (b / 64) a ∷ []) in
+    let used' = used ++ (switchAt s (levelOf b) a ∷ []) in
     let k : length met' ≡ h + 1 + 1 = omega (arith, length-snoc met next) in
     let e = ended (h + 1) met' used' bs in
     let w = walkFrom s t d (h + 1) met' used' next bs in
@@ -120,7 +119,7 @@ read-narrow s a d bs e =
     record {
       each = λ i.
           elim (decLt i (length vs)) [
-            | yes y ↦ let v = r .servers i y in let g = ap (λ (l : List ℕ). getD l i 0) f ∙ filled-at 9 vs i y in omega (arith, v .below, v .valid .small)
+            | yes y ↦ let v = r .servers i y in let g = ap (λ (l : List ℕ). getD l i 0) f ∙ filled-at 9 vs i in omega (arith, v .below, v .valid .small)
             | no y ↦ let g = ap (λ (l : List ℕ). getD l i 0) f ∙ filled-past 9 vs i (omega arith) in omega arith
           ];
     }

@@ -9,19 +9,22 @@ use mathlib.Core.Bool.{Bool, true, false, cond}
 use mathlib.Core.List.{List, [], _∷_}
 use lib.Dec.{lit<, lit≤}
 use lib.ListN.{length, getD, replicate}
+use Rattle.lists.specs.Lists.{filled}
+use Rattle.lists.proofs.ListLaws.{length-filled}
+use Rattle.refusals.specs.declared.Refusal.{Refusal}
+use Rattle.refusals.specs.Refusals.{plain, answer}
 use Rattle.room.specs.declared.Shape.{Shape}
-use Rattle.room.specs.declared.Refusal.{Refusal}
 use Rattle.room.specs.declared.Digits.{Digits}
 use Rattle.room.specs.declared.Between.{Between}
-use Rattle.room.specs.Digits.{addressOf, padded}
+use Rattle.room.specs.Digits.{addressOf}
 use Rattle.room.specs.Shapes.{serversOf, bound, Server, Link}
 use Rattle.room.specs.Addresses.{digits, digit, withDigit, switchOf, differing}
-use Rattle.room.specs.Refusals.{plain, shapeRefusal, levelRefusal, serverRefusal, pairRefusal, linkRefusal, valueRefusal, placesRefusal}
-use Rattle.room.specs.Answers.{answer, noDigits, someDigits, noSwitch, aSwitch, noBetween, onlyLevel, serversAnswer, boundAnswer, digitsAnswer, digitAnswer, addressAnswer, switchAnswer, neighbourAnswer, betweenAnswer}
+use Rattle.room.specs.Refusals.{shapeRefusal, levelRefusal, serverRefusal, pairRefusal, linkRefusal, valueRefusal, placesRefusal}
+use Rattle.room.specs.Answers.{noDigits, someDigits, noSwitch, aSwitch, noBetween, onlyLevel, serversAnswer, boundAnswer, digitsAnswer, digitAnswer, addressAnswer, switchAnswer, neighbourAnswer, betweenAnswer}
 use Rattle.room.proofs.RefusalLaws.{valid-of, level-of, server-of, pair-of, link-of, value-of, places-of}
 use Rattle.room.proofs.DigitLaws.{pow-small}
 use Rattle.room.proofs.FourPlaces.{sums}
-use Rattle.room.proofs.RoomLaws.{bound-le, digits-long as levels-long, digit-lt, digit-past, with-server, switches-power, switch-lt, neighbours-exactly, padded-long, place-digit, places-below}
+use Rattle.room.proofs.RoomLaws.{bound-le, digits-long as levels-long, digit-lt, digit-past, with-server, switches-power, switch-lt, neighbours-exactly, place-digit, places-below}
 use Rattle.links.specs.declared.Asked.{Asked}
 use Rattle.links.specs.Table.{failed, tableLinkRefusal}
 use Rattle.links.specs.Answers.{notAsked, asked, failedAnswer, linkAnswer}
@@ -153,7 +156,7 @@ zeros-small zero i = lit< tt
 zeros-small (suc n) zero = lit< tt
 zeros-small (suc n) (suc i) = zeros-small n i
 
-padded-small : {s : Shape} {a : ℕ} → Server s a → (i : ℕ) → getD (padded (digits s a)) i 0 < 4294967296
+padded-small : {s : Shape} {a : ℕ} → Server s a → (i : ℕ) → getD (filled 4 (digits s a)) i 0 < 4294967296
 padded-small {s} {a} h i =
     elim (decLe i (s .k)) [
       | yes y ↦ omega (arith, place-digit s a i, digit-lt-64 h i y)
@@ -167,7 +170,7 @@ digits-part (suc r) ds i f = zeros-small 4 i
 digits-at : (s : Shape) (a i : ℕ) → getD (digitsAnswer s a .places) i 0 < 4294967296
 unfolding digitsAnswer
 digits-at s a i =
-    digits-part (serverRefusal s a) (padded (digits s a)) i (λ z. padded-small (server-of s a z) i)
+    digits-part (serverRefusal s a) (filled 4 (digits s a)) i (λ z. padded-small (server-of s a z) i)
 
 -- each place fits four bytes
 pub place-small : (s : Shape) (a i : ℕ) {x : Digits} → x ≡ digitsAnswer s a → getD (x .places) i 0 < 4294967296
@@ -179,7 +182,7 @@ digits-refusal (suc r) v ds h k = plain-with (suc r) v h k
 
 digits-with : (s : Shape) (a v : ℕ) → v < 4294967296 → Small (digitsAnswer s a .refusal) v
 unfolding digitsAnswer
-digits-with s a v k = digits-refusal (serverRefusal s a) v (padded (digits s a)) (server-le s a) k
+digits-with s a v k = digits-refusal (serverRefusal s a) v (filled 4 (digits s a)) (server-le s a) k
 
 pub digits-fits : (s : Shape) (a v : ℕ) {x : Digits} → v < 4294967296 → x ≡ digitsAnswer s a → Small (x .refusal) v
 digits-fits s a v {x} k e = subst (λ (z : Digits). Small (z .refusal) v) (sym e) (digits-with s a v k)
@@ -191,8 +194,8 @@ digits-four-long (suc r) ds f = refl
 digits-four : (s : Shape) (a : ℕ) → length (digitsAnswer s a .places) ≡ 4
 unfolding digitsAnswer
 digits-four s a =
-    digits-four-long (serverRefusal s a) (padded (digits s a))
-    (λ z. padded-long (digits s a) (omega (arith, levels-long s a, server-of s a z .valid .levels)))
+    digits-four-long (serverRefusal s a) (filled 4 (digits s a))
+    (λ z. length-filled 4 (digits s a) (omega (arith, levels-long s a, server-of s a z .valid .levels)))
 
 -- and there are four
 pub digits-long : (s : Shape) (a : ℕ) {x : Digits} → x ≡ digitsAnswer s a → length (x .places) ≡ 4

@@ -1,6 +1,6 @@
 // The failed-link table: one link asked for, marked, cleared.
 ghost use mathlib.Core.Path.{_≡_};
-ghost use Rattle.room.specs.Shapes.{shapeOf};
+ghost use Rattle.room.specs.Shapes.{fullRoom};
 ghost use Rattle.links.specs.Answers.{failedAnswer, linkAnswer, markedTable, clearedTable};
 ghost use Rattle.driver.specs.Words.{word, askedWord};
 use crate::words::result_word;
@@ -9,9 +9,9 @@ use room::Shape;
 // 1 where the link of a server at a level is failed, else 0. Refusals 1, 2, 3, 4, 20, 6.
 #[no_mangle]
 pub extern "C" fn bcube_failed_link(n: u32, k: u32, server: u32, level: u32, table: &[u8]) -> u64
-    ensures { λ r. ⌜ r ≡ askedWord (failedAnswer (shapeOf n k) (now (table .entry)) server level) ⌝ }
+    ensures { λ r. ⌜ r ≡ askedWord (failedAnswer (fullRoom n k) (now (table .entry)) server level) ⌝ }
 {
-    let shape = Shape::new(n as usize, k as usize);
+    let shape = Shape::full(n as usize, k as usize);
     let answer = links::failed_link(shape, table, server as usize, level as usize);
     if answer.failed {
         return result_word(answer.refusal, 1);
@@ -22,9 +22,9 @@ pub extern "C" fn bcube_failed_link(n: u32, k: u32, server: u32, level: u32, tab
 // Marks the link of a server at a level as failed. Refusals 1, 2, 3, 4, 20, 6; the value is 0.
 #[no_mangle]
 pub extern "C" fn bcube_mark_link(n: u32, k: u32, server: u32, level: u32, table: &mut [u8]) -> u64
-    ensures { λ r. ⌜ (r ≡ word (linkAnswer (shapeOf n k) (now (table .entry)) server level) 0) × (now (table .exit) ≡ markedTable (shapeOf n k) (now (table .entry)) server level) ⌝ }
+    ensures { λ r. ⌜ (r ≡ word (linkAnswer (fullRoom n k) (now (table .entry)) server level) 0) × (now (table .exit) ≡ markedTable (fullRoom n k) (now (table .entry)) server level) ⌝ }
 {
-    let shape = Shape::new(n as usize, k as usize);
+    let shape = Shape::full(n as usize, k as usize);
     let refusal = links::mark_link(shape, table, server as usize, level as usize);
     result_word(refusal, 0)
 }
@@ -32,9 +32,9 @@ pub extern "C" fn bcube_mark_link(n: u32, k: u32, server: u32, level: u32, table
 // Clears the link of a server at a level. Refusals 1, 2, 3, 4, 20, 6; the value is 0.
 #[no_mangle]
 pub extern "C" fn bcube_clear_link(n: u32, k: u32, server: u32, level: u32, table: &mut [u8]) -> u64
-    ensures { λ r. ⌜ (r ≡ word (linkAnswer (shapeOf n k) (now (table .entry)) server level) 0) × (now (table .exit) ≡ clearedTable (shapeOf n k) (now (table .entry)) server level) ⌝ }
+    ensures { λ r. ⌜ (r ≡ word (linkAnswer (fullRoom n k) (now (table .entry)) server level) 0) × (now (table .exit) ≡ clearedTable (fullRoom n k) (now (table .entry)) server level) ⌝ }
 {
-    let shape = Shape::new(n as usize, k as usize);
+    let shape = Shape::full(n as usize, k as usize);
     let refusal = links::clear_link(shape, table, server as usize, level as usize);
     result_word(refusal, 0)
 }

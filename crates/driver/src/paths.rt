@@ -2,7 +2,7 @@
 ghost use mathlib.Core.Path.{_≡_};
 ghost use Prim.Native.Nat.{_≤_};
 ghost use lib.ListN.{length, take};
-ghost use Rattle.room.specs.Shapes.{shapeOf};
+ghost use Rattle.room.specs.Shapes.{fullRoom};
 ghost use Rattle.path.specs.Answers.{readAnswer, writeAnswer, reverseAnswer};
 ghost use Rattle.verdict.specs.Checks.{checkAnswer};
 ghost use Rattle.driver.specs.Words.{word, readingWord, readingLeft, writingWord, writingLeft, FourBytes};
@@ -39,9 +39,9 @@ pub extern "C" fn bcube_read(
     path: &[u8],
     servers: &mut [u32; 9],
 ) -> u64
-    ensures { λ r. ⌜ (r ≡ readingWord (readAnswer (shapeOf n k) source destination (now (path .entry)))) × (now (servers .exit) ≡ readingLeft (now (servers .entry)) (readAnswer (shapeOf n k) source destination (now (path .entry)))) ⌝ }
+    ensures { λ r. ⌜ (r ≡ readingWord (readAnswer (fullRoom n k) source destination (now (path .entry)))) × (now (servers .exit) ≡ readingLeft (now (servers .entry)) (readAnswer (fullRoom n k) source destination (now (path .entry)))) ⌝ }
 {
-    let shape = Shape::new(n as usize, k as usize);
+    let shape = Shape::full(n as usize, k as usize);
     let reading = path::read_path(shape, source as usize, destination as usize, path);
     let result = result_word(reading.refusal, reading.count);
     if reading.refusal.number != 0 {
@@ -83,9 +83,9 @@ fn written_of(shape: Shape, servers: &[u32]) -> Writing
 // Refusals 1, 2, 3, 22, 4, 5, then 23, 12 at a hop.
 #[no_mangle]
 pub extern "C" fn bcube_write(n: u32, k: u32, servers: &[u32], path: &mut [u8; 8]) -> u64
-    ensures { λ r. ⌜ (r ≡ writingWord (writeAnswer (shapeOf n k) (now (servers .entry)))) × (now (path .exit) ≡ writingLeft (now (path .entry)) (writeAnswer (shapeOf n k) (now (servers .entry)))) ⌝ }
+    ensures { λ r. ⌜ (r ≡ writingWord (writeAnswer (fullRoom n k) (now (servers .entry)))) × (now (path .exit) ≡ writingLeft (now (path .entry)) (writeAnswer (fullRoom n k) (now (servers .entry)))) ⌝ }
 {
-    let writing = written_of(Shape::new(n as usize, k as usize), servers);
+    let writing = written_of(Shape::full(n as usize, k as usize), servers);
     let result = result_word(writing.refusal, 0);
     if writing.refusal.number != 0 {
         return result;
@@ -106,9 +106,9 @@ pub extern "C" fn bcube_reverse(
     path: &[u8],
     reversed: &mut [u8; 8],
 ) -> u64
-    ensures { λ r. ⌜ (r ≡ writingWord (reverseAnswer (shapeOf n k) source destination (now (path .entry)))) × (now (reversed .exit) ≡ writingLeft (now (reversed .entry)) (reverseAnswer (shapeOf n k) source destination (now (path .entry)))) ⌝ }
+    ensures { λ r. ⌜ (r ≡ writingWord (reverseAnswer (fullRoom n k) source destination (now (path .entry)))) × (now (reversed .exit) ≡ writingLeft (now (reversed .entry)) (reverseAnswer (fullRoom n k) source destination (now (path .entry)))) ⌝ }
 {
-    let shape = Shape::new(n as usize, k as usize);
+    let shape = Shape::full(n as usize, k as usize);
     let turned = path::reverse_path(shape, source as usize, destination as usize, path);
     let result = result_word(turned.refusal, 0);
     if turned.refusal.number != 0 {
@@ -130,9 +130,9 @@ pub extern "C" fn bcube_check(
     table: &[u8],
     list: &[u8],
 ) -> u64
-    ensures { λ r. ⌜ r ≡ word (checkAnswer (shapeOf n k) (now (table .entry)) source destination (now (list .entry))) 0 ⌝ }
+    ensures { λ r. ⌜ r ≡ word (checkAnswer (fullRoom n k) (now (table .entry)) source destination (now (list .entry))) 0 ⌝ }
 {
-    let shape = Shape::new(n as usize, k as usize);
+    let shape = Shape::full(n as usize, k as usize);
     let refusal = verdict::check_list(shape, table, source as usize, destination as usize, list);
     result_word(refusal, 0)
 }

@@ -1,6 +1,6 @@
 // Picking a usable route from a fresh list and a kept one.
 ghost use mathlib.Core.Path.{_≡_};
-ghost use Rattle.room.specs.Shapes.{shapeOf};
+ghost use Rattle.room.specs.Shapes.{fullRoom};
 ghost use Rattle.pick.specs.Places.{placeAnswer};
 ghost use Rattle.driver.specs.Words.{placeWord};
 use crate::words::result_word;
@@ -18,9 +18,9 @@ pub extern "C" fn bcube_pick(
     fresh: &[u8],
     kept: &[u8],
 ) -> u64
-    ensures { λ r. ⌜ r ≡ placeWord (placeAnswer (shapeOf n k) (now (table .entry)) source destination (now (fresh .entry)) (now (kept .entry))) ⌝ }
+    ensures { λ r. ⌜ r ≡ placeWord (placeAnswer (fullRoom n k) (now (table .entry)) source destination (now (fresh .entry)) (now (kept .entry))) ⌝ }
 {
-    let shape = Shape::new(n as usize, k as usize);
+    let shape = Shape::full(n as usize, k as usize);
     let a = source as usize;
     let place = pick::pick_place(shape, table, a, destination as usize, fresh, kept);
     result_word(place.refusal, 256 * place.list + place.route)

@@ -1,6 +1,6 @@
 // Built routes, the alternate, and selection.
 ghost use mathlib.Core.Path.{_≡_};
-ghost use Rattle.room.specs.Shapes.{shapeOf};
+ghost use Rattle.room.specs.Shapes.{fullRoom};
 ghost use Rattle.build.specs.Answers.{buildAnswer};
 ghost use Rattle.driver.specs.Words.{buildingWord, buildingLeft};
 ghost use Rattle.driver.specs.Routes.{FoundWord, SelectedWord};
@@ -17,9 +17,9 @@ pub extern "C" fn bcube_build(
     destination: u32,
     routes: &mut [u8; 32],
 ) -> u64
-    ensures { λ r. ⌜ (r ≡ buildingWord (buildAnswer (shapeOf n k) source destination)) × (now (routes .exit) ≡ buildingLeft (now (routes .entry)) (buildAnswer (shapeOf n k) source destination)) ⌝ }
+    ensures { λ r. ⌜ (r ≡ buildingWord (buildAnswer (fullRoom n k) source destination)) × (now (routes .exit) ≡ buildingLeft (now (routes .entry)) (buildAnswer (fullRoom n k) source destination)) ⌝ }
 {
-    let shape = Shape::new(n as usize, k as usize);
+    let shape = Shape::full(n as usize, k as usize);
     let built = build::build_routes(shape, source as usize, destination as usize);
     let set = built.routes;
     if built.refusal.number == 0 {
@@ -40,9 +40,9 @@ pub extern "C" fn bcube_find(
     table: &[u8],
     path: &mut [u8; 8],
 ) -> u64
-    ensures { λ r. ⌜ FoundWord (shapeOf n k) (now (table .entry)) source destination r (now (path .entry)) (now (path .exit)) ⌝ }
+    ensures { λ r. ⌜ FoundWord (fullRoom n k) (now (table .entry)) source destination r (now (path .entry)) (now (path .exit)) ⌝ }
 {
-    let shape = Shape::new(n as usize, k as usize);
+    let shape = Shape::full(n as usize, k as usize);
     let found = finder::find_route(shape, table, source as usize, destination as usize);
     if found.refusal.number == 0 {
         let bytes = found.bytes;
@@ -62,9 +62,9 @@ pub extern "C" fn bcube_select(
     table: &[u8],
     routes: &mut [u8; 32],
 ) -> u64
-    ensures { λ r. ⌜ SelectedWord (shapeOf n k) (now (table .entry)) source destination r (now (routes .entry)) (now (routes .exit)) ⌝ }
+    ensures { λ r. ⌜ SelectedWord (fullRoom n k) (now (table .entry)) source destination r (now (routes .entry)) (now (routes .exit)) ⌝ }
 {
-    let shape = Shape::new(n as usize, k as usize);
+    let shape = Shape::full(n as usize, k as usize);
     let selected = select::select_routes(shape, table, source as usize, destination as usize);
     let set = selected.routes;
     if selected.refusal.number == 0 {

@@ -1,6 +1,6 @@
 // One forwarding step: the packed number, and the MAC.
 ghost use mathlib.Core.Path.{_≡_};
-ghost use Rattle.room.specs.Shapes.{shapeOf};
+ghost use Rattle.room.specs.Shapes.{fullRoom};
 ghost use Rattle.step.specs.Steps.{stepAnswer};
 ghost use Rattle.step.specs.Packed.{packed, macNumber};
 
@@ -15,7 +15,7 @@ pub extern "C" fn bcube_step(
     path: &[u8],
     table: &[u8],
 ) -> u64
-    ensures { λ r. ⌜ r ≡ packed (stepAnswer (shapeOf n k) here destination index (now (path .entry)) (now (table .entry))) ⌝ }
+    ensures { λ r. ⌜ r ≡ packed (stepAnswer (fullRoom n k) here destination index (now (path .entry)) (now (table .entry))) ⌝ }
 {
     step::bcube_step(n, k, here, destination, index, path, table)
 }
@@ -31,7 +31,7 @@ pub extern "C" fn bcube_step_mac(
     path: &[u8],
     table: &[u8],
 ) -> u64
-    ensures { λ r. ⌜ r ≡ macNumber ((stepAnswer (shapeOf n k) here destination index (now (path .entry)) (now (table .entry))) .mac) ⌝ }
+    ensures { λ r. ⌜ r ≡ macNumber ((stepAnswer (fullRoom n k) here destination index (now (path .entry)) (now (table .entry))) .mac) ⌝ }
 {
     step::bcube_step_mac(n, k, here, destination, index, path, table)
 }

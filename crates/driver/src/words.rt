@@ -1,7 +1,7 @@
 // The result word: a refusal and a number in eight bytes.
 ghost use mathlib.Core.Path.{_≡_};
 ghost use Rattle.driver.specs.Words.{word, Small};
-use room::Refusal;
+use refusals::Refusal;
 
 // The result word of a refusal and a number.
 pub(crate) fn result_word(refusal: Refusal, value: usize) -> u64

@@ -7,8 +7,8 @@ use mathlib.Core.Logic.{⊎-elim}
 use mathlib.Core.List.{List, [], _∷_, _++_, append-nil, append-assoc, map, map-append}
 use lib.ListN.{length, getD, take, replicate, length-append, length-replicate}
 use lib.Seq.{take-take, length-take-le}
-use Rattle.room.specs.declared.Refusal.{Refusal}
-use Rattle.room.specs.Refusals.{none}
+use Rattle.refusals.specs.declared.Refusal.{Refusal}
+use Rattle.refusals.specs.Refusals.{none}
 use Rattle.finder.specs.declared.Found.{Found}
 use Rattle.finder.specs.Answers.{noRoute}
 use Rattle.finder.specs.Hops.{turned}

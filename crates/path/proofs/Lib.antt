@@ -1,11 +1,8 @@
-pub mod ListSteps
-pub mod HopSteps
-pub mod WalkLaws
-pub mod WriteLaws
-pub mod TurnLaws
-pub mod Unique
-pub mod ListLaws
 pub mod HopLaws
 pub mod RouteLaws
 pub mod ReverseLaws
 pub mod CodecLaws
+pub mod WalkLaws
+pub mod WriteLaws
+pub mod TurnLaws
+pub mod Unique

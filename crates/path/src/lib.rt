@@ -1,9 +1,7 @@
 // Path bytes: one hop, and whole arrays read, written and reversed.
-use room::Refusal;
+use refusals::Refusal;
 // hops.rt: one hop, by its byte
 mod hops;
-// powers.rt: powers of n
-mod powers;
 // readings.rt: plain reading
 mod readings;
 // repeats.rt: servers and switches already on the route
@@ -16,10 +14,11 @@ mod walks;
 mod writings;
 
 pub use hops::hop_of;
+pub use hops::level_of;
+pub use hops::value_of;
 pub use readings::read_path;
 pub use repeats::is_among;
 pub use turns::reverse_path;
-pub use walks::ends_refusal;
 pub use walks::walk;
 pub use writings::write_path;
 

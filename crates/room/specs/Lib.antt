@@ -3,4 +3,4 @@ pub mod Shapes
 pub mod Addresses
 pub mod Refusals
 pub mod Answers
-pub mod Determined
+pub mod Sides

@@ -1,20 +1,19 @@
 -- Routes held in a set, array after array, and laid into a table.
-use Prim.Native.Nat.{ℕ, zero, suc, _+_, _*_, _≤_, _<_}
+use Prim.Native.Nat.{ℕ, suc, _+_, _*_, _≤_, _<_}
 use mathlib.Core.Path.{_≡_, refl, sym, ap, _∙_}
 use mathlib.Core.List.{List, [], _∷_, _++_, map, List·Memᴰ as In, List·Memᴰ·head, List·Memᴰ·tail}
 use native.Mathlib.Omega.{arith}
-use native.Mathlib.Nat.{le-of-suc-le-suc}
 use native.Mathlib.Numerals.{add-one}
 use lib.ListN.{length, getD, take, drop, length-drop, length-append, length-map, drop-of-length-le}
 use lib.Seq.{slice, slice-cons, getD-take, getD-drop, length-take-le}
+use Rattle.lists.proofs.ListLaws.{All, map-at}
+use Rattle.refusals.specs.declared.Refusal.{Refusal}
 use Rattle.room.specs.declared.Shape.{Shape}
-use Rattle.room.specs.declared.Refusal.{Refusal}
 use Rattle.links.specs.Table.{TableOf}
 use Rattle.path.specs.Routes.{Encodes, encode}
 use Rattle.path.proofs.CodecLaws.{encode-long}
 use Rattle.build.specs.declared.RouteSet.{RouteSet}
 use Rattle.build.specs.Sets.{emptySet, added, arrayAt, setOf}
-use Rattle.build.proofs.ListLaws.{All}
 use Rattle.build.proofs.SetLaws.{gathered, gathered-set, set-array}
 use Rattle.laying.specs.Laid.{taken, Laid}
 use Rattle.laying.specs.Answers.{Lays}
@@ -54,11 +53,6 @@ unfolding arrayAt
 array-bytes j r h l = eight-bytes (8 * j) (r .bytes) (omega arith)
 
 -- ---- a set of the arrays of routes
-
-map-at : {A B : Type 0} (f : A → B) (x : A) (y : B) (xs : List A) (i : ℕ) → i < length xs → getD (map f xs) i y ≡ f (getD xs i x)
-map-at f x y [] i h = let z : ⊥ = omega arith in absurd z
-map-at f x y (z ∷ zs) zero h = refl
-map-at f x y (z ∷ zs) (suc i) h = map-at f x y zs i (le-of-suc-le-suc h)
 
 map-eight : (s : Shape) (vss : List (List ℕ)) → ((vs : List ℕ) → In vs vss → length vs ≤ 9) → All (λ (x : List ℕ). length x ≡ 8) (map (encode s) vss)
 map-eight s [] h = tt

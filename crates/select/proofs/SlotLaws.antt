@@ -8,9 +8,9 @@ use native.Mathlib.Decide.{ℕ-discrete}
 use lib.ListN.{length, getD, length-append, List·getD-append}
 use lib.Seq.{getD-append-seam}
 use Rattle.room.specs.declared.Shape.{Shape}
+use Rattle.room.specs.Shapes.{Ends}
 use Rattle.path.specs.Routes.{RouteTo, Parallel}
 use Rattle.path.proofs.ReverseLaws.{parallel-sym, route-to-plain}
-use Rattle.path.proofs.CodecLaws.{Ends}
 use Rattle.build.specs.Built.{builtRoute}
 use Rattle.build.proofs.BuiltLaws.{built-route, built-parallel}
 use Rattle.laying.proofs.LaidLaws.{route-over}
@@ -77,13 +77,13 @@ module _ {s : Shape} {t : List ℕ} {a d i : ℕ} {routes : List (List ℕ)} (h 
 
 module _ {s : Shape} {a d : ℕ} (t : List ℕ) (ends : Ends s a d) where
   pub built-to : (i : ℕ) → i ≤ s .k → RouteTo s [] a d (builtRoute s i a d)
-  built-to i p = built-route s a d (ends .source) (ends .dest) (ends .differ) i p
+  built-to i p = built-route s a d (ends .source) (ends .destination) (ends .differ) i p
 
   pub slot-settled : {i : ℕ} {settled given : List (List ℕ)} → Settled s t a d (suc i) settled → Slot s t a d i settled given → Settled s t a d i (settled ++ given)
   slot-settled {i} {settled} h (kept u) =
       let p : i ≤ s .k = omega (arith, h .few) in
       settled-more h (builtRoute s i a d) (unbroken-route (built-to i p) u) (λ us m. h .clear us m i (omega arith) u)
-      (λ m q w. built-parallel s a d (ends .source) (ends .dest) (ends .differ) i m p (omega arith) (λ e. omega arith))
+      (λ m q w. built-parallel s a d (ends .source) (ends .destination) (ends .differ) i m p (omega arith) (λ e. omega arith))
   slot-settled {i} {settled} h (replaced {vs} b r) =
       settled-more h vs (r .route) (λ us m. parallel-sym (avoids-settled s t a d i settled (r .avoids) m)) (avoids-lower s t a d i settled (r .avoids))
   slot-settled {i} {settled} h (nothing b r) = rw (append-nil settled) (settled-skip h)

@@ -9,13 +9,15 @@ use native.Mathlib.Decide.{decLt, ℕ-discrete}
 use lib.ListN.{length, getD, replicate}
 use lib.Dec.{ltb, leb, eqb, lit<, lit≤}
 use borrow.Author.Tests.{eq-eqb, ne-eqb, le-ltb}
+use Rattle.refusals.specs.declared.Refusal.{Refusal}
+use Rattle.refusals.specs.Refusals.{plain, refusedAt, _or-else_, _unless_, answer}
 use Rattle.room.specs.declared.Shape.{Shape}
-use Rattle.room.specs.declared.Refusal.{Refusal}
 use Rattle.room.specs.declared.Number.{Number}
 use Rattle.room.specs.Shapes.{serversOf, bound}
 use Rattle.room.specs.Addresses.{digit}
-use Rattle.room.specs.Refusals.{plain, refusedAt, shapeRefusal, serverRefusal, pairRefusal, _or-else_, _unless_}
-use Rattle.room.specs.Answers.{answer, aNumber}
+use Rattle.room.specs.Refusals.{shapeRefusal, serverRefusal, pairRefusal}
+use Rattle.room.specs.Answers.{aNumber}
+use Rattle.path.specs.Routes.{levelOf, valueOf}
 use Rattle.path.specs.Walks.{hopTo, hopRefusal}
 use Rattle.path.proofs.HopLaws.{hop-server}
 use Rattle.step.specs.declared.Step.{Step}
@@ -60,9 +62,9 @@ number-le s a d i bs e =
 
     byte : (b : ℕ) → byteRefusal s a e b ≤ 19
     byte b =
-        let t = leb (b / 64) (s .k) in
-        let u = ltb (b % 64) (bound s (b / 64)) in
-        let v = not (eqb (digit s (b / 64) a) (b % 64)) in
+        let t = leb (levelOf b) (s .k) in
+        let u = ltb (valueOf b) (bound s (levelOf b)) in
+        let v = not (eqb (digit s (levelOf b) a) (valueOf b)) in
         chain-le 19 (hopRefusal s a b) (19 unless eqb (flagAt e b) 1)
         (chain-le 19 (8 unless t or-else 9 unless u) (10 unless v)
         (chain-le 19 (8 unless t) (9 unless u) (test-le 19 8 t (lit≤ tt)) (test-le 19 9 u (lit≤ tt)))

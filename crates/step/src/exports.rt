@@ -2,7 +2,7 @@
 // pointer and a length. include/bcube.h declares both functions.
 ghost use mathlib.Core.Path.{_≡_};
 ghost use Prim.Native.Nat.{_<_};
-ghost use Rattle.room.specs.Shapes.{shapeOf};
+ghost use Rattle.room.specs.Shapes.{fullRoom};
 ghost use Rattle.step.specs.Steps.{stepAnswer};
 ghost use Rattle.step.specs.Packed.{packed, macNumber};
 use crate::Step;
@@ -22,9 +22,9 @@ pub extern "C" fn bcube_step(
     path: &[u8],
     table: &[u8],
 ) -> u64
-    ensures { λ r. ⌜ r ≡ packed (stepAnswer (shapeOf n k) here destination index (now (path .entry)) (now (table .entry))) ⌝ }
+    ensures { λ r. ⌜ r ≡ packed (stepAnswer (fullRoom n k) here destination index (now (path .entry)) (now (table .entry))) ⌝ }
 {
-    let shape = Shape::new(n as usize, k as usize);
+    let shape = Shape::full(n as usize, k as usize);
     let i = index as usize;
     let next = next_server(shape, here as usize, destination as usize, i, path, table);
     if next.refusal.number != 0 {
@@ -66,9 +66,9 @@ pub extern "C" fn bcube_step_mac(
     path: &[u8],
     table: &[u8],
 ) -> u64
-    ensures { λ r. ⌜ r ≡ macNumber ((stepAnswer (shapeOf n k) here destination index (now (path .entry)) (now (table .entry))) .mac) ⌝ }
+    ensures { λ r. ⌜ r ≡ macNumber ((stepAnswer (fullRoom n k) here destination index (now (path .entry)) (now (table .entry))) .mac) ⌝ }
 {
-    let shape = Shape::new(n as usize, k as usize);
+    let shape = Shape::full(n as usize, k as usize);
     let i = index as usize;
     let next = next_server(shape, here as usize, destination as usize, i, path, table);
     if next.refusal.number != 0 {

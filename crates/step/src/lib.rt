@@ -1,13 +1,9 @@
 // One forwarding step: where a packet goes next, by its path bytes and its server's neighbour table.
-use room::Refusal;
+use refusals::Refusal;
 // exports.rt: the step for the driver in C
 mod exports;
-// hops.rt: one hop, from a server that was tested
-mod hops;
 // next.rt: the next server
 mod next;
-// powers.rt: powers of n
-mod powers;
 // steps.rt: the step
 mod steps;
 // tests.rt: what is tested before a step answers

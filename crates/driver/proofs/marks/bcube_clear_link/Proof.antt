@@ -3,8 +3,8 @@ use borrow.Author.Needs.{needs}
 use native.Mathlib.Omega.{arith}
 use mathlib.Core.Path.{ap, _∙_}
 use denote.Ref.{now}
+use Rattle.refusals.specs.declared.Refusal.{Refusal}
 use Rattle.room.specs.declared.Shape.{Shape}
-use Rattle.room.specs.declared.Refusal.{Refusal}
 use Rattle.links.specs.Answers.{linkAnswer, clearedTable}
 use Rattle.driver.specs.Words.{word}
 use Rattle.driver.proofs.WordLaws.{said}
@@ -20,4 +20,4 @@ bcube-clear-link-spec =
     (λ c κs. search needs)
     (λ c κs. link-fits _ _ _ _ _ (omega arith) (c .before .before .clear-link .ensures .0))
     (λ c. search needs)
-    (λ c. let a = c .before .before .before .before .before .before .before .args in let e = c .before .before .before .clear-link .ensures in let g = c .before .before .before .before .before .new .ensures in (said (λ (x : Refusal). word x 0) (λ s. linkAnswer s (now (a .table)) (a .server) (a .level)) (c .result-word .ensures) (e .0) g, e .1 ∙ ap (λ (s : Shape). clearedTable s (now (a .table)) (a .server) (a .level)) g)))
+    (λ c. let a = c .before .before .before .before .before .before .before .args in let e = c .before .before .before .clear-link .ensures in let g = c .before .before .before .before .before .full .ensures in (said (λ (x : Refusal). word x 0) (λ s. linkAnswer s (now (a .table)) (a .server) (a .level)) (c .result-word .ensures) (e .0) g, e .1 ∙ ap (λ (s : Shape). clearedTable s (now (a .table)) (a .server) (a .level)) g)))

@@ -18,8 +18,8 @@ bcube-read-spec =
     (λ c κs. told-fits (λ (x : Reading). x .refusal) (λ (x : Reading). x .count) (read-small _ _ _ _) (c .read-path .ensures))
     (λ c.
     let a = c .before .before .before .before .before .before .args in
-    told-refused (λ (x : Reading). x .refusal) (λ (x : Reading). x .count) (λ (s : Shape). readAnswer s (a .source) (a .destination) (now (a .path))) (c .before .before .before .read-path .ensures) (c .before .before .before .before .new .ensures) (c .before .before .result-word .ensures) (λ (x : Reading). x .servers) _ (c .if1 .taken))
+    told-refused (λ (x : Reading). x .refusal) (λ (x : Reading). x .count) (λ (s : Shape). readAnswer s (a .source) (a .destination) (now (a .path))) (c .before .before .before .read-path .ensures) (c .before .before .before .before .full .ensures) (c .before .before .result-word .ensures) (λ (x : Reading). x .servers) _ (c .if1 .taken))
     (λ c κs. read-found _ _ _ _ (c .before .before .before .before .read-path .ensures) (c .before .if1 .left))
     (λ c.
     let a = c .before .before .before .before .before .before .before .before .args in
-    told-given (λ (x : Reading). x .refusal) (λ (x : Reading). x .count) (λ (s : Shape). readAnswer s (a .source) (a .destination) (now (a .path))) (c .before .before .before .before .before .read-path .ensures) (c .before .before .before .before .before .before .new .ensures) (c .before .before .before .before .result-word .ensures) (λ (x : Reading). x .servers) _ (c .before .before .if1 .left) (c .four-bytes-each .ensures)))
+    told-given (λ (x : Reading). x .refusal) (λ (x : Reading). x .count) (λ (s : Shape). readAnswer s (a .source) (a .destination) (now (a .path))) (c .before .before .before .before .before .read-path .ensures) (c .before .before .before .before .before .before .full .ensures) (c .before .before .before .before .result-word .ensures) (λ (x : Reading). x .servers) _ (c .before .before .if1 .left) (c .four-bytes-each .ensures)))

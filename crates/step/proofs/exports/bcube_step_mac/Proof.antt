@@ -15,9 +15,9 @@ bcube-step-mac-spec =
     (tie.spec
     (λ c κs. search needs)
     (λ c κs. search needs)
-    (λ c. in-shape (λ (y : Step). macNumber (y .mac)) _ _ _ _ _ _ _ _ (c .before .before .before .new .ensures) (mac-refused _ _ _ _ _ _ _ (c .before .before .next-server .ensures) (c .if1 .taken)))
-    (λ c. in-shape (λ (y : Step). macNumber (y .mac)) _ _ _ _ _ _ _ _ (c .before .before .before .before .new .ensures) (mac-here _ _ _ _ _ _ _ (c .before .before .before .next-server .ensures) (c .before .if1 .left) (c .if2 .taken)))
+    (λ c. in-shape (λ (y : Step). macNumber (y .mac)) _ _ _ _ _ _ _ _ (c .before .before .before .full .ensures) (mac-refused _ _ _ _ _ _ _ (c .before .before .next-server .ensures) (c .if1 .taken)))
+    (λ c. in-shape (λ (y : Step). macNumber (y .mac)) _ _ _ _ _ _ _ _ (c .before .before .before .before .full .ensures) (mac-here _ _ _ _ _ _ _ (c .before .before .before .next-server .ensures) (c .before .if1 .left) (c .if2 .taken)))
     (λ c. let g = step-facts _ _ _ _ _ _ _ (c .before .before .before .before .next-server .ensures) (c .before .before .if1 .left) (c .before .if2 .left) in omega arith)
     (λ c κs. let g = step-facts _ _ _ _ _ _ _ (c .before .before .before .before .next-server .ensures) (c .before .before .if1 .left) (c .before .if2 .left) in g .given .table)
     (λ c κs. search needs)
-    (λ c. in-shape (λ (y : Step). macNumber (y .mac)) _ _ _ _ _ _ _ _ (c .before .before .before .before .before .before .before .new .ensures) (c .mac-number .ensures ∙ mac-goes _ _ _ _ _ _ _ (c .before .before .before .before .before .before .next-server .ensures) (c .before .before .before .before .if1 .left) (c .before .before .before .if2 .left) _ (c .before .mac-at .ensures))))
+    (λ c. in-shape (λ (y : Step). macNumber (y .mac)) _ _ _ _ _ _ _ _ (c .before .before .before .before .before .before .before .full .ensures) (c .mac-number .ensures ∙ mac-goes _ _ _ _ _ _ _ (c .before .before .before .before .before .before .next-server .ensures) (c .before .before .before .before .if1 .left) (c .before .before .before .if2 .left) _ (c .before .mac-at .ensures))))
