@@ -9,6 +9,7 @@ use mathlib.Core.Bool.{true, false}
 use mathlib.Core.List.{List}
 use lib.ListN.{length, getD, set, replicate, length-set, length-replicate}
 use lib.Seq.{getD-set-other}
+use Rattle.lists.proofs.ListLaws.{same-at}
 use Rattle.room.specs.declared.Shape.{Shape}
 use Rattle.room.specs.declared.Side.{Side}
 use Rattle.room.specs.Shapes.{serversOf, Valid, Server, Link, Value}
@@ -21,7 +22,6 @@ use Rattle.finder.specs.Kept.{noParent, Kept}
 use Rattle.finder.specs.Scan.{markAt, Scanned, Swept, Sided, Visiting, Visited}
 use Rattle.finder.proofs.Order.{split}
 use Rattle.finder.proofs.Tables.{recast}
-use Rattle.finder.proofs.Back.{zeros}
 use Rattle.finder.proofs.Hops.{Kept-in, absurd-bool, seen, next-level, past-level, next-server}
 use Rattle.finder.proofs.Walking.{beside-step, beside-ok, hop-server, step-switch}
 use Rattle.finder.proofs.Finish.{Ended}
@@ -30,7 +30,7 @@ use Rattle.finder.proofs.Finish.{Ended}
 
 -- with no marks nothing has been scanned
 swept-none : (s : Shape) (t queue : List ℕ) (n m : ℕ) → m ≡ 16384 → Swept s t (replicate m 0) queue n
-swept-none s t queue n m e = record { long = length-replicate {A = ℕ} m 0 ∙ e; scanned = λ l u hl hu ne. absurd (ne (zeros m (markAt l u))) }
+swept-none s t queue n m e = record { long = length-replicate {A = ℕ} m 0 ∙ e; scanned = λ l u hl hu ne. absurd (ne (same-at 0 m (markAt l u))) }
 
 -- what is found stays found
 scanned-more : {s : Shape} {t queue queue′ : List ℕ} {n n′ l u : ℕ} → Scanned s t queue n l u → n ≤ n′ → ((i : ℕ) → i < n → getD queue′ i 0 ≡ getD queue i 0) → Scanned s t queue′ n′ l u

@@ -2,6 +2,7 @@
 use Prim.Native.Nat.{ℕ, _≤_}
 use mathlib.Core.Path.{_≡_, refl, sym, ap, _∙_, subst}
 use mathlib.Core.Logic.{_↔_}
+use mathlib.Core.Bool.{or-false}
 use mathlib.Core.List.{List, [], _∷_}
 use native.Mathlib.Omega.{arith}
 use lib.ListN.{length, take}
@@ -20,7 +21,7 @@ use Rattle.path.proofs.ReverseLaws.{source-server, dest-server, ends-differ}
 use Rattle.path.proofs.CodecLaws.{encodes-unique, read-given, read-exactly}
 use Rattle.laying.specs.Laid.{takes, taken, Marks, Laid}
 use Rattle.laying.specs.Answers.{layRefusal, Lays}
-use Rattle.laying.proofs.MarkLaws.{or-false, marks-same}
+use Rattle.laying.proofs.MarkLaws.{marks-same}
 
 -- ---- where nothing is refused
 

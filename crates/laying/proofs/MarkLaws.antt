@@ -2,7 +2,7 @@
 use Prim.Native.Nat.{ℕ, suc, _+_, _-_, _*_, _≤_, _<_}
 use mathlib.Core.Path.{_≡_, refl, sym, ap, ap₂, _∙_, subst}
 use mathlib.Core.Logic.{_⊎_, inl, inr, ⊎-elim}
-use mathlib.Core.Bool.{Bool, true, false, cond, _&&_, _||_}
+use mathlib.Core.Bool.{Bool, true, false, cond, _&&_, _||_, and-true, and-false, or-true, or-false, or-assoc, and-or-distrib-left}
 use mathlib.Core.List.{List, [], _∷_, _++_}
 use native.Mathlib.Omega.{arith}
 use native.Mathlib.Numerals.{add-one}
@@ -35,18 +35,6 @@ use Rattle.laying.specs.Laid.{takes, Marks}
 -- x is server y, and l is level m
 abbrev pub only : ℕ → ℕ → ℕ → ℕ → Bool
 only y m x l = eqb x y && eqb l m
-
-or-true : (p : Bool) → p || true ≡ true
-or-true true = refl
-or-true false = refl
-
-pub or-false : (p : Bool) → p || false ≡ p
-or-false true = refl
-or-false false = refl
-
-pub or-assoc : (p q r : Bool) → p || q || r ≡ p || (q || r)
-or-assoc true q r = refl
-or-assoc false q r = refl
 
 only-own : (y m x l : ℕ) → x ≡ y → l ≡ m → only y m x l ≡ true
 only-own y m x l e f = rw (eq-eqb x y e, eq-eqb l m f)
@@ -109,14 +97,6 @@ marks-then {s} {t} {u} {v} p q r h k e =
 abbrev pub upTo : ℕ → ℕ → ℕ → ℕ → Bool
 upTo y m x l = eqb x y && ltb l m
 
-and-false : (p : Bool) → p && false ≡ false
-and-false true = refl
-and-false false = refl
-
-and-true : (p : Bool) → p && true ≡ p
-and-true true = refl
-and-true false = refl
-
 pub up-none : (y x l : ℕ) → upTo y 0 x l ≡ false
 up-none y x l = ap (λ (b : Bool). eqb x y && b) (le-ltb l 0 (omega arith)) ∙ and-false (eqb x y)
 
@@ -131,12 +111,8 @@ less-more l m =
           ])
     ]
 
-and-or : (p q r : Bool) → p && (q || r) ≡ p && q || p && r
-and-or true q r = refl
-and-or false q r = refl
-
 pub up-more : (y m x l : ℕ) → upTo y (m + 1) x l ≡ upTo y m x l || only y m x l
-up-more y m x l = ap (λ (b : Bool). eqb x y && b) (less-more l m) ∙ and-or (eqb x y) (ltb l m) (eqb l m)
+up-more y m x l = ap (λ (b : Bool). eqb x y && b) (less-more l m) ∙ and-or-distrib-left (eqb x y) (ltb l m) (eqb l m)
 
 pub up-all : {s : Shape} (y m x l : ℕ) → s .k < m → Link s x l → upTo y m x l ≡ eqb x y
 up-all y m x l h k = ap (λ (b : Bool). eqb x y && b) (lt-ltb l m (omega (arith, k .level))) ∙ and-true (eqb x y)
@@ -184,7 +160,7 @@ digit-exactly {s} {y} {m} {v} {x} {l} h k =
 value-more : {s : Shape} {y m v x l : ℕ} → Value s y m v → Link s x l → upToValue s y m (v + 1) x l ≡ upToValue s y m v x l || only (withDigit s m v y) m x l
 value-more {s} {y} {m} {v} {x} {l} h k =
     let e = eqb (switchAt s l x) (switchAt s m y) in
-    ap (λ (b : Bool). e && b) (less-more (digit s m x) v) ∙ and-or e (ltb (digit s m x) v) (eqb (digit s m x) v) ∙ ap (λ (b : Bool). e && ltb (digit s m x) v || b) (digit-exactly h k)
+    ap (λ (b : Bool). e && b) (less-more (digit s m x) v) ∙ and-or-distrib-left e (ltb (digit s m x) v) (eqb (digit s m x) v) ∙ ap (λ (b : Bool). e && ltb (digit s m x) v || b) (digit-exactly h k)
 
 value-all : {s : Shape} {y m v x l : ℕ} → Link s y m → bound s m ≤ v → Link s x l → upToValue s y m v x l ≡ eqb (switchAt s l x) (switchAt s m y)
 value-all {s} {y} {m} {v} {x} {l} h p k =
