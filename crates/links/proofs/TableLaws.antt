@@ -8,7 +8,7 @@ use native.Mathlib.Omega.{arith}
 use native.Mathlib.Decide.{ℕ-discrete}
 use native.Mathlib.Nat.{one-le-pow, lt-of-lt-of-le, pow-le-pow-right}
 use lib.Dec.{eqb, lit<}
-use lib.ListN.{length, getD, set, replicate, length-set}
+use lib.ListN.{length, getD, set, replicate, length-set, length-replicate}
 use lib.Seq.{getD-set-same, getD-set-other, set-getD}
 use borrow.Author.Tests.{lt-ltb, ltb-true, eq-eqb, eqb-true, not-true}
 use Rattle.lists.proofs.ListLaws.{both-held, same-at}
@@ -189,6 +189,14 @@ live-sender t l a b e = rw e
 
 pub live-receiver : (t : List ℕ) (l a b : ℕ) → failed t b l ≡ true → live t l a b ≡ false
 live-receiver t l a b e = live-swap t l a b ∙ live-sender t l b a e
+
+-- the table of a healthy room
+pub zeros-table : (s : Shape) → TableOf s (replicate (serversOf s) 0)
+zeros-table s =
+    record {
+      long = length-replicate {A = ℕ} (serversOf s) 0;
+      fits = λ a. rw (same-at {A = ℕ} 0 (serversOf s) a) (lt-fits (s .k) 0 (one-le-pow (suc (s .k)) 2 (lit< tt)));
+    }
 
 -- over zeros every hop is live
 pub failed-zeros : (m a l : ℕ) → failed (replicate m 0) a l ≡ false
