@@ -1,12 +1,13 @@
 #!/usr/bin/env python3
-"""An independent model of the rules (document 01), for the stored output of the program `worked`.
+"""An independent model of the rules (document 01), for the stored output of the programs `worked_..`.
 
-  tests/worked/model.py            recompute every row of crates/worked/stdout and say which differ
-  tests/worked/model.py FILE       the same for another file of rows
+  tests/worked/model.py            recompute every row of crates/worked_*/stdout and say which differ
+  tests/worked/model.py FILE..     the same for other files of rows
 
 A row is a question, ' = ' and an answer. The model shares nothing with the library: digits are lists, neighbours are found
 by comparing digits, and an alternate is found by trying all routes in order.
 """
+import glob
 import itertools
 import os
 import re
@@ -373,13 +374,10 @@ def answer(name, n, k, words):
     raise SystemExit(f'no such question: {name}')
 
 
-def main():
-    here = os.path.dirname(os.path.abspath(__file__))
-    file = sys.argv[1] if len(sys.argv) > 1 else os.path.join(here, '../../crates/worked/stdout')
+def recompute(file):
+    """How many rows a file has, and how many of them differ from the model's."""
     rows = differ = 0
     for line in open(file, encoding='ascii'):
-        if ' = ' not in line:
-            continue
         question, got = line.rstrip('\n').split(' = ')
         m = re.match(r'(\w+) \((\d+),(\d+)\)(.*)', question)
         try:
@@ -390,8 +388,17 @@ def main():
         if want != got:
             differ += 1
             print(f'{question}\n  stored: {got}\n  model:  {want}')
+    print(f'{os.path.basename(os.path.dirname(file))}: {rows} rows, {differ} differ')
+    return rows, differ
+
+
+def main():
+    here = os.path.dirname(os.path.abspath(__file__))
+    files = sys.argv[1:] or sorted(glob.glob(os.path.join(here, '../../crates/worked_*/stdout')))
+    counts = [recompute(file) for file in files]
+    rows, differ = sum(c[0] for c in counts), sum(c[1] for c in counts)
     print(f'{rows} rows, {differ} differ')
-    return 1 if differ else 0
+    return 1 if differ or not rows else 0
 
 
 if __name__ == '__main__':

@@ -1,7 +1,6 @@
 -- Lent buffers and the words of the calls from C, proved.
-use Prim.Native.Nat.{ℕ, zero, suc, _≤_, _<_}
-use mathlib.Core.Path.{_≡_, refl, sym, ap, _∙_}
-use mathlib.Core.Logic.{_≢_}
+use Prim.Native.Nat.{ℕ, zero, suc, _+_, _*_, _/_, _%_, _≤_, _<_}
+use mathlib.Core.Path.{_≡_, refl, sym, ap, subst, _∙_}
 use mathlib.Core.Bool.{Bool, true, false, cond}
 use mathlib.Core.List.{List, [], _∷_}
 use native.Mathlib.Omega.{arith}
@@ -11,24 +10,33 @@ use Rattle.refusals.specs.Refusals.{answer}
 use Rattle.room.specs.Refusals.{shapeRefusal}
 use Rattle.room.specs.Answers.{betweenAnswer}
 use Rattle.links.specs.Answers.{failedAnswer, linkAnswer, changedTable}
-use Rattle.step.proofs.PackLaws.{step-unpacks}
-use Rattle.driver.specs.Words.{word, refusalIn, valueIn, Small, betweenWord, askedWord}
-use Rattle.driver.proofs.WordLaws.{refusal-back, value-back, plain-small, left-lent}
+use Rattle.step.specs.declared.Step.{Step}
+use Rattle.step.specs.Steps.{stepAnswer}
+use Rattle.step.specs.Packed.{flagOf, packed, macNumber, unpacked}
+use Rattle.step.proofs.PackLaws as packs
+use Rattle.step.proofs.PackLaws.{packed-fields, unpack-packed, mac-made, step-small, step-unpacks}
+use Rattle.driver.specs.Words.{word, refusalIn, Small, left, betweenWord, askedWord}
+use Rattle.driver.proofs.WordLaws.{refusal-back, value-back, plain-small, left-given, left-lent}
 use Rattle.driver.proofs.BoundLaws.{shape-le}
 use Rattle.driver.proofs.RoomSmall.{servers-small, bound-small, digit-small, address-small, neighbour-small, switch-small, between-level, between-fits, digits-fits, asked-fits, link-fits}
 use Rattle.driver.proofs.PathSmall.{read-small, reverse-small, write-small, check-small}
 use Rattle.driver.proofs.RouteSmall.{build-small, find-small, select-small}
 use Rattle.driver.proofs.PickSmall.{pick-small}
-use Rattle.demands.specs.Demand1.{EveryBuffer, Tells, EveryWord}
+use Rattle.demands.specs.Buffers.{Holds, EveryBuffer, Tells, TellsStep, EveryWord}
 
 -- ---- the words
 
+-- the byte above the refusal
+between : (r : Refusal) (v : ℕ) → Small r v → word r v / 16777216 % 256 ≡ 0
+unfolding word
+between r v h = omega (arith, h .number, h .route, h .hop)
+
 tells : {r : Refusal} {v : ℕ} → Small r v → Tells (word r v) r v
-tells {r} {v} h = (refusal-back r v h, value-back r v h)
+tells {r} {v} h = record { refusal = refusal-back r v h; value = value-back r v h; between = between r v h }
 
 -- a word that was made of a refusal and a number
 said : {r : Refusal} {v w : ℕ} → w ≡ word r v → Small r v → Tells w r v
-said {r} {v} e h = (ap refusalIn e ∙ refusal-back r v h, ap valueIn e ∙ value-back r v h)
+said {r} {v} e h = subst (λ (w : ℕ). Tells w r v) (sym e) (tells h)
 
 level-small : (b : Bool) (l : ℕ) → l ≤ 3 → cond b (suc l) 0 < 4294967296
 level-small true l h = omega arith
@@ -37,6 +45,33 @@ level-small false l h = lit< tt
 bit-small : (b : Bool) → cond b 1 0 < 4294967296
 bit-small true = lit< tt
 bit-small false = lit< tt
+
+-- the bytes of a step's two numbers
+tells-step : (x : Step) → packs.Small x → TellsStep (packed x) (macNumber (x .mac)) x
+unfolding packed unpacked
+tells-step x h =
+    let f = packed-fields x h in
+    let m = macNumber (x .mac) in
+    record {
+      number = f .number;
+      hop = f .hop;
+      delivered = f .delivered;
+      index = f .index;
+      next = f .next;
+      port = top (x .refusal .number) (x .refusal .hop) (flagOf (x .delivered)) (x .index) (x .next) (x .port) (h .number) (h .hop) (bit-small (x .delivered)) (h .index) (h .next);
+      mac = ap (λ (y : ℕ). y ∷ m / 4294967296 % 256 ∷ m / 16777216 % 256 ∷ m / 65536 % 256 ∷ m / 256 % 256 ∷ m % 256 ∷ []) (high m (omega (arith, mac-made (x .mac) (h .long), h .mac .at 0, h .mac .at 1, h .mac .at 2, h .mac .at 3, h .mac .at 4, h .mac .at 5))) ∙ ap (λ (y : Step). y .mac) (unpack-packed x h);
+      route = h .route;
+    }
+  where
+    top : (a b c d e f : ℕ) → a < 256 → b < 256 → c < 256 → d < 256 → e < 65536 → (a + 256 * b + 65536 * c + 16777216 * d + 4294967296 * e + 281474976710656 * f) / 281474976710656 ≡ f
+    top a b c d e f p q r u v = omega arith
+
+    bit-small : (b : Bool) → flagOf b < 256
+    bit-small true = lit< tt
+    bit-small false = lit< tt
+
+    high : (m : ℕ) → m < 281474976710656 → m / 1099511627776 ≡ m / 1099511627776 % 256
+    high m p = omega arith
 
 pub every-word : EveryWord
 unfolding betweenWord askedWord
@@ -61,26 +96,36 @@ every-word =
       find = λ s t a d w lent path x. said (x .says) (find-small (x .answer) (x .finding));
       select = λ s t a d w lent routes x. said (x .says) (select-small (x .answer) (x .selecting));
       pick = λ s t a d fs ks. tells (pick-small s t a d fs ks _ refl);
-      step = step-unpacks;
+      step = λ s a d i bs e h. (tells-step (stepAnswer s a d i bs e) (step-small s a d i bs e h), step-unpacks s a d i bs e h);
     }
 
 -- ---- lent buffers
 
-kept : (q : ℕ) (t u : List ℕ) → q ≢ 0 → answer q (λ r. t) u ≡ t
-kept zero t u n = absurd (n refl)
-kept (suc q) t u n = refl
+-- what an answer of a refusal's number leaves
+held : (r : ℕ) (lent written : List ℕ) → Holds r lent written (left r lent written)
+held r lent written = record { written = λ e. sym (left-given r lent written e); kept = λ n. sym (left-lent r lent written n) }
+
+-- the same of a word that tells the number, and a buffer that was left so
+told : (w : ℕ) {r : Refusal} (v : ℕ) {lent written now : List ℕ} → Tells w r v → now ≡ left (r .number) lent written → Holds (refusalIn w .number) lent written now
+told w {r} v {lent} {written} {now} h e =
+    subst (λ (m : ℕ). Holds m lent written now) (ap (λ (x : Refusal). x .number) (sym (h .refusal)))
+    (subst (Holds (r .number) lent written) (sym e) (held (r .number) lent written))
+
+changed : (q : ℕ) (t u : List ℕ) → Holds q t u (answer q (λ r. t) u)
+changed zero t u = record { written = λ e. refl; kept = λ n. absurd (n refl) }
+changed (suc q) t u = record { written = λ e. let z : ⊥ = omega arith in absurd z; kept = λ n. refl }
 
 pub every-buffer : EveryBuffer
 unfolding linkAnswer changedTable
 every-buffer =
     record {
-      marked = λ s t a l n. kept _ t _ n;
-      cleared = λ s t a l n. kept _ t _ n;
-      digits = λ s a lent n. sym (left-lent _ lent _ n);
-      read = λ s a d bs lent n. sym (left-lent _ lent _ n);
-      write = λ s vs lent n. sym (left-lent _ lent _ n);
-      reversed = λ s a d bs lent n. sym (left-lent _ lent _ n);
-      build = λ s a d lent n. sym (left-lent _ lent _ n);
-      find = λ s t a d w lent path x n. x .leaves ∙ sym (left-lent _ lent _ (λ z. n (ap (λ (r : Refusal). r .number) (said (x .says) (find-small (x .answer) (x .finding)) .0) ∙ z)));
-      select = λ s t a d w lent routes x n. x .leaves ∙ sym (left-lent _ lent _ (λ z. n (ap (λ (r : Refusal). r .number) (said (x .says) (select-small (x .answer) (x .selecting)) .0) ∙ z)));
+      marked = λ s t a l. changed _ t _;
+      cleared = λ s t a l. changed _ t _;
+      digits = λ s a lent. held _ lent _;
+      read = λ s a d bs lent. held _ lent _;
+      write = λ s vs lent. held _ lent _;
+      reversed = λ s a d bs lent. held _ lent _;
+      build = λ s a d lent. held _ lent _;
+      find = λ s t a d w lent path x. told w _ (said (x .says) (find-small (x .answer) (x .finding))) (x .leaves);
+      select = λ s t a d w lent routes x. told w _ (said (x .says) (select-small (x .answer) (x .selecting))) (x .leaves);
     }

@@ -1,86 +1,83 @@
--- Demand 2, proved.
-use Prim.Native.Nat.{ℕ, suc, _*_, _^_}
+-- Demand 2, proved: path bytes, the failed-link table, one forwarding step.
+use Prim.Native.Nat.{ℕ, _+_, _*_, _/_, _%_, _^_, _≤_}
 use mathlib.Core.Path.{_≡_, refl, sym, ap, subst, _∙_}
 use mathlib.Core.Bool.{Bool, true, false, cond}
-use mathlib.Core.List.{List, [], _∷_, _++_, reverse}
+use mathlib.Core.List.{List, [], _∷_, reverse}
 use native.Mathlib.Omega.{arith}
-use native.Mathlib.Nat.{pow-suc, pow-zero, mul-zero, mul-add, mul-assoc, mul-comm, one-mul}
+use native.Mathlib.Nat.{add-zero}
 use lib.Dec.{eqb}
-use lib.ListN.{length, getD, take}
-use borrow.Author.Tests.{eq-eqb, ne-eqb}
+use lib.ListN.{length, getD, take, drop}
+use lib.Seq.{take-take}
+use borrow.Author.Tests.{eq-eqb, ne-eqb, eqb-true}
 use Rattle.lists.specs.Lists.{filled}
-use Rattle.lists.proofs.ListLaws.{take-filled}
-use Rattle.refusals.specs.Refusals.{none}
+use Rattle.lists.proofs.ListLaws.{in-exactly, at-in, take-filled}
+use Rattle.refusals.specs.Refusals.{none, _or-else_}
+use Rattle.refusals.proofs.ChainLaws.{or-else-zero}
 use Rattle.refusals.proofs.AnswerLaws.{answered}
 use Rattle.room.specs.declared.Shape.{Shape}
-use Rattle.room.specs.Shapes.{Server, Ends}
-use Rattle.room.specs.Digits.{addressOf}
-use Rattle.room.specs.Addresses.{digits, digit}
+use Rattle.room.specs.Shapes.{Server, Link}
+use Rattle.room.specs.Addresses.{switchOf}
+use Rattle.room.specs.Refusals.{serverRefusal}
+use Rattle.room.proofs.RefusalLaws.{server-of}
 use Rattle.room.proofs.RoomLaws as rooms
-use Rattle.room.proofs.RefusalLaws.{ends-of}
-use Rattle.links.specs.Answers.{linkAnswer}
+use Rattle.links.specs.declared.Asked.{Asked}
+use Rattle.links.specs.Table.{bit, failed, tableLinkRefusal}
+use Rattle.links.specs.Answers.{notAsked, asked, failedAnswer, linkAnswer}
 use Rattle.links.proofs.TableLaws as tables
 use Rattle.links.proofs.AnswerLaws.{changed-answered, change-again}
-use Rattle.path.specs.Routes.{levelOf, valueOf}
+use Rattle.path.specs.declared.Hop.{Hop}
 use Rattle.path.specs.declared.Reading.{Reading}
+use Rattle.path.specs.Routes.{byteOf, switchTo, byteTo}
 use Rattle.path.specs.Walks.{hopTo, hopRefusal}
-use Rattle.path.proofs.HopLaws.{hop-exactly, hop-server, hop-neighbours}
+use Rattle.path.specs.Answers.{noHop, aHop, hopAnswer}
+use Rattle.path.proofs.HopLaws.{switch-id, hop-exactly, hop-server, hop-neighbours, level-only}
 use Rattle.path.proofs.CodecLaws as codec
-use Rattle.build.specs.Built.{builtRoute, builtHops}
-use Rattle.build.proofs.BuiltLaws as built
-use Rattle.select.specs.Selection.{Slot, kept, replaced, nothing}
+use Rattle.select.proofs.HeldLaws.{eight-bytes}
 use Rattle.select.proofs.SelectLaws as selected
-use Rattle.select.proofs.SelectLaws.{gives, At, slots-at}
-use Rattle.pick.specs.Picks.{pickAnswer}
-use Rattle.pick.proofs.Promises.{sixteen-exactly}
 use Rattle.step.specs.declared.Step.{Step}
-use Rattle.step.specs.Steps.{stepRefusal, placed, noStep, delivery, forwarded, stepAnswer}
+use Rattle.step.specs.Steps.{entry, macAt, portAt, flagAt, stepRefusal, placed, noStep, delivery, forwarded, stepAnswer}
 use Rattle.step.proofs.StepLaws.{placed-number, goes-of}
-use Rattle.demands.specs.Demand2.{weighed, AddressesExactly, DigitsExactly, SwitchesExactly, SwitchesNumbered, NeighboursExactly, BuiltExactly, ReadExactly, WriteExactly, ReadThenWrite, WriteThenRead, ReverseThenRead, ReverseTwice, SlotGives, BrokenGivesWay, NoRouteExactly, NonePickedExactly, Changes, Marking, Clearing, Goes, StepGoes, StepDelivers}
-
--- ---- addresses, switches and built routes
-
--- a number read from the top is the sum of its digits times their weights
-weighed-from : (n i : ℕ) (ds : List ℕ) → weighed n i ds ≡ n ^ i * addressOf n ds
-unfolding addressOf
-weighed-from n i [] = sym (mul-zero (n ^ i))
-weighed-from n i (d ∷ ds) = rw (weighed-from n (suc i) ds, pow-suc n i, mul-add (n ^ i) d (n * addressOf n ds), mul-comm (n ^ i) d, mul-assoc (n ^ i) n (addressOf n ds))
-
-weighed-sum : (n : ℕ) (ds : List ℕ) → weighed n 0 ds ≡ addressOf n ds
-weighed-sum n ds = weighed-from n 0 ds ∙ rw (pow-zero n, one-mul (addressOf n ds))
-
-pub addresses-exactly : AddressesExactly
-addresses-exactly s a h = (rooms.written-digits h, weighed-sum (s .n) _ ∙ rooms.read-back h)
-
-pub digits-exactly : DigitsExactly
-digits-exactly s ds v w =
-    let e = weighed-sum (s .n) ds in
-    (subst (Server s) (sym e) (rooms.written-server v w), ap (digits s) e ∙ rooms.write-back v w)
-
-pub switches-exactly : SwitchesExactly
-switches-exactly s l a b h g = rooms.switch-exactly h g
-
-pub switches-numbered : SwitchesNumbered
-switches-numbered s l v p = record { below = λ a h. rooms.switch-lt (record { server = h; level = p }); all = λ w q. let j = rooms.switch-all v p w q in (j .who, j .server, j .there) }
-
-pub neighbours-exactly : NeighboursExactly
-neighbours-exactly s a b l h g = rooms.neighbours-exactly h g l
-
-pub built-exactly : BuiltExactly
-built-exactly s a d i e p =
-    let h = ends-of s a d e in
-    record {
-      route = built.built-route s a d (h .source) (h .destination) (h .differ) i p;
-      bytes = built.built-encode s a d (h .source) (h .destination) (h .differ) i p;
-      direct = λ q. omega (arith, long h, built.built-direct s a d (h .source) (h .destination) (h .differ) i p q);
-      detour = λ q. omega (arith, long h, built.built-detour s a d (h .source) (h .destination) (h .differ) i p q);
-      short = omega (arith, long h, built.built-short s a d (h .source) (h .destination) (h .differ) i p);
-    }
-  where
-    long : Ends s a d → length (builtRoute s i a d) ≡ suc (length (builtHops s i a d))
-    long h = built.route-long s a d (h .source) (h .destination) (h .differ) i p
+use Rattle.demands.specs.Demand2.{BytesExactly, HopSwitches, Leads, HopExactly, AmongExactly, RoutesAnswered, ReadExactly, WriteExactly, ReadThenWrite, WriteThenRead, ReverseThenRead, ReverseTwice, NoRouteExactly, FailedExactly, AskedExactly, LiveExactly, Changes, Marking, Clearing, Goes, StepGoes, StepDelivers}
 
 -- ---- servers to bytes and bytes to servers
+
+pub bytes-exactly : BytesExactly
+unfolding byteTo byteOf
+bytes-exactly s a b l h g n = rw (level-only h g n)
+
+pub hop-switches : HopSwitches
+unfolding switchTo
+hop-switches s a b l c e m x y =
+    let h : Link s a l = record { server = x .0; level = x .2 .level } in
+    let g : Link s c m = record { server = y .0; level = y .2 .level } in
+    let i = switch-id h g in
+    rw (level-only (x .0) (x .1) (x .2), level-only (y .0) (y .1) (y .2)) (
+      λ q. let p = i .0 q in (p .0, rooms.switch-same h (y .0) (p .1 ∙ ap (λ (j : ℕ). switchOf s j c) (sym (p .0)))),
+      λ p. i .1 (p .0, rooms.same-switch (x .2 .level) (p .1) ∙ ap (λ (j : ℕ). switchOf s j c) (p .0)),
+    )
+
+hop-leads : {s : Shape} {a : ℕ} → Server s a → (b : ℕ) → hopRefusal s a b ≡ 0 → Leads s a b (hopTo s a b)
+unfolding hopTo
+hop-leads h b t = record { server = hop-server h b t; neighbour = hop-neighbours h b t; value = rooms.with-same (hop-exactly h b .0 t .0) }
+
+pub hop-exact : HopExactly
+unfolding hopAnswer
+hop-exact s a b z =
+    let p = answered (λ (x : Hop). x .number) noHop (λ r. refl) (serverRefusal s a or-else hopRefusal s a b) (hopAnswer s a b) (aHop (hopTo s a b)) refl z in
+    let q = or-else-zero (serverRefusal s a) (hopRefusal s a b) (p .0) in
+    subst (λ (x : Hop). Leads s a b (x .next)) (sym (p .1)) (hop-leads (server-of s a (q .0)) b (q .1))
+
+pub among-exactly : AmongExactly
+among-exactly x xs = (λ e. let h = in-exactly x xs .0 e in (h .place, h .inside, h .there), λ p. at-in x xs (p .0) (p .1) (p .2))
+
+pub routes-answered : RoutesAnswered
+routes-answered s a d bs vs e =
+    record {
+      walked = λ t r. codec.walk-given (record { route = r; bytes = e .bytes });
+      read = codec.read-given e;
+      reversed = codec.reverse-given e;
+      written = codec.write-given (e .route .route) ∙ ap (λ (x : List ℕ). record { refusal = none; bytes = x }) (sym (e .bytes));
+    }
 
 pub read-exactly : ReadExactly
 read-exactly = codec.read-exactly
@@ -106,68 +103,25 @@ reverse-twice = codec.reverse-twice
 
 -- ---- selection
 
--- one slot, by what it gives
-slot-gives : {s : Shape} {t : List ℕ} {a d i : ℕ} {routes : List (List ℕ)} (h : At s t a d (suc (s .k)) i [] routes) → SlotGives s t a d i routes
-slot-gives {s} {t} {a} {d} {i} {routes} h = of (h .given) (h .slot) (h .whole)
-  where
-    of : (given : List (List ℕ)) → Slot s t a d i (h .higher) given → routes ≡ h .higher ++ given ++ h .lowers → SlotGives s t a d i routes
-    of given (kept u) e =
-        record {
-          higher = h .higher;
-          given = given;
-          lower = h .lowers;
-          whole = e;
-          before = omega (arith, h .few-higher);
-          after = h .few-lower;
-          kept = λ x. refl;
-          replaced = λ n vs p q. absurd (n u);
-          nothing = λ n x. absurd (n u);
-        }
-    of given (replaced {vs} n g) e =
-        record {
-          higher = h .higher;
-          given = given;
-          lower = h .lowers;
-          whole = e;
-          before = omega (arith, h .few-higher);
-          after = h .few-lower;
-          kept = λ x. absurd (n x);
-          replaced = λ m us p q. (vs, refl, g);
-          nothing = λ m x. absurd (x vs (g .route) (g .avoids));
-        }
-    of given (nothing n x) e =
-        record {
-          higher = h .higher;
-          given = given;
-          lower = h .lowers;
-          whole = e;
-          before = omega (arith, h .few-higher);
-          after = h .few-lower;
-          kept = λ y. absurd (n y);
-          replaced = λ m vs p q. absurd (x vs p q);
-          nothing = λ m y. refl;
-        }
-
-pub broken-gives-way : BrokenGivesWay
-broken-gives-way s t a d r f z =
-    let g = gives f z in
-    record {
-      routes = g .routes;
-      written = g .written;
-      slot = λ i p. slot-gives (slots-at s t a d (suc (s .k)) i (omega arith) (g .slots));
-    }
-
 pub no-route-exactly : NoRouteExactly
 no-route-exactly s t a d r f = (
-  λ n. let e = selected.sixteen-only s t a d r f n in (e, selected.sixteen-exactly s t a d r e f .0 n),
-  λ p. selected.sixteen-exactly s t a d r (p .0) f .1 (p .1),
+  λ n. let e = selected.sixteen-only s t a d r f n in (e, selected.none-selected-exactly s t a d r e f .0 n),
+  λ p. selected.none-selected-exactly s t a d r (p .0) f .1 (p .1),
 )
 
-pub none-picked-exactly : NonePickedExactly
-unfolding pickAnswer
-none-picked-exactly s t a d fs ks = sixteen-exactly s t a d fs ks
-
 -- ---- the failed-link table
+
+pub failed-exactly : FailedExactly
+unfolding failed bit
+failed-exactly t a l = (eqb-true (getD t a 0 / 2 ^ l % 2) 1, eq-eqb (getD t a 0 / 2 ^ l % 2) 1)
+
+pub asked-exactly : AskedExactly
+unfolding failedAnswer
+asked-exactly s t a l z =
+    ap (λ (x : Asked). x .failed) (answered (λ (x : Asked). x .refusal .number) notAsked (λ r. refl) (tableLinkRefusal s t a l) (failedAnswer s t a l) (asked (failed t a l)) refl z .1)
+
+pub live-exactly : LiveExactly
+live-exactly = tables.live-exactly
 
 pub marking : Marking
 unfolding linkAnswer
@@ -208,28 +162,29 @@ unfolding stepAnswer
 step-answered s a d i bs e z =
     answered (λ (x : Step). x .refusal .number) (λ r. noStep (placed i r)) (λ r. placed-number i r) (stepRefusal s a d i bs e) (stepAnswer s a d i bs e) _ refl z
 
-hop-digit : {s : Shape} {a : ℕ} → Server s a → (b : ℕ) → hopRefusal s a b ≡ 0 → digit s (levelOf b) (hopTo s a b) ≡ valueOf b
-unfolding hopTo
-hop-digit h b t = rooms.with-same (hop-exactly h b .0 t .0)
+-- the six bytes from a place on
+six : (p : ℕ) (e : List ℕ) → p + 8 ≤ length e → getD e (p + 0) 0 ∷ getD e (p + 1) 0 ∷ getD e (p + 2) 0 ∷ getD e (p + 3) 0 ∷ getD e (p + 4) 0 ∷ getD e (p + 5) 0 ∷ [] ≡ take 6 (drop p e)
+six p e h = rw (add-zero p) (ap (take 6) (eight-bytes p e h) ∙ take-take 6 8 (drop p e) (omega arith))
 
 pub step-goes : StepGoes
+unfolding macAt portAt flagAt entry
 step-goes s a d i bs e n z =
     let p = step-answered s a d i bs e z in
     let g = goes-of s a d i bs e (p .0) n in
     let b = getD bs i 0 in
     let h = g .given .here in
+    let l = hop-exactly h b .0 (g .taken) .0 .link .level in
     let q : stepAnswer s a d i bs e ≡ forwarded s a i e b = p .1 ∙ ap (λ (x : Bool). cond x delivery (forwarded s a i e b)) (ne-eqb a d n) in (
       g .index,
       subst (Goes s a i e b) (sym q)
           (record {
             refusal = refl;
             delivered = refl;
-            server = hop-server h b (g .taken);
-            neighbour = hop-neighbours h b (g .taken);
-            value = hop-digit h b (g .taken);
+            leads = hop-leads h b (g .taken);
             index = refl;
-            mac = refl;
+            mac = six (8 * b) e (omega (arith, h .valid .levels, g .given .table));
             port = refl;
+            available = g .flag;
           }),
     )
 

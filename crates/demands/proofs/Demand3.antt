@@ -1,11 +1,15 @@
 -- Demand 3, proved.
-use Prim.Native.Nat.{ℕ, zero, suc, _+_, _-_, _*_, _≤_, _<_, suc-le-suc, zero-le}
+use Prim.Native.Nat.{ℕ, zero, suc, _+_, _-_, _*_, _/_, _%_, _≤_, _<_, suc-le-suc, zero-le}
 use mathlib.Core.Path.{_≡_, refl, sym, ap, ap₂, subst, _∙_}
+use mathlib.Core.Logic.{_↔_}
+use mathlib.Core.Bool.{Bool, true, false, cond}
 use mathlib.Core.List.{List, [], _∷_, _++_, map}
 use native.Mathlib.Omega.{arith}
+use native.Mathlib.Decide.{ℕ-discrete, decLt}
 use native.Mathlib.Nat.{le-of-suc-le-suc, le-refl, zero-add, suc-add}
-use lib.ListN.{length, getD, take, drop, replicate, length-append}
-use lib.Seq.{take-at}
+use lib.Dec.{eqb, lit<}
+use lib.ListN.{length, getD, take, drop, replicate, length-append, List·getD-append, List·getD-eq-default}
+use lib.Seq.{take-at, getD-append-seam}
 use Rattle.lists.specs.Lists.{filled, downFrom}
 use Rattle.lists.proofs.ListLaws.{take-filled}
 use Rattle.refusals.specs.declared.Refusal.{Refusal}
@@ -13,12 +17,14 @@ use Rattle.refusals.specs.Refusals.{none, plain}
 use Rattle.refusals.proofs.ChainLaws.{chain-goes, or-else-zero}
 use Rattle.refusals.proofs.AnswerLaws.{answered}
 use Rattle.room.specs.declared.Shape.{Shape}
+use Rattle.room.specs.Shapes.{serversOf, Ends}
 use Rattle.room.specs.Refusals.{endsRefusal}
-use Rattle.room.specs.Shapes.{Ends}
 use Rattle.room.proofs.RefusalLaws.{ends-of, ends-none}
 use Rattle.links.specs.Table.{live, tableRefusal, roomRefusal}
+use Rattle.links.proofs.TableLaws.{table-none, zeros-table, failed-zeros}
 use Rattle.path.specs.declared.Reading.{Reading}
-use Rattle.path.specs.Routes.{RouteTo, Parallel, Encodes, encode}
+use Rattle.path.specs.Routes.{RouteTo, Parallel, Encodes, encode, levelOf}
+use Rattle.path.specs.Walks.{hopTo}
 use Rattle.path.specs.Answers.{readAnswer}
 use Rattle.path.proofs.ReverseLaws.{source-server, dest-server, ends-differ, route-to-plain}
 use Rattle.path.proofs.CodecLaws.{encode-long, read-given}
@@ -32,9 +38,11 @@ use Rattle.build.specs.Answers.{buildAnswer, noBuilding, aBuilding}
 use Rattle.build.proofs.ArrayLaws.{arrays-count}
 use Rattle.build.proofs.BuiltLaws.{built-route, built-encode, built-parallel}
 use Rattle.select.proofs.SelectLaws.{selection-checked}
+use Rattle.step.specs.Steps.{entry, flagAt}
+use Rattle.step.specs.Packed.{flagOf}
 use Rattle.step.specs.Delivery.{Tables}
 use Rattle.step.proofs.DeliveryLaws.{each-hop, then-delivered}
-use Rattle.demands.specs.Demand3.{arrayAt, serversRead, AcceptedExactly, Healthy, BuiltAccepted, SelectionAccepted, Delivers, Delivery}
+use Rattle.demands.specs.Demand3.{arrayAt, serversRead, AcceptedExactly, Healthy, HealthyExists, BuiltAccepted, TablesExist, SelectionAccepted, Delivers, Delivery}
 
 -- a list that is accepted is not refused as a whole
 checked-room : (s : Shape) (t : List ℕ) (a d : ℕ) (bs : List ℕ) → checkAnswer s t a d bs ≡ none → tableRefusal s t ≡ 0
@@ -74,6 +82,16 @@ healthy-route {s} {t} h r =
       source = r .source;
       arrives = r .arrives;
     }
+
+pub healthy-exists : HealthyExists
+healthy-exists s v =
+    let n = serversOf s in (
+      replicate n 0,
+      record {
+        table = sym (table-none (zeros-table s));
+        all = λ a l. failed-zeros n a l;
+      },
+    )
 
 -- a list over the slots m - 1 down to 0
 slot-at : {A : Type 0} (f : ℕ → A) (m i : ℕ) (x : A) → i < m → getD (map f (downFrom m)) i x ≡ f (m - suc i)
@@ -149,6 +167,67 @@ pub selection-accepted : SelectionAccepted
 selection-accepted = selection-checked
 
 -- ---- delivery
+
+-- the numbers f 0, .. , f (m - 1)
+upTo : (ℕ → ℕ) → ℕ → List ℕ
+upTo f zero = []
+upTo f (suc m) = upTo f m ++ (f m ∷ [])
+
+up-long : (f : ℕ → ℕ) (m : ℕ) → length (upTo f m) ≡ m
+unfolding upTo
+up-long f zero = refl
+up-long f (suc m) = length-append (upTo f m) (f m ∷ []) ∙ omega (arith, up-long f m)
+
+up-at : (f : ℕ → ℕ) (m j : ℕ) → j < m → getD (upTo f m) j 0 ≡ f j
+unfolding upTo
+up-at f zero j h = let z : ⊥ = omega arith in absurd z
+up-at f (suc m) j h =
+    elim (ℕ-discrete j m) [
+      | yes e ↦ ap (λ (i : ℕ). getD (upTo f m ++ (f m ∷ [])) i 0) (e ∙ sym (up-long f m)) ∙ getD-append-seam (upTo f m) (f m) [] 0 ∙ ap f (sym e)
+      | no e ↦ List·getD-append (upTo f m) (f m ∷ []) 0 j (omega (arith, up-long f m)) ∙ up-at f m j (omega arith)
+    ]
+
+-- the neighbour table of server a: each flag 1 where both links of its hop are live, all else zero
+pub tableFor : Shape → List ℕ → ℕ → List ℕ
+tableFor s t a = upTo (λ j. cond (eqb (j % 8) 7) (flagOf (live t (j / 8 / 64) a (hopTo s a (j / 8)))) 0) 2048
+
+table-flag : (s : Shape) (t : List ℕ) (a b : ℕ) → b < 256 → flagAt (tableFor s t a) b ≡ flagOf (live t (levelOf b) a (hopTo s a b))
+unfolding flagAt entry tableFor
+table-flag s t a b h =
+    let m : (8 * b + 7) % 8 ≡ 7 = omega arith in
+    let n : (8 * b + 7) / 8 ≡ b = omega arith in
+    up-at _ 2048 (8 * b + 7) (omega arith)
+    ∙ ap₂ (λ (x y : ℕ). cond (eqb x 7) (flagOf (live t (levelOf y) a (hopTo s a y))) 0) m n
+
+table-bytes : (s : Shape) (t : List ℕ) (a j : ℕ) → getD (tableFor s t a) j 0 < 256
+unfolding tableFor
+table-bytes s t a j =
+    elim (decLt j 2048) [
+      | yes h ↦ rw (up-at (λ j. cond (eqb (j % 8) 7) (flagOf (live t (j / 8 / 64) a (hopTo s a (j / 8)))) 0) 2048 j h) (small (eqb (j % 8) 7) (live t (j / 8 / 64) a (hopTo s a (j / 8))))
+      | no h ↦ let z : length (tableFor s t a) ≤ j = omega (arith, up-long (λ j. cond (eqb (j % 8) 7) (flagOf (live t (j / 8 / 64) a (hopTo s a (j / 8)))) 0) 2048) in rw (List·getD-eq-default (tableFor s t a) 0 z) (lit< tt)
+    ]
+  where
+    small : (x y : Bool) → cond x (flagOf y) 0 < 256
+    small true true = lit< tt
+    small true false = lit< tt
+    small false y = lit< tt
+
+pub tables-exist : TablesExist
+unfolding tableFor
+tables-exist s t = (
+  tableFor s t,
+  record { long = λ a h. up-long _ 2048; agree = λ a h. record { flags = λ b p e. flags a b p } },
+  λ a. record { at = table-bytes s t a },
+)
+  where
+    one : (x : Bool) → (flagOf x ≡ 1) ↔ (x ≡ true)
+    one true = (λ e. refl, λ e. refl)
+    one false = (λ e. let z : ⊥ = omega arith in absurd z, λ e. let z : _≡_ {A = ℕ} 0 1 = cc in let n : ⊥ = omega arith in absurd n)
+
+    flags : (a b : ℕ) → b < 256 → (flagAt (tableFor s t a) b ≡ 1) ↔ (live t (levelOf b) a (hopTo s a b) ≡ true)
+    flags a b p =
+        let q = one (live t (levelOf b) a (hopTo s a b)) in
+        (λ e. q .0 (sym (table-flag s t a b p) ∙ e), λ e. table-flag s t a b p ∙ q .1 e)
 
 -- bytes that are those of a route over live links
 pub encoded-delivery : (s : Shape) (t : List ℕ) (a d : ℕ) (bs vs : List ℕ) (tables : ℕ → List ℕ) → Encodes s t a d bs vs → Tables s t tables → Delivers s d bs tables a vs

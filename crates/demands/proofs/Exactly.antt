@@ -1,306 +1,259 @@
--- No refusal exactly when the arguments are as they must be, proved.
-use Prim.Native.Nat.{ℕ, zero, suc, _+_, _*_, _%_, _≤_, _<_}
+-- Each call gives exactly the refusal of the first test that fails, proved.
+use Prim.Native.Nat.{ℕ, zero, suc, _+_, _/_, _<_}
 use mathlib.Core.Path.{_≡_, refl, sym, ap, _∙_, subst}
-use mathlib.Core.Logic.{_↔_, _⊎_, inl, inr, ⊎-elim}
-use mathlib.Core.Bool.{Bool, true, false, cond, _&&_}
-use mathlib.Core.List.{List, [], _∷_}
+use mathlib.Core.Logic.{_≢_, _↔_, _⊎_, inl, inr}
+use mathlib.Core.Bool.{Bool, true, false, cond}
+use mathlib.Core.List.{List, [], _∷_, _++_}
 use native.Mathlib.Omega.{arith}
-use native.Mathlib.Decide.{decLt, ℕ-discrete}
-use lib.Dec.{leb, eqb}
+use native.Mathlib.Decide.{ℕ-discrete}
+use lib.Dec.{ltb, eqb}
 use lib.ListN.{length, getD}
-use borrow.Author.Tests.{le-leb, lt-leb, leb-true, leb-false, eq-eqb, eqb-true}
-use Rattle.lists.proofs.ListLaws.{both-held}
+use borrow.Author.Tests.{eq-eqb, ne-eqb, eqb-true}
 use Rattle.refusals.specs.declared.Refusal.{Refusal}
-use Rattle.refusals.specs.Refusals.{none, plain, _or-else_, _unless_, answer}
-use Rattle.refusals.proofs.ChainLaws.{or-else-zero, chain-goes, test-held}
+use Rattle.refusals.specs.Refusals.{none, plain, refusedAt, _or-else_, _unless_, answer}
+use Rattle.refusals.proofs.AnswerLaws.{answer-none}
 use Rattle.room.specs.declared.Shape.{Shape}
-use Rattle.room.specs.declared.Number.{Number}
+use Rattle.room.specs.declared.Number.{Number as Numbered}
 use Rattle.room.specs.declared.Digits.{Digits}
 use Rattle.room.specs.declared.Switch.{Switch}
 use Rattle.room.specs.declared.Between.{Between}
-use Rattle.room.specs.Shapes.{serversOf, bound, Server}
 use Rattle.room.specs.Addresses.{differing}
-use Rattle.room.specs.Refusals.{shapeRefusal, levelRefusal, serverRefusal, pairRefusal, linkRefusal, valueRefusal, placeBound, placesRefusal, endsRefusal}
+use Rattle.room.specs.Refusals.{shapeRefusal, levelRefusal, serverRefusal, pairRefusal, linkRefusal, valueRefusal, placesRefusal, endsRefusal}
 use Rattle.room.specs.Answers.{noNumber, noDigits, noSwitch, noBetween, onlyLevel, serversAnswer, boundAnswer, digitsAnswer, digitAnswer, addressAnswer, switchAnswer, neighbourAnswer, betweenAnswer}
-use Rattle.room.proofs.RefusalLaws.{valid-of, valid-none, level-of, level-none, server-of, server-none, pair-of, pair-none, link-of, link-none, value-of, value-none, Places, places-of, places-none, ends-of, ends-none}
 use Rattle.links.specs.declared.Asked.{Asked}
-use Rattle.links.specs.Table.{tableRefusal, tableLinkRefusal, TableOf, roomRefusal}
+use Rattle.links.specs.Table.{roomTableRefusal, tableLinkRefusal, roomRefusal}
 use Rattle.links.specs.Answers.{notAsked, failedAnswer, linkAnswer}
-use Rattle.links.proofs.TableLaws.{table-of, table-none, room-table-of, room-table-none, table-link-of, table-link-none}
 use Rattle.path.specs.declared.Hop.{Hop}
-use Rattle.path.specs.Routes.{RouteTo}
-use Rattle.path.specs.Walks.{hopRefusal}
-use Rattle.path.specs.Answers.{noHop, hopAnswer}
-use Rattle.path.proofs.HopLaws.{hop-exactly}
-use Rattle.path.proofs.CodecLaws.{walk-exactly, read-exactly, reverse-exactly, write-exactly}
-use Rattle.verdict.specs.Checks.{checkAnswer}
-use Rattle.verdict.specs.Accepted.{Accepted}
+use Rattle.path.specs.declared.Walked.{Walked}
+use Rattle.path.specs.declared.Writing.{Writing}
+use Rattle.path.specs.Walks.{Walk, stopped, arrived, walk, hopTo, hopRefusal}
+use Rattle.path.specs.Answers.{noHop, aHop, hopAnswer, arrayRefusal, noWalk, walked, walkAnswer, readAnswer, noWriting, reversed, reverseAnswer}
+use Rattle.path.proofs.CodecLaws.{walk-exactly}
 use Rattle.build.specs.declared.Building.{Building}
 use Rattle.build.specs.Answers.{noBuilding, buildAnswer}
 use Rattle.finder.specs.declared.Found.{Found}
 use Rattle.finder.specs.Answers.{Finding}
 use Rattle.select.specs.declared.Selection.{Selection}
 use Rattle.select.specs.Selection.{selection, Selecting}
-use Rattle.select.proofs.SelectLaws.{gives, sixteen-exactly}
-use Rattle.pick.specs.Picks.{Source, inFresh, inKept, nowhere, found, fits, listsRefusal, missing, pickRefusal, pickAnswer}
-use Rattle.pick.specs.Chosen.{NoneUsable}
-use Rattle.pick.proofs.Promises as picks
-use Rattle.step.specs.declared.Step.{Step}
-use Rattle.step.specs.Steps.{givenRefusal, awayRefusal, stepRefusal, noStep, placed, delivery, forwarded, stepAnswer}
-use Rattle.step.proofs.StepLaws.{given-of, given-none, goes-of, goes-none, placed-number}
-use Rattle.demands.specs.Demand1.{ofAHop, Place, whole, at-hop, no-arrival, later, Ports, Fits, TwoServers, TwoLists, NamesHop, Steps, RefusedExactly}
-use Rattle.demands.proofs.Demand1.{every-call}
-use Rattle.demands.proofs.Demand3.{accepted-exactly}
+use Rattle.select.proofs.SlotLaws.{member-at}
+use Rattle.select.proofs.SelectLaws.{gives, none-selected-exactly}
+use Rattle.pick.specs.Picks.{usable, Source, inFresh, inKept, nowhere, found, listsRefusal, pickSource, missing, pickRefusal, pickAnswer, arrayAt}
+use Rattle.pick.specs.Chosen.{FirstUsable, NoneUsable, Chosen}
+use Rattle.pick.specs.Places.{placeOf, placeAnswer}
+use Rattle.pick.proofs.UsableLaws.{usable-walk, array-long, clash}
+use Rattle.pick.proofs.Promises.{source-chosen}
+use Rattle.step.specs.Steps.{givenRefusal, byteRefusal, awayRefusal, stepRefusal, atHop, placed, noStep, delivery, forwarded, stepAnswer}
+use Rattle.demands.specs.Tests.{Tests, Refused, Number, Whole, Exactly}
+use Rattle.demands.specs.Refusals.{shapeTests, levelTests, serverTests, pairTests, linkTests, valueTests, placesTests, tableTests, tableLinkTests, endsTests, roomTests, arrayTests, Joined, selectTests, Arrays, IsRead, SomeRead, pickTests, hopTests, Reads, givenTests, stepTests, Steps, RefusedExactly}
+use Rattle.demands.proofs.Chains.{front, held, same, join, exactly, made, carry, some, chain, zero-of, hold-of, answers, test, lt}
+use Rattle.demands.proofs.Numbers.{shape-number, level-number, server-number, pair-number, link-number, value-number, places-number, table-number, table-link-number, ends-number, ends-hold, array-number, room-number, lists-number, hop-number, given-number, byte-number}
+use Rattle.demands.proofs.Hops.{walk-reads, reads-walk}
+use Rattle.demands.proofs.Written.{write-path}
+use Rattle.demands.proofs.Places.{check-list}
 
--- ---- an answer has no refusal exactly when its chain has none
+-- ---- refusals of the whole
 
-module _ {X : Type 0} (number : X → ℕ) (refused : ℕ → X) (same : (r : ℕ) → number (refused r) ≡ r) {P : Type 0} where
-  none-exactly : (q : ℕ) (y : X) → number y ≡ 0 → (q ≡ 0 → P) → (P → 0 ≡ q) → (number (answer q refused y) ≡ 0) ↔ P
-  none-exactly zero y z f g = (λ e. f refl, λ p. z)
-  none-exactly (suc q) y z f g =
-      (λ e. f (sym (same (suc q)) ∙ e), λ p. absurd (let w = g p in let n : ⊥ = omega arith in n))
+-- a number
+numbered : (A : Tests) (q : ℕ) → Number A q → Exactly q (Number A)
+numbered A q h = exactly (λ n. n) (λ r. r ≡ 0) A q (λ y a e f. e ∙ sym f) h
 
-plainly : {P : Type 0} {q : ℕ} → (q ≡ 0 → P) → (P → 0 ≡ q) → (q ≡ 0) ↔ P
-plainly f g = (f, λ p. sym (g p))
+-- an answer
+module _ {X : Type 0} (refusal : X → Refusal) (bare : ℕ → X) (same : (r : ℕ) → refusal (bare r) ≡ plain r) where
+  whole : (A : Tests) (q : ℕ) (x : X) → some A ≡ true → Number A q → refusal x ≡ none → Exactly (refusal (answer q bare x)) (Whole A)
+  whole A q x m h e =
+      exactly plain (λ r. r ≡ none) A (refusal (answer q bare x)) (λ y a f g. f ∙ sym g)
+      (answers refusal bare plain (λ r. r ≡ none) A q x same m h (λ a. e))
 
--- ---- the first three numbers
-
-abbrev chain : Bool → Bool → Bool → ℕ
-chain x y z = 1 unless x or-else 2 unless y or-else 3 unless z
-
-is-one : (x y z : Bool) → chain x y z ≡ 1 → x ≡ false
-unfolding _or-else_
-is-one false y z e = refl
-is-one true false z e = let n : ⊥ = omega arith in absurd n
-is-one true true false e = let n : ⊥ = omega arith in absurd n
-is-one true true true e = let n : ⊥ = omega arith in absurd n
-
-is-two : (x y z : Bool) → chain x y z ≡ 2 → (x ≡ true) × (y ≡ false)
-unfolding _or-else_
-is-two false y z e = let n : ⊥ = omega arith in absurd n
-is-two true false z e = (refl, refl)
-is-two true true false e = let n : ⊥ = omega arith in absurd n
-is-two true true true e = let n : ⊥ = omega arith in absurd n
-
-is-three : (x y z : Bool) → chain x y z ≡ 3 → (x ≡ true) × (y ≡ true) × (z ≡ false)
-unfolding _or-else_
-is-three false y z e = let n : ⊥ = omega arith in absurd n
-is-three true false z e = let n : ⊥ = omega arith in absurd n
-is-three true true false e = (refl, refl, refl)
-is-three true true true e = let n : ⊥ = omega arith in absurd n
-
-either-fails : (x y : Bool) → x && y ≡ false → (x ≡ false) ⊎ (y ≡ false)
-either-fails true y e = inr e
-either-fails false y e = inl refl
-
-second-fails : (x y : Bool) → y ≡ false → x && y ≡ false
-second-fails true y e = e
-second-fails false y e = refl
-
-ports-of : (s : Shape) → leb 2 (s .n) && leb (s .n) 64 ≡ true → Ports s
-ports-of s e = let w = both-held (leb 2 (s .n)) (leb (s .n) 64) e in (leb-true 2 (s .n) (w .0), leb-true (s .n) 64 (w .1))
-
-of-ports : (s : Shape) → Ports s → leb 2 (s .n) && leb (s .n) 64 ≡ true
-of-ports s p = rw (le-leb 2 (s .n) (p .0), le-leb (s .n) 64 (p .1))
-
-shape-one : (s : Shape) → (shapeRefusal s ≡ 1) ↔ ((s .n < 2) ⊎ (64 < s .n))
-unfolding shapeRefusal _or-else_
-shape-one s = (
-  λ e. ⊎-elim (λ h. inl (leb-false 2 (s .n) h)) (λ h. inr (leb-false (s .n) 64 h)) (either-fails (leb 2 (s .n)) (leb (s .n) 64) (is-one _ (leb (s .k) 3) (leb (serversOf s) 4096) e)),
-  λ p. ap (λ (x : Bool). chain x (leb (s .k) 3) (leb (serversOf s) 4096)) (⊎-elim (λ h. ap (λ (x : Bool). x && leb (s .n) 64) (lt-leb 2 (s .n) h)) (λ h. second-fails (leb 2 (s .n)) _ (lt-leb (s .n) 64 h)) p),
-)
-
-shape-two : (s : Shape) → (shapeRefusal s ≡ 2) ↔ (Ports s × (3 < s .k))
-unfolding shapeRefusal _or-else_
-shape-two s = (
-  λ e. let w = is-two (leb 2 (s .n) && leb (s .n) 64) (leb (s .k) 3) (leb (serversOf s) 4096) e in (ports-of s (w .0), leb-false (s .k) 3 (w .1)),
-  λ p.
-      ap (λ (x : Bool). chain x (leb (s .k) 3) (leb (serversOf s) 4096)) (of-ports s (p .0))
-      ∙ ap (λ (x : Bool). chain true x (leb (serversOf s) 4096)) (lt-leb (s .k) 3 (p .1)),
-)
-
-shape-three : (s : Shape) → (shapeRefusal s ≡ 3) ↔ (Ports s × (s .k ≤ 3) × (4096 < serversOf s))
-unfolding shapeRefusal _or-else_
-shape-three s = (
-  λ e. let w = is-three (leb 2 (s .n) && leb (s .n) 64) (leb (s .k) 3) (leb (serversOf s) 4096) e in (ports-of s (w .0), leb-true (s .k) 3 (w .1), leb-false (serversOf s) 4096 (w .2)),
-  λ p.
-      ap (λ (x : Bool). chain x (leb (s .k) 3) (leb (serversOf s) 4096)) (of-ports s (p .0))
-      ∙ ap (λ (x : Bool). chain true x (leb (serversOf s) 4096)) (le-leb (s .k) 3 (p .1))
-      ∙ ap (λ (x : Bool). chain true true x) (lt-leb (serversOf s) 4096 (p .2)),
-)
-
--- ---- four places
-
-fits-of : {s : Shape} {ds : List ℕ} → Places s ds → Fits s ds
-unfolding placeBound
-fits-of {s} {ds} h =
-    record {
-      valid = h .valid;
-      digits = λ i p q. subst (λ (x : Bool). getD ds i 0 < cond x (bound s i) 1) (le-leb i (s .k) q) (h .at i p);
-      above = λ i p q. let w : getD ds i 0 < 1 = subst (λ (x : Bool). getD ds i 0 < cond x (bound s i) 1) (lt-leb i (s .k) q) (h .at i p) in omega arith;
-    }
-
-of-fits : {s : Shape} {ds : List ℕ} → Fits s ds → Places s ds
-unfolding placeBound
-of-fits {s} {ds} h = record { valid = h .valid; at = at }
-  where
-    at : (i : ℕ) → i < length ds → getD ds i 0 < cond (leb i (s .k)) (bound s i) 1
-    at i p =
-        elim (decLt (s .k) i) [
-          | yes q ↦ let z = h .above i p q in
-              let w : getD ds i 0 < 1 = omega arith in subst (λ (x : Bool). getD ds i 0 < cond x (bound s i) 1) (sym (lt-leb i (s .k) q)) w
-          | no q ↦ let r : i ≤ s .k = omega arith in
-              subst (λ (x : Bool). getD ds i 0 < cond x (bound s i) 1) (sym (le-leb i (s .k) r)) (h .digits i p r)
-        ]
-
--- ---- two servers, a table, routes
-
-only-none : (ls : List ℕ) → onlyLevel ls .refusal .number ≡ 0
+only-none : (ls : List ℕ) → onlyLevel ls .refusal ≡ none
 only-none [] = refl
 only-none (l ∷ []) = refl
 only-none (l ∷ m ∷ ls) = refl
 
-two-of : (s : Shape) (a d : ℕ) → endsRefusal s a d ≡ 0 → TwoServers s a d
-two-of s a d e = let h = ends-of s a d e in (h .source, h .destination, h .differ)
+-- a number that is the whole answer
+plainly : (A : Tests) (q : ℕ) → some A ≡ true → Number A q → Exactly (plain q) (Whole A)
+plainly A q m h =
+    exactly plain (λ r. r ≡ none) A (plain q) (λ y a f g. f ∙ sym g)
+    (carry plain plain (λ r. r ≡ none) A q (made plain plain A (λ n. refl) m) h (λ a. refl))
 
-two-none : {s : Shape} {a d : ℕ} → TwoServers s a d → 0 ≡ endsRefusal s a d
-two-none p = ends-none (record { source = p .0; destination = p .1; differ = p .2 })
+-- an answer that is said by its number
+declared : (Else : Refusal → Type 0) (A : Tests) (q : ℕ) (x : Refusal) → some A ≡ true → Number A q → (q ≢ 0 → x ≡ plain q) → (q ≡ 0 → Else x) → Refused plain A Else x
+declared Else A q x m h f g =
+    elim (ℕ-discrete q 0) [
+      | yes z ↦ held plain Else A x (hold-of A q m h z) (g z)
+      | no n ↦ subst (Refused plain A Else) (sym (f n)) (carry plain plain Else A q (made plain plain A (λ k. refl) m) h (λ a. absurd (n (zero-of A q h a))))
+    ]
 
-room-of : (s : Shape) (t : List ℕ) (a d : ℕ) → endsRefusal s a d or-else tableRefusal s t ≡ 0 → TwoServers s a d × TableOf s t
-room-of s t a d e = let z = or-else-zero (endsRefusal s a d) (tableRefusal s t) e in (two-of s a d (z .0), table-of s t (z .1))
+-- ---- reading
 
-room-none : {s : Shape} {t : List ℕ} {a d : ℕ} → TwoServers s a d → TableOf s t → 0 ≡ endsRefusal s a d or-else tableRefusal s t
-room-none p k = chain-goes _ _ _ _ (two-none p) refl (table-none k)
+module _ {X : Type 0} (refusal : X → Refusal) (bare : ℕ → X) (same : (r : ℕ) → refusal (bare r) ≡ plain r) (make : Walk → X) (alike : (w : Walk) → refusal (make w) ≡ walked w .refusal) where
+  reads : (s : Shape) (t : List ℕ) (a d : ℕ) (bs : List ℕ) → Exactly (refusal (answer (arrayRefusal s a d bs) bare (make (walk s t a d bs)))) (Refused plain (arrayTests s a d bs) (Reads s t a d bs))
+  reads s t a d bs =
+      exactly plain (Reads s t a d bs) (arrayTests s a d bs) _ (λ y h f g. sym (reads-walk f) ∙ reads-walk g)
+      (answers refusal bare plain (Reads s t a d bs) (arrayTests s a d bs) (arrayRefusal s a d bs) (make (walk s t a d bs)) same refl (array-number s a d bs)
+      (λ h. subst (Reads s t a d bs) (sym (alike (walk s t a d bs))) (walk-reads t bs (ends-hold s a d (front (endsTests s a d) ((7, length bs ≡ 8) ∷ []) h)) (h .1 .1 .1 .1 .1 .0))))
 
-hop-of : (s : Shape) (a b : ℕ) → (hopAnswer s a b .number ≡ 0) ↔ (Server s a × NamesHop s a b)
+walk-path : (s : Shape) (t : List ℕ) (a d : ℕ) (bs : List ℕ) → Exactly (walkAnswer s t a d bs .refusal) (Refused plain (arrayTests s a d bs) (Reads s t a d bs))
+unfolding walkAnswer
+walk-path = reads (λ (x : Walked). x .refusal) (λ r. noWalk (plain r)) (λ r. refl) walked (λ w. refl)
+
+reverse-path : (s : Shape) (a d : ℕ) (bs : List ℕ) → Exactly (reverseAnswer s a d bs .refusal) (Refused plain (arrayTests s a d bs) (Reads s [] a d bs))
+unfolding reverseAnswer
+reverse-path s = reads (λ (x : Writing). x .refusal) (λ r. noWriting (plain r)) (λ r. refl) (reversed s) alike s []
+  where
+    alike : (w : Walk) → reversed s w .refusal ≡ walked w .refusal
+    alike (stopped r h) = refl
+    alike (arrived vs ws) = refl
+
+read-path : (s : Shape) (a d : ℕ) (bs : List ℕ) → Exactly (readAnswer s a d bs .refusal) (Refused plain (arrayTests s a d bs) (Reads s [] a d bs))
+unfolding readAnswer
+read-path s a d bs = walk-path s [] a d bs
+
+hop-of : (s : Shape) (a b : ℕ) → Exactly (hopAnswer s a b .number) (Number (serverTests s a ++ hopTests s a b))
 unfolding hopAnswer
 hop-of s a b =
-    none-exactly (λ (x : Hop). x .number) noHop (λ r. refl) _ _ refl
-    (λ e. let z = or-else-zero (serverRefusal s a) (hopRefusal s a b) e in let h = server-of s a (z .0) in (h, hop-exactly h b .0 (z .1)))
-    (λ p. chain-goes _ _ _ _ (server-none (p .0)) refl (sym (hop-exactly (p .0) b .1 (p .1))))
+    exactly (λ n. n) (λ r. r ≡ 0) (serverTests s a ++ hopTests s a b) (hopAnswer s a b .number) (λ y h f g. f ∙ sym g)
+    (answers (λ (x : Hop). x .number) noHop (λ n. n) (λ r. r ≡ 0) (serverTests s a ++ hopTests s a b) (serverRefusal s a or-else hopRefusal s a b) (aHop (hopTo s a b)) (λ r. refl) refl
+    (chain (serverTests s a) (hopTests s a b) (serverRefusal s a) (hopRefusal s a b) refl (server-number s a) (λ h. hop-number s a b)) (λ h. refl))
 
-find-route : (s : Shape) (t : List ℕ) (a d : ℕ) (x : Found) → Finding s t a d x → (x .refusal .number ≡ 0) ↔ (TwoServers s a d × TableOf s t)
+-- ---- finding and selecting
+
+find-route : (s : Shape) (t : List ℕ) (a d : ℕ) (x : Found) → Finding s t a d x → Exactly (x .refusal) (Whole (roomTests s t a d))
 unfolding roomRefusal
-find-route s t a d x f = (there, back)
+find-route s t a d x f =
+    exactly plain (λ r. r ≡ none) (roomTests s t a d) (x .refusal) (λ y h e g. e ∙ sym g)
+    (declared (λ r. r ≡ none) (roomTests s t a d) (roomRefusal s t a d) (x .refusal) refl (room-number s t a d) (λ n. ap (λ (y : Found). y .refusal) (f .refused n)) given)
   where
-    there : x .refusal .number ≡ 0 → TwoServers s a d × TableOf s t
-    there e =
-        elim (ℕ-discrete (roomRefusal s t a d) 0) [
-          | yes z ↦ room-of s t a d z
-          | no n ↦ absurd (n (sym (ap (λ (y : Found). y .refusal .number) (f .refused n)) ∙ e))
-        ]
-
-    back : TwoServers s a d × TableOf s t → x .refusal .number ≡ 0
-    back p =
-        let z : roomRefusal s t a d ≡ 0 = sym (room-none (p .0) (p .1)) in
+    given : roomRefusal s t a d ≡ 0 → x .refusal ≡ none
+    given z =
         elim (ℕ-discrete (x .hops) 0) [
-          | yes o ↦ ap (λ (y : Found). y .refusal .number) (f .none z o .0)
-          | no o ↦ ap (λ (y : Found). y .refusal .number) (f .given z (omega arith) .answer)
+          | yes o ↦ ap (λ (y : Found). y .refusal) (f .none z o .0)
+          | no o ↦ ap (λ (y : Found). y .refusal) (f .given z (omega arith) .answer)
         ]
 
-select-routes : (s : Shape) (t : List ℕ) (a d : ℕ) (x : Selection) → Selecting s t a d x → (x .refusal .number ≡ 0) ↔ (TwoServers s a d × TableOf s t × ((vs : List ℕ) × RouteTo s t a d vs))
+select-routes : (s : Shape) (t : List ℕ) (a d : ℕ) (x : Selection) → Selecting s t a d x → Exactly (x .refusal) (Whole (selectTests s t a d))
 unfolding roomRefusal
-select-routes s t a d x f = (there, back)
+select-routes s t a d x f =
+    exactly plain (λ r. r ≡ none) (selectTests s t a d) (x .refusal) (λ y h e g. e ∙ sym g)
+    (join plain (λ r. r ≡ none) (roomTests s t a d) ((16, Joined s t a d) ∷ []) (x .refusal)
+    (declared (Whole ((16, Joined s t a d) ∷ [])) (roomTests s t a d) (roomRefusal s t a d) (x .refusal) refl (room-number s t a d) (λ n. ap (λ (y : Selection). y .refusal) (f .refused n)) given))
   where
-    there : x .refusal .number ≡ 0 → TwoServers s a d × TableOf s t × ((vs : List ℕ) × RouteTo s t a d vs)
-    there e =
-        elim (ℕ-discrete (roomRefusal s t a d) 0) [
-          | yes z ↦ let p = room-of s t a d z in let g = gives f e in (p .0, p .1, (getD (g .routes) 0 [], g .settled .each 0 (g .some)))
-          | no n ↦ absurd (n (sym (ap (λ (y : Selection). y .refusal .number) (f .refused n)) ∙ e))
-        ]
+    given : roomRefusal s t a d ≡ 0 → Whole ((16, Joined s t a d) ∷ []) (x .refusal)
+    given z = go (f .given z .routes) (f .given z .answer)
+      where
+        go : (vss : List (List ℕ)) → x ≡ selection s vss → Whole ((16, Joined s t a d) ∷ []) (x .refusal)
+        go [] e =
+            inr (λ j. none-selected-exactly s t a d x z f .0 (ap (λ (y : Selection). y .refusal .number) e) (j .0) (j .1), ap (λ (y : Selection). y .refusal) e)
+        go (vs ∷ vss) e =
+            let g = gives f (ap (λ (y : Selection). y .refusal .number) e) in
+            inl ((getD (g .routes) 0 [], g .settled .each (getD (g .routes) 0 []) (member-at (g .routes) 0 (g .some))), ap (λ (y : Selection). y .refusal) e)
 
-    sorted : (z : roomRefusal s t a d ≡ 0) (vss : List (List ℕ)) → x ≡ selection s vss → (vs : List ℕ) → RouteTo s t a d vs → x .refusal .number ≡ 0
-    sorted z [] e vs v = absurd (sixteen-exactly s t a d x z f .0 (ap (λ (y : Selection). y .refusal .number) e) vs v)
-    sorted z (us ∷ vss) e vs v = ap (λ (y : Selection). y .refusal .number) e
+-- ---- picking
 
-    back : TwoServers s a d × TableOf s t × ((vs : List ℕ) × RouteTo s t a d vs) → x .refusal .number ≡ 0
-    back p =
-        let z : roomRefusal s t a d ≡ 0 = sym (room-none (p .0) (p .1)) in
-        let c = f .given z in
-        sorted z (c .routes) (c .answer) (p .2 .0) (p .2 .1)
+module _ (s : Shape) (t : List ℕ) (a d : ℕ) where
+  usable-read : (bs : List ℕ) (i : ℕ) → roomRefusal s t a d ≡ 0 → i < length bs / 8 → (usable s t a d (arrayAt i bs) ≡ true) ↔ IsRead s t a d bs i
+  usable-read bs i z h = (
+    λ u. walk-exactly s t a d (arrayAt i bs) .0 (eqb-true (walkAnswer s t a d (arrayAt i bs) .refusal .number) 0 (sym w ∙ u)),
+    λ k. w ∙ eq-eqb (walkAnswer s t a d (arrayAt i bs) .refusal .number) 0 (walk-exactly s t a d (arrayAt i bs) .1 k),
+  )
+    where
+      w : usable s t a d (arrayAt i bs) ≡ eqb (walkAnswer s t a d (arrayAt i bs) .refusal .number) 0
+      w = usable-walk s t a d (arrayAt i bs) z (array-long i bs h)
 
--- ---- lists
+  first-read : (bs : List ℕ) (i : ℕ) → roomRefusal s t a d ≡ 0 → FirstUsable s t a d bs i → SomeRead s t a d bs
+  first-read bs i z h = (i, h .within, usable-read bs i z (h .within) .0 (h .here))
 
--- a refusal whose number is 0 has no place
-zero-none : {m n i h : ℕ} → Place m n i h → n ≡ 0 → record { number = n; route = i; hop = h } ≡ none
-zero-none (whole p) e = ap plain e
-zero-none {n = n} (at-hop p u v x y) e = let b : _≡_ {A = Bool} false true = ap ofAHop (sym e) ∙ p in let w : _≡_ {A = ℕ} 0 1 = cc in let z : ⊥ = omega arith in absurd z
-zero-none (no-arrival u v) e = let z : ⊥ = omega arith in absurd z
-zero-none (later u v) e = let z : ⊥ = omega arith in absurd z
+  none-read : (bs : List ℕ) → roomRefusal s t a d ≡ 0 → NoneUsable s t a d bs → SomeRead s t a d bs → ⊥
+  none-read bs z h k = clash _ (usable-read bs (k .0) z (k .1) .1 (k .2)) (h .each (k .0) (k .1))
 
-check-list : (s : Shape) (t : List ℕ) (a d : ℕ) (bs : List ℕ) → (checkAnswer s t a d bs .number ≡ 0) ↔ (TableOf s t × Accepted s t a d bs)
-check-list s t a d bs = (
-  λ e. let p = accepted-exactly s t a d bs .0 (zero-none (every-call .check-list s t a d bs .placed) e) in (table-of s t (p .0), p .1),
-  λ p. ap (λ (r : Refusal). r .number) (accepted-exactly s t a d bs .1 (sym (table-none (p .0)), p .1)),
-)
+  module _ (fs ks : List ℕ) where
+    abbrev Given : Type 0
+    Given = SomeRead s t a d fs ⊎ SomeRead s t a d ks
 
-missing-number : (x : Source) → (missing x ≡ 0) ⊎ (missing x ≡ 16)
-missing-number (inFresh i) = inl refl
-missing-number (inKept i) = inl refl
-missing-number nowhere = inr refl
+    missing-number : roomRefusal s t a d ≡ 0 → (x : Source) → Chosen s t a d fs ks x → Number ((16, Given) ∷ []) (missing x)
+    missing-number z (inFresh i) h = inl (inl (first-read fs i z h), refl)
+    missing-number z (inKept i) h = inl (inr (first-read ks i z (h .1)), refl)
+    missing-number z nowhere h = inr (λ g. go g, refl)
+      where
+        go : Given → ⊥
+        go (inl k) = none-read fs z (h .0) k
+        go (inr k) = none-read ks z (h .1) k
 
-lists-of : (s : Shape) (fs ks : List ℕ) → fits s (length fs) && fits s (length ks) ≡ true → TwoLists s fs ks
-unfolding fits
-lists-of s fs ks e =
-    let w = both-held (fits s (length fs)) (fits s (length ks)) e in
-    let u = both-held (eqb (length fs % 8) 0) (leb (length fs) (8 * (s .k + 1))) (w .0) in
-    let v = both-held (eqb (length ks % 8) 0) (leb (length ks) (8 * (s .k + 1))) (w .1) in
-    record { fresh = eqb-true _ _ (u .0); few-fresh = leb-true _ _ (u .1); kept = eqb-true _ _ (v .0); few-kept = leb-true _ _ (v .1) }
+    pick-number : Number (pickTests s t a d fs ks) (pickRefusal s t a d fs ks)
+    unfolding pickRefusal pickSource roomRefusal
+    pick-number =
+        chain (roomTests s t a d ++ ((7, Arrays s fs × Arrays s ks) ∷ [])) ((16, Given) ∷ []) (listsRefusal s t a d fs ks) (missing (found s t a d fs ks)) refl (lists-number s t a d fs ks)
+        (λ h.
+        let e = zero-of (roomTests s t a d ++ ((7, Arrays s fs × Arrays s ks) ∷ [])) (listsRefusal s t a d fs ks) (lists-number s t a d fs ks) h in
+        let z : roomRefusal s t a d ≡ 0 = zero-of (roomTests s t a d) (roomRefusal s t a d) (room-number s t a d) (front (roomTests s t a d) ((7, Arrays s fs × Arrays s ks) ∷ []) h) in
+        missing-number z (found s t a d fs ks) (subst (Chosen s t a d fs ks) (answer-none _ (λ r. nowhere) _ (sym e)) (source-chosen s t a d fs ks e)))
 
-of-lists : {s : Shape} {fs ks : List ℕ} → TwoLists s fs ks → fits s (length fs) && fits s (length ks) ≡ true
-unfolding fits
-of-lists {s} {fs} {ks} h =
-    rw (eq-eqb (length fs % 8) 0 (h .fresh), le-leb (length fs) (8 * (s .k + 1)) (h .few-fresh), eq-eqb (length ks % 8) 0 (h .kept), le-leb (length ks) (8 * (s .k + 1)) (h .few-kept))
+    pick-refusal : Exactly (pickAnswer s t a d fs ks) (Whole (pickTests s t a d fs ks))
+    unfolding pickAnswer
+    pick-refusal = plainly (pickTests s t a d fs ks) (pickRefusal s t a d fs ks) refl pick-number
 
-pick-refusal : (s : Shape) (t : List ℕ) (a d : ℕ) (fs ks : List ℕ) → (pickAnswer s t a d fs ks .number ≡ 0) ↔ ((TwoServers s a d × TableOf s t) × TwoLists s fs ks × ((NoneUsable s t a d fs × NoneUsable s t a d ks) → ⊥))
-unfolding pickAnswer pickRefusal listsRefusal roomRefusal
-pick-refusal s t a d fs ks = (there, λ p. back (p .0) (p .1) (p .2))
-  where
-    there : pickRefusal s t a d fs ks ≡ 0 → (TwoServers s a d × TableOf s t) × TwoLists s fs ks × ((NoneUsable s t a d fs × NoneUsable s t a d ks) → ⊥)
-    there e =
-        let z = or-else-zero (listsRefusal s t a d fs ks) (missing (found s t a d fs ks)) e in
-        let w = or-else-zero (roomRefusal s t a d) (7 unless (fits s (length fs) && fits s (length ks))) (z .0) in (
-          room-of s t a d (w .0),
-          lists-of s fs ks (test-held _ 6 (w .1)),
-          λ n. let q : pickRefusal s t a d fs ks ≡ 16 = picks.sixteen-exactly s t a d fs ks .1 (z .0, n) in omega arith,
-        )
+    place-refusal : placeAnswer s t a d fs ks .refusal ≡ pickAnswer s t a d fs ks
+    unfolding placeAnswer pickAnswer pickRefusal pickSource _or-else_
+    place-refusal = go (listsRefusal s t a d fs ks) (found s t a d fs ks)
+      where
+        go : (q : ℕ) (x : Source) → placeOf (q or-else missing x) (answer q (λ r. nowhere) x) .refusal ≡ plain (q or-else missing x)
+        go zero (inFresh i) = refl
+        go zero (inKept i) = refl
+        go zero nowhere = refl
+        go (suc q) x = refl
 
-    back : TwoServers s a d × TableOf s t → TwoLists s fs ks → ((NoneUsable s t a d fs × NoneUsable s t a d ks) → ⊥) → pickRefusal s t a d fs ks ≡ 0
-    back r l n =
-        let z : 0 ≡ listsRefusal s t a d fs ks = chain-goes _ _ _ _ (room-none (r .0) (r .1)) refl (ap (λ (x : Bool). 7 unless x) (sym (of-lists l))) in
-        let q : missing (found s t a d fs ks) ≡ pickRefusal s t a d fs ks = chain-goes _ _ _ _ z refl refl in
-        ⊎-elim (λ e. sym q ∙ e) (λ e. absurd (n (picks.sixteen-exactly s t a d fs ks .0 (sym q ∙ e) .1))) (missing-number (found s t a d fs ks))
+    pick-place : Exactly (placeAnswer s t a d fs ks .refusal) (Whole (pickTests s t a d fs ks))
+    pick-place = subst (λ (r : Refusal). Exactly r (Whole (pickTests s t a d fs ks))) (sym place-refusal) pick-refusal
 
 -- ---- a step
 
-went-none : (s : Shape) (a i : ℕ) (e : List ℕ) (b : ℕ) (x : Bool) → cond x delivery (forwarded s a i e b) .refusal .number ≡ 0
-went-none s a i e b true = refl
-went-none s a i e b false = refl
+module _ (s : Shape) (a d i : ℕ) (bs e : List ℕ) where
+  abbrev byte : ℕ
+  byte = getD bs i 0
 
-step-once : (s : Shape) (a d i : ℕ) (bs e : List ℕ) → (stepAnswer s a d i bs e .refusal .number ≡ 0) ↔ Steps s a d i bs e
-unfolding stepAnswer stepRefusal
-step-once s a d i bs e =
-    none-exactly (λ (x : Step). x .refusal .number) (λ r. noStep (placed i r)) (λ r. placed-number i r) (stepRefusal s a d i bs e) _ (went-none s a i e (getD bs i 0) (eqb a d)) there back
-  where
-    there : stepRefusal s a d i bs e ≡ 0 → Steps s a d i bs e
-    there z =
-        let g = given-of s a d bs e (or-else-zero (givenRefusal s a d bs e) _ z .0) in
-        record {
-          here = g .here;
-          there = g .there;
-          table = g .table;
-          path = g .path;
-          goes = λ n. let w = goes-of s a d i bs e z n in (w .index, hop-exactly (g .here) (getD bs i 0) .0 (w .taken), w .flag);
-        }
+  step-placed : placed i (stepRefusal s a d i bs e) ≡ stepAnswer s a d i bs e .refusal
+  unfolding stepAnswer placed atHop
+  step-placed = go (stepRefusal s a d i bs e) (eqb a d)
+    where
+      go : (q : ℕ) (x : Bool) → placed i q ≡ answer q (λ r. noStep (placed i r)) (cond x delivery (forwarded s a i e byte)) .refusal
+      go zero true = refl
+      go zero false = refl
+      go (suc q) x = refl
 
-    back : Steps s a d i bs e → 0 ≡ stepRefusal s a d i bs e
-    back h =
-        elim (ℕ-discrete a d) [
-          | yes q ↦ chain-goes _ _ _ _ (given-none (record { here = h .here; there = h .there; table = h .table; path = h .path })) refl
-              (sym (ap (λ (x : Bool). cond x 0 (awayRefusal s a i bs e)) (eq-eqb a d q)))
-          | no n ↦ let w = h .goes n in
-              sym (goes-none (record { given = record { here = h .here; there = h .there; table = h .table; path = h .path }; index = w .0; taken = hop-exactly (h .here) (getD bs i 0) .1 (w .1); flag = w .2 }) n)
-        ]
+  byte-steps : Refused (λ n. refusedAt n 1 (i + 1)) (stepTests s a e byte) (λ r. r ≡ none) (placed i (byteRefusal s a e byte))
+  unfolding placed atHop
+  byte-steps = carry (λ n. refusedAt n 1 (i + 1)) (placed i) (λ r. r ≡ none) (stepTests s a e byte) (byteRefusal s a e byte) (refl, (refl, (refl, (refl, tt)))) (byte-number s a e byte) (λ h. refl)
+
+  abbrev Away : Refusal → Type 0
+  Away = Refused plain ((18, i < 8) ∷ []) (Refused (λ n. refusedAt n 1 (i + 1)) (stepTests s a e byte) (λ r. r ≡ none))
+
+  away-steps : Away (placed i (awayRefusal s a i bs e))
+  unfolding awayRefusal placed atHop _or-else_
+  away-steps =
+      carry plain (λ n. placed i (n or-else byteRefusal s a e byte)) (Refused (λ n. refusedAt n 1 (i + 1)) (stepTests s a e byte) (λ r. r ≡ none)) ((18, i < 8) ∷ []) (18 unless ltb i 8) (refl, tt) (test 18 (ltb i 8) (lt i 8)) (λ h. byte-steps)
+
+  steps : Steps s a d i bs e (placed i (cond (eqb a d) 0 (awayRefusal s a i bs e)))
+  unfolding placed atHop
+  steps =
+      elim (ℕ-discrete a d) [
+        | yes q ↦ inl (q, ap (λ (x : Bool). placed i (cond x 0 (awayRefusal s a i bs e))) (eq-eqb a d q))
+        | no n ↦ inr (n, subst (λ (x : Bool). Away (placed i (cond x 0 (awayRefusal s a i bs e)))) (sym (ne-eqb a d n)) away-steps)
+      ]
+
+  one-step : (x y : Refusal) → Steps s a d i bs e x → Steps s a d i bs e y → x ≡ y
+  one-step x y (inl h) (inl k) = h .1 ∙ sym (k .1)
+  one-step x y (inl h) (inr k) = absurd (k .0 (h .0))
+  one-step x y (inr h) (inl k) = absurd (h .0 (k .0))
+  one-step x y (inr h) (inr k) =
+      same plain (Refused (λ n. refusedAt n 1 (i + 1)) (stepTests s a e byte) (λ r. r ≡ none)) ((18, i < 8) ∷ []) x y
+      (λ p. same (λ n. refusedAt n 1 (i + 1)) (λ r. r ≡ none) (stepTests s a e byte) x y (λ q f g. f ∙ sym g)) (h .1) (k .1)
+
+  step-once : Exactly (stepAnswer s a d i bs e .refusal) (Refused plain (givenTests s a d bs e) (Steps s a d i bs e))
+  unfolding stepRefusal placed atHop _or-else_
+  step-once =
+      subst (λ (r : Refusal). Exactly r (Refused plain (givenTests s a d bs e) (Steps s a d i bs e))) step-placed
+      (exactly plain (Steps s a d i bs e) (givenTests s a d bs e) (placed i (stepRefusal s a d i bs e)) (λ y h. one-step _ y)
+      (carry plain (λ n. placed i (n or-else cond (eqb a d) 0 (awayRefusal s a i bs e))) (Steps s a d i bs e) (givenTests s a d bs e) (givenRefusal s a d bs e)
+      (refl, (refl, (refl, (refl, (refl, (refl, tt)))))) (given-number s a d bs e) (λ h. steps)))
 
 -- ---- every call
 
@@ -308,33 +261,31 @@ pub refused-exactly : RefusedExactly
 unfolding serversAnswer boundAnswer digitsAnswer digitAnswer addressAnswer switchAnswer neighbourAnswer betweenAnswer failedAnswer linkAnswer buildAnswer
 refused-exactly =
     record {
-      shape-none = λ s. plainly (valid-of s) valid-none;
-      shape-one = shape-one;
-      shape-two = shape-two;
-      shape-three = shape-three;
-      server-refusal = λ s a. plainly (server-of s a) server-none;
-      link-refusal = λ s a l. plainly (link-of s a l) link-none;
-      servers-of = λ s. none-exactly (λ (x : Number). x .refusal .number) noNumber (λ r. refl) (shapeRefusal s) _ refl (valid-of s) valid-none;
-      bound-of = λ s l. none-exactly (λ (x : Number). x .refusal .number) noNumber (λ r. refl) (levelRefusal s l) _ refl (level-of s l) (λ p. level-none (p .0) (p .1));
-      digits-of = λ s a. none-exactly (λ (x : Digits). x .refusal .number) noDigits (λ r. refl) (serverRefusal s a) _ refl (server-of s a) server-none;
-      digit-of = λ s a l. none-exactly (λ (x : Number). x .refusal .number) noNumber (λ r. refl) (linkRefusal s a l) _ refl (link-of s a l) link-none;
-      address-of = λ s ds. none-exactly (λ (x : Number). x .refusal .number) noNumber (λ r. refl) (placesRefusal s ds) _ refl (λ e. fits-of (places-of s ds e)) (λ h. places-none (of-fits h));
-      switch-of = λ s a l. none-exactly (λ (x : Switch). x .refusal .number) noSwitch (λ r. refl) (linkRefusal s a l) _ refl (link-of s a l) link-none;
-      neighbour-of = λ s a l v. none-exactly (λ (x : Number). x .refusal .number) noNumber (λ r. refl) (valueRefusal s a l v) _ refl (value-of s a l v) value-none;
-      level-between = λ s a b. none-exactly (λ (x : Between). x .refusal .number) noBetween (λ r. refl) (pairRefusal s a b) _ (only-none (differing s a b)) (pair-of s a b) (λ p. pair-none (p .0) (p .1));
-      table-refusal = λ s t. plainly (room-table-of s t) (λ p. room-table-none (p .0) (p .1));
-      failed-link = λ s t a l. none-exactly (λ (x : Asked). x .refusal .number) notAsked (λ r. refl) (tableLinkRefusal s t a l) _ refl (table-link-of s t a l) (λ p. table-link-none (p .0) (p .1));
-      mark-or-clear = λ s t a l. plainly (table-link-of s t a l) (λ p. table-link-none (p .0) (p .1));
-      ends-refusal = λ s a d. plainly (two-of s a d) two-none;
+      shape-refusal = λ s. numbered (shapeTests s) (shapeRefusal s) (shape-number s);
+      server-refusal = λ s a. numbered (serverTests s a) (serverRefusal s a) (server-number s a);
+      link-refusal = λ s a l. numbered (linkTests s a l) (linkRefusal s a l) (link-number s a l);
+      servers-of = λ s. whole (λ (x : Numbered). x .refusal) noNumber (λ r. refl) (shapeTests s) (shapeRefusal s) _ refl (shape-number s) refl;
+      bound-of = λ s l. whole (λ (x : Numbered). x .refusal) noNumber (λ r. refl) (levelTests s l) (levelRefusal s l) _ refl (level-number s l) refl;
+      digits-of = λ s a. whole (λ (x : Digits). x .refusal) noDigits (λ r. refl) (serverTests s a) (serverRefusal s a) _ refl (server-number s a) refl;
+      digit-of = λ s a l. whole (λ (x : Numbered). x .refusal) noNumber (λ r. refl) (linkTests s a l) (linkRefusal s a l) _ refl (link-number s a l) refl;
+      address-of = λ s ds. whole (λ (x : Numbered). x .refusal) noNumber (λ r. refl) (placesTests s ds) (placesRefusal s ds) _ refl (places-number s ds) refl;
+      switch-of = λ s a l. whole (λ (x : Switch). x .refusal) noSwitch (λ r. refl) (linkTests s a l) (linkRefusal s a l) _ refl (link-number s a l) refl;
+      neighbour-of = λ s a l v. whole (λ (x : Numbered). x .refusal) noNumber (λ r. refl) (valueTests s a l v) (valueRefusal s a l v) _ refl (value-number s a l v) refl;
+      level-between = λ s a b. whole (λ (x : Between). x .refusal) noBetween (λ r. refl) (pairTests s a b) (pairRefusal s a b) _ refl (pair-number s a b) (only-none (differing s a b));
+      table-refusal = λ s t. numbered (tableTests s t) (roomTableRefusal s t) (table-number s t);
+      failed-link = λ s t a l. whole (λ (x : Asked). x .refusal) notAsked (λ r. refl) (tableLinkTests s t a l) (tableLinkRefusal s t a l) _ refl (table-link-number s t a l) refl;
+      mark-or-clear = λ s t a l. plainly (tableLinkTests s t a l) (tableLinkRefusal s t a l) refl (table-link-number s t a l);
+      ends-refusal = λ s a d. numbered (endsTests s a d) (endsRefusal s a d) (ends-number s a d);
       hop-of = hop-of;
-      walk = walk-exactly;
-      read-path = read-exactly;
-      reverse-path = reverse-exactly;
-      write-path = write-exactly;
+      walk = walk-path;
+      read-path = read-path;
+      reverse-path = reverse-path;
+      write-path = write-path;
       check-list = check-list;
-      build-routes = λ s a d. none-exactly (λ (x : Building). x .refusal .number) noBuilding (λ r. refl) (endsRefusal s a d) _ refl (two-of s a d) two-none;
+      build-routes = λ s a d. whole (λ (x : Building). x .refusal) noBuilding (λ r. refl) (endsTests s a d) (endsRefusal s a d) _ refl (ends-number s a d) refl;
       find-route = find-route;
       select-routes = select-routes;
       pick-refusal = pick-refusal;
+      pick-place = pick-place;
       step-once = step-once;
     }

@@ -1,250 +1,237 @@
--- The hop where a refusal of an array arises, where one never arrives, and where the writer refuses, proved.
+-- Why and where reading an array stops, proved.
 use Prim.Native.Nat.{ℕ, zero, suc, _+_, _-_, _≤_, _<_, suc-le-suc, zero-le}
-use mathlib.Core.Path.{_≡_, refl, sym, ap, _∙_, subst}
-use mathlib.Core.Logic.{_≢_, ⊎-elim}
-use mathlib.Core.Bool.{Bool, cond}
-use mathlib.Core.List.{List, [], _∷_, _++_, append-nil}
+use mathlib.Core.Path.{_≡_, refl, sym, ap, ap₂, _∙_, subst}
+use mathlib.Core.Logic.{_≢_, inl, inr}
+use mathlib.Core.List.{List, [], _∷_, _++_}
 use native.Mathlib.Omega.{arith}
+use native.Mathlib.Nat.{add-zero, le-of-suc-le-suc}
 use native.Mathlib.Decide.{ℕ-discrete}
-use lib.Dec.{leb, eqb}
-use lib.ListN.{length, getD}
-use lib.Seq.{append-snoc}
-use borrow.Author.Tests.{leb-true, eq-eqb, ne-eqb}
+use lib.ListN.{length, getD, length-append}
+use lib.Seq.{append-snoc, getD-append-add, getD-append-seam}
+use borrow.Author.Tests.{eq-eqb, ne-eqb}
 use Rattle.lists.specs.Lists.{inTurn}
 use Rattle.lists.proofs.ListLaws.{length-snoc, snoc-last, snoc-at, turn-snoc, length-turn}
 use Rattle.refusals.specs.declared.Refusal.{Refusal}
-use Rattle.refusals.specs.Refusals.{plain, refusedAt, answer}
+use Rattle.refusals.specs.Refusals.{refusedAt}
 use Rattle.refusals.proofs.AnswerLaws.{answer-none}
 use Rattle.room.specs.declared.Shape.{Shape}
 use Rattle.room.specs.Shapes.{Server, Ends}
-use Rattle.path.specs.declared.Walked.{Walked}
-use Rattle.path.specs.declared.Writing.{Writing}
-use Rattle.path.specs.Routes.{switchAt, switchTo, byteTo, switchesOf, encode, levelOf}
-use Rattle.path.specs.Walks.{Walk, stopped, arrived, hopTo, fault, walkFrom, walk, writeFault, writeFrom}
-use Rattle.path.specs.Answers.{arrayRefusal, walked, walkAnswer, noWriting, aWriting, writeRefusal, written, onTheWay, writeAnswer}
+use Rattle.path.specs.Routes.{switchAt, switchTo, byteTo, switchesOf, Prefix, RouteTo, levelOf}
+use Rattle.path.specs.Walks.{Walk, stopped, arrived, hopTo, fault, ended, walkFrom, walk}
+use Rattle.path.specs.Answers.{walked, walkAnswer}
 use Rattle.path.proofs.HopLaws.{hop-byte, hop-switch}
-use Rattle.path.proofs.CodecLaws.{array-of, write-step, Servers, listed-of}
-use Rattle.path.proofs.RouteLaws.{lastOf, Prefix, prefix-one, prefix-snoc, Step, switches-snoc, fault-step, walk-refused, walk-arrives, walk-goes}
-use Rattle.demands.specs.Demand1.{OneOf, nought, listed, Arises, HopPlace, NeverArrives, NoArrival, WriteArises, WritePlace}
-use Rattle.demands.proofs.Refusing.{all-at}
-use Rattle.demands.proofs.Places.{stopped-number, stopped-hop, ended-number, refused-number}
-use Rattle.demands.proofs.Numbers.{array-numbers, fault-numbers, write-numbers}
+use Rattle.path.proofs.CodecLaws.{array-none, numberOf, arrived-encodes, encodes-walk}
+use Rattle.path.proofs.RouteLaws.{prefix-route, prefix-one, prefix-snoc, Step, switches-snoc, fault-step, walk-refused, walk-arrives, walk-goes, walk-there, walk-to}
+use Rattle.demands.specs.Refusals.{endOf, readTests, Along, Stops, hop-fails, never-arrives, goes-on, Reads}
+use Rattle.demands.proofs.Chains.{fails, failing}
+use Rattle.demands.proofs.Numbers.{read-number}
 
--- on the way, with these bytes left of an array
+stopped-number : {r q x y : ℕ} → stopped r q ≡ stopped x y → r ≡ x
+stopped-number e = cc
+
+stopped-hop : {r q x y : ℕ} → stopped r q ≡ stopped x y → q ≡ y
+stopped-hop e = cc
+
+unlike : {A : Type 0} {vs ws : List ℕ} {r q : ℕ} → arrived vs ws ≡ stopped r q → A
+unlike e = let z : _≡_ {A = ℕ} 0 1 = cc in let n : ⊥ = omega arith in absurd n
+
+-- two walks that stop alike have one refusal
+stop-refusal : {r q x y : ℕ} → stopped r q ≡ stopped x y → refusedAt r 1 q ≡ refusedAt x 1 y
+stop-refusal e = ap₂ (λ (r q : ℕ). refusedAt r 1 q) (stopped-number e) (stopped-hop e)
+
+-- ---- what a walk that stops says
+
+-- on the way at server x after h hops
 record Going (s : Shape) (t : List ℕ) (a d : ℕ) (bs vs : List ℕ) (x : ℕ) (left : List ℕ) (h : ℕ) : Type 0 where
-  way : Prefix s t vs
-  here : lastOf vs ≡ x
-  source : getD vs 0 0 ≡ a
-  away : (i : ℕ) → i < length vs → getD vs i 0 ≢ d
-  bytes : bs ≡ inTurn (byteTo s) vs ++ left
+  along : Along s t a d bs vs left
+  here : endOf vs ≡ x
   met : length vs ≡ suc h
 
 module _ {s : Shape} {t : List ℕ} {a d : ℕ} {bs vs : List ℕ} {x b : ℕ} {left : List ℕ} {h : ℕ} (g : Going s t a d bs vs x (b ∷ left) h) (y : fault s t vs (switchesOf s vs) x b ≡ 0) where
-  server : Server s x
-  server = subst (Server s) (g .here) (g .way .servers (length vs - 1) (omega (arith, g .way .some)))
+  abbrev next : ℕ
+  next = hopTo s x b
 
-  used : switchesOf s (vs ++ (hopTo s x b ∷ [])) ≡ switchesOf s vs ++ (switchAt s (levelOf b) x ∷ [])
-  used =
-      switches-snoc s vs (hopTo s x b) (g .way .some)
-      ∙ ap (λ (z : ℕ). switchesOf s vs ++ (switchTo s z (hopTo s x b) ∷ [])) (g .here)
+  abbrev on : List ℕ
+  on = vs ++ (next ∷ [])
+
+  server : Server s x
+  server = subst (Server s) (g .here) (g .along .way .servers (length vs - 1) (omega (arith, g .along .way .some)))
+
+  on-used : switchesOf s on ≡ switchesOf s vs ++ (switchAt s (levelOf b) x ∷ [])
+  on-used =
+      switches-snoc s vs next (g .along .way .some)
+      ∙ ap (λ (z : ℕ). switchesOf s vs ++ (switchTo s z next ∷ [])) (g .here)
       ∙ ap (λ (z : ℕ). switchesOf s vs ++ (z ∷ [])) (hop-switch server b (fault-step server t vs b y .0))
 
-  going-on : hopTo s x b ≢ d → Going s t a d bs (vs ++ (hopTo s x b ∷ [])) (hopTo s x b) left (h + 1)
-  going-on n =
+  on-way : Prefix s t on
+  on-way = prefix-snoc vs next (g .along .way) (subst (λ (z : ℕ). Step s t vs z next) (sym (g .here)) (fault-step server t vs b y .1))
+
+  on-source : getD on 0 0 ≡ a
+  on-source = snoc-at vs next 0 (g .along .way .some) ∙ g .along .source
+
+  on-bytes : bs ≡ inTurn (byteTo s) on ++ left
+  on-bytes =
+      g .along .bytes
+      ∙ sym (
+      ap (λ (l : List ℕ). l ++ left) (turn-snoc (byteTo s) vs next (g .along .way .some))
+      ∙ ap (λ (z : ℕ). inTurn (byteTo s) vs ++ (z ∷ []) ++ left) (ap (λ (z : ℕ). byteTo s z next) (g .here) ∙ hop-byte server b (fault-step server t vs b y .0))
+      ∙ append-snoc (inTurn (byteTo s) vs) b left)
+
+  on-long : length on ≡ suc (suc h)
+  on-long = length-snoc vs next ∙ ap suc (g .met)
+
+  on-going : next ≢ d → Going s t a d bs on next left (h + 1)
+  on-going n =
       record {
-        way = prefix-snoc vs (hopTo s x b) (g .way) (subst (λ (z : ℕ). Step s t vs z (hopTo s x b)) (sym (g .here)) (fault-step server t vs b y .1));
-        here = snoc-last vs (hopTo s x b);
-        source = snoc-at vs (hopTo s x b) 0 (g .way .some) ∙ g .source;
-        away = λ i p. elim (ℕ-discrete i (length vs)) [
-          | yes z ↦ λ e. n (sym (last-at i z) ∙ e)
-          | no z ↦ λ e. g .away i (omega (arith, length-snoc vs (hopTo s x b))) (sym (snoc-at vs (hopTo s x b) i (omega (arith, length-snoc vs (hopTo s x b)))) ∙ e)
-        ];
-        bytes = g .bytes ∙ sym (
-            ap (λ (l : List ℕ). l ++ left) (turn-snoc (byteTo s) vs (hopTo s x b) (g .way .some))
-            ∙ ap (λ (z : ℕ). inTurn (byteTo s) vs ++ (z ∷ []) ++ left) (ap (λ (z : ℕ). byteTo s z (hopTo s x b)) (g .here) ∙ hop-byte server b (fault-step server t vs b y .0))
-            ∙ append-snoc (inTurn (byteTo s) vs) b left);
-        met = length-snoc vs (hopTo s x b) ∙ omega (arith, g .met);
+        along = record { way = on-way; source = on-source; away = away; bytes = on-bytes };
+        here = snoc-last vs next;
+        met = omega (arith, on-long);
       }
     where
-      last-at : (i : ℕ) → i ≡ length vs → getD (vs ++ (hopTo s x b ∷ [])) i 0 ≡ hopTo s x b
-      last-at i z =
-          let e : i ≡ length (vs ++ (hopTo s x b ∷ [])) - 1 = omega (arith, length-snoc vs (hopTo s x b)) in
-          ap (λ (k : ℕ). getD (vs ++ (hopTo s x b ∷ [])) k 0) e ∙ snoc-last vs (hopTo s x b)
+      away : (i : ℕ) → i < length on → getD on i 0 ≢ d
+      away i p e =
+          elim (ℕ-discrete i (length vs)) [
+            | yes z ↦ n (sym (getD-append-seam vs next [] 0) ∙ ap (λ (k : ℕ). getD on k 0) (sym z) ∙ e)
+            | no z ↦ let q : i < length vs = omega (arith, length-snoc vs next) in g .along .away i q (sym (snoc-at vs next i q) ∙ e)
+          ]
 
-walk-arises : (s : Shape) (t : List ℕ) (a d : ℕ) (bs vs : List ℕ) (x : ℕ) (left : List ℕ) (h r q : ℕ) → Going s t a d bs vs x left h → walkFrom s t d h vs (switchesOf s vs) x left ≡ stopped r q → r ≤ 12 → Arises s t a d bs r q
+  on-route : next ≡ d → length bs ≡ 8 → RouteTo s t a d on
+  on-route z l =
+      record { route = prefix-route on-way (omega (arith, on-long)) (omega (arith, on-long, l, count)); source = on-source; arrives = snoc-last vs next ∙ z }
+    where
+      count : length bs ≡ length on - 1 + length left
+      count = ap length on-bytes ∙ length-append (inTurn (byteTo s) on) left ∙ ap (λ (k : ℕ). k + length left) (length-turn (byteTo s) on)
+
+-- after arrival: the first byte that is not zero
+ended-why : (h : ℕ) (met used left : List ℕ) (r q : ℕ) → ended h met used left ≡ stopped r q → (m : ℕ) × (refusedAt 14 1 (suc (h + m)) ≡ refusedAt r 1 q) × (getD left m 0 ≢ 0) × ((j : ℕ) → j < m → getD left j 0 ≡ 0)
+unfolding ended
+ended-why h met used [] r q e = unlike e
+ended-why h met used (b ∷ left) r q e =
+    elim (ℕ-discrete b 0) [
+      | yes y ↦ let w = ended-why (h + 1) met used left r q (rw (eq-eqb b 0 y) at e) in
+          (suc (w .0), ap (λ (k : ℕ). refusedAt 14 1 (suc k)) (let z : h + suc (w .0) ≡ h + 1 + w .0 = omega arith in z) ∙ w .1, w .2, before y (w .3))
+      | no n ↦ (0, ap (refusedAt 14 1) (let z : suc (h + 0) ≡ h + 1 = omega arith in z) ∙ stop-refusal (rw (ne-eqb b 0 n) at e), n, λ j k. absurd (let z : ⊥ = omega arith in z))
+    ]
+  where
+    before : {m : ℕ} → b ≡ 0 → ((j : ℕ) → j < m → getD left j 0 ≡ 0) → (j : ℕ) → j < suc m → getD (b ∷ left) j 0 ≡ 0
+    before y f zero k = y
+    before y f (suc j) k = f j (le-of-suc-le-suc k)
+
+ended-stops : (h : ℕ) (met used left : List ℕ) (m : ℕ) → getD left m 0 ≢ 0 → ((j : ℕ) → j < m → getD left j 0 ≡ 0) → ended h met used left ≡ stopped 14 (suc (h + m))
+unfolding ended
+ended-stops h met used [] m n z = absurd (n refl)
+ended-stops h met used (b ∷ left) zero n z = rw (ne-eqb b 0 n, add-zero h) (ap (stopped 14) (let e : h + 1 ≡ suc h = omega arith in e))
+ended-stops h met used (b ∷ left) (suc m) n z =
+    rw (eq-eqb b 0 (z zero (suc-le-suc zero-le)))
+    (ended-stops (h + 1) met used left m n (λ j k. z (suc j) (suc-le-suc k)) ∙ ap (stopped 14) (let e : suc (h + 1 + m) ≡ suc (h + suc m) = omega arith in e))
+
+-- a place past the hops of a way
+past : (f : ℕ → ℕ → ℕ) (bs vs left : List ℕ) (j : ℕ) → bs ≡ inTurn f vs ++ left → length vs - 1 ≤ j → getD bs j 0 ≡ getD left (j - (length vs - 1)) 0
+past f bs vs left j e h =
+    let k : j ≡ length (inTurn f vs) + (j - (length vs - 1)) = omega (arith, length-turn f vs) in
+    ap₂ (λ (l : List ℕ) (i : ℕ). getD l i 0) e k ∙ getD-append-add (inTurn f vs) left (j - (length vs - 1)) 0
+
+walk-why : (s : Shape) (t : List ℕ) (a d : ℕ) (bs vs : List ℕ) (x : ℕ) (left : List ℕ) (h r q : ℕ) → length bs ≡ 8 → Going s t a d bs vs x left h → walkFrom s t d h vs (switchesOf s vs) x left ≡ stopped r q → Stops s t a d bs (refusedAt r 1 q)
 unfolding walkFrom
-walk-arises s t a d bs vs x [] h r q g e l = let z : ⊥ = omega (arith, stopped-number e) in absurd z
-walk-arises s t a d bs vs x (b ∷ left) h r q g e l =
+walk-why s t a d bs vs x [] h r q l g e = subst (Stops s t a d bs) (stop-refusal e) (never-arrives (g .along))
+walk-why s t a d bs vs x (b ∷ left) h r q l g e =
     elim (ℕ-discrete (fault s t vs (switchesOf s vs) x b) 0) [
-      | no n ↦ let w = sym (walk-refused s t d h vs (switchesOf s vs) x b left n) ∙ e in
-          record {
-            servers = vs;
-            byte = b;
-            rest = left;
-            way = g .way;
-            source = g .source;
-            away = g .away;
-            bytes = g .bytes;
-            hop = omega (arith, stopped-hop w, g .met);
-            refused = ap (λ (z : ℕ). fault s t vs (switchesOf s vs) z b) (g .here) ∙ stopped-number w;
-          }
+      | no n ↦ subst (Stops s t a d bs) (refused n) (hop-fails (g .along) (failing (λ z. refusedAt z 1 (length vs)) (readTests s t vs b) (fault s t vs (switchesOf s vs) (endOf vs) b) refl (read-number s t vs b) (λ z. n (sym same ∙ z))))
       | yes y ↦ elim (ℕ-discrete (hopTo s x b) d) [
-        | yes z ↦ let w = ended-number (h + 1) _ _ left r q (sym (walk-arrives s t d h vs (switchesOf s vs) x b left y z) ∙ e) in
-            let o : ⊥ = omega arith in absurd o
-        | no z ↦ walk-arises s t a d bs (vs ++ (hopTo s x b ∷ [])) (hopTo s x b) left (h + 1) r q (going-on g y z)
-            (ap (λ (u : List ℕ). walkFrom s t d (h + 1) (vs ++ (hopTo s x b ∷ [])) u (hopTo s x b) left) (used g y) ∙ sym (walk-goes s t d h vs (switchesOf s vs) x b left y z) ∙ e) l
+        | yes z ↦ after y z (ended-why (h + 1) _ _ left r q (sym (walk-arrives s t d h vs (switchesOf s vs) x b left y z) ∙ e))
+        | no z ↦ walk-why s t a d bs (on g y) (hopTo s x b) left (h + 1) r q l (on-going g y z)
+            (ap (λ (u : List ℕ). walkFrom s t d (h + 1) (vs ++ (hopTo s x b ∷ [])) u (hopTo s x b) left) (on-used g y) ∙ sym (walk-goes s t d h vs (switchesOf s vs) x b left y z) ∙ e)
       ]
     ]
+  where
+    same : fault s t vs (switchesOf s vs) (endOf vs) b ≡ fault s t vs (switchesOf s vs) x b
+    same = ap (λ (z : ℕ). fault s t vs (switchesOf s vs) z b) (g .here)
 
--- a refusal of a hop comes from the walk
-walk-number : (w : Walk) (r : ℕ) → walked w .refusal .number ≡ r → r ≢ 0 → w ≡ stopped r (walked w .refusal .hop)
-walk-number (stopped x h) r e n = ap (λ (z : ℕ). stopped z h) e
-walk-number (arrived vs ws) r e n = absurd (n (sym e))
+    refused : fault s t vs (switchesOf s vs) x b ≢ 0 → refusedAt (fault s t vs (switchesOf s vs) (endOf vs) b) 1 (length vs) ≡ refusedAt r 1 q
+    refused n =
+        ap₂ (λ (z k : ℕ). refusedAt z 1 k) same (let k : length vs ≡ h + 1 = omega (arith, g .met) in k)
+        ∙ stop-refusal (sym (walk-refused s t d h vs (switchesOf s vs) x b left n) ∙ e)
 
-one-small : (r : ℕ) → OneOf (1 ∷ 2 ∷ 3 ∷ 4 ∷ 5 ∷ 7 ∷ []) r → r ≤ 7
-one-small r (nought z) = omega arith
-one-small r (listed z) = leb-true r 7 (all-at (λ x. leb x 7) (1 ∷ 2 ∷ 3 ∷ 4 ∷ 5 ∷ 7 ∷ []) r refl z)
+    after : (y : fault s t vs (switchesOf s vs) x b ≡ 0) → hopTo s x b ≡ d → (m : ℕ) × (refusedAt 14 1 (suc (h + 1 + m)) ≡ refusedAt r 1 q) × (getD left m 0 ≢ 0) × ((j : ℕ) → j < m → getD left j 0 ≡ 0) → Stops s t a d bs (refusedAt r 1 q)
+    after y z w =
+        subst (Stops s t a d bs) (w .1)
+        (goes-on (record {
+          servers = on g y;
+          left = left;
+          route = on-route g y z l;
+          bytes = on-bytes g y;
+          arrived = omega (arith, on-long g y);
+          zeros = λ j p k. past (byteTo s) bs (on g y) left j (on-bytes g y) p ∙ w .3 (j - (length (on g y) - 1)) (omega (arith, on-long g y));
+          here = λ k. w .2 (sym (past (byteTo s) bs (on g y) left (h + 1 + w .0) (on-bytes g y) (omega (arith, on-long g y)) ∙ ap (λ (i : ℕ). getD left i 0) (let i : h + 1 + w .0 - (length (on g y) - 1) ≡ w .0 = omega (arith, on-long g y) in i)) ∙ k);
+        }))
 
 -- at the source
 start : {s : Shape} {a d : ℕ} (t bs : List ℕ) → Server s a → a ≢ d → Going s t a d bs (a ∷ []) a bs 0
 unfolding inTurn
-start {s} {a} {d} t bs h n = record { way = prefix-one t h; here = refl; source = refl; away = away; bytes = refl; met = refl }
+start {s} {a} {d} t bs h n =
+    record { along = record { way = prefix-one t h; source = refl; away = away; bytes = refl }; here = refl; met = refl }
   where
     away : (i : ℕ) → i < 1 → getD (a ∷ []) i 0 ≢ d
     away zero p = n
     away (suc i) p = let z : ⊥ = omega arith in absurd z
 
-walk-place : (s : Shape) (t : List ℕ) (a d : ℕ) (bs : List ℕ) → Ends s a d → 8 ≤ walked (walk s t a d bs) .refusal .number → walked (walk s t a d bs) .refusal .number ≤ 12 → Arises s t a d bs (walked (walk s t a d bs) .refusal .number) (walked (walk s t a d bs) .refusal .hop)
-unfolding walk switchesOf inTurn
-walk-place s t a d bs h u v =
-    walk-arises s t a d bs (a ∷ []) a bs 0 (walked (walk s t a d bs) .refusal .number) (walked (walk s t a d bs) .refusal .hop) (start t bs (h .source) (h .differ))
-    (walk-number (walk s t a d bs) (walked (walk s t a d bs) .refusal .number) refl (λ z. omega arith)) v
+module _ {s : Shape} {a d : ℕ} (t bs : List ℕ) (ends : Ends s a d) (l : length bs ≡ 8) where
+  walk-stops : (r q : ℕ) → walk s t a d bs ≡ stopped r q → Stops s t a d bs (refusedAt r 1 q)
+  unfolding walk switchesOf inTurn
+  walk-stops r q e = walk-why s t a d bs (a ∷ []) a bs 0 r q l (start t bs (ends .source) (ends .differ)) e
 
-pub hop-place : HopPlace
-unfolding walkAnswer
-hop-place s t a d bs u v =
-    elim (ℕ-discrete (arrayRefusal s a d bs) 0) [
-      | no n ↦ let z : ⊥ = omega (arith, refused-number (arrayRefusal s a d bs) (walked (walk s t a d bs)) n, one-small (arrayRefusal s a d bs) (array-numbers s a d bs)) in absurd z
-      | yes z ↦ let f : walkAnswer s t a d bs ≡ walked (walk s t a d bs) = answer-none _ _ _ (sym z) in
-          subst (λ (x : Walked). Arises s t a d bs (x .refusal .number) (x .refusal .hop)) (sym f)
-          (walk-place s t a d bs (array-of s a d bs z .0) (rw f at u) (rw f at v))
-    ]
+  pub walk-answer : walkAnswer s t a d bs ≡ walked (walk s t a d bs)
+  unfolding walkAnswer
+  walk-answer = answer-none _ _ _ (array-none bs ends l)
 
--- ---- 13
+  -- what a walk comes to
+  pub walk-reads : Reads s t a d bs (walked (walk s t a d bs) .refusal)
+  walk-reads = go (walk s t a d bs) refl
+    where
+      go : (w : Walk) → walk s t a d bs ≡ w → Reads s t a d bs (walked w .refusal)
+      go (stopped r q) e = inr (walk-stops r q e)
+      go (arrived vs ws) e = inl (arrived-encodes t bs ends l (ap numberOf e), refl)
 
-one-hop : (r : ℕ) → OneOf (8 ∷ 9 ∷ 10 ∷ 11 ∷ 12 ∷ []) r → r ≤ 12
-one-hop r (nought z) = omega arith
-one-hop r (listed z) = leb-true r 12 (all-at (λ x. leb x 12) (8 ∷ 9 ∷ 10 ∷ 11 ∷ 12 ∷ []) r refl z)
+-- ---- and back: a walk over the bytes of a way
 
-walk-passes : (s : Shape) (t : List ℕ) (a d : ℕ) (bs vs : List ℕ) (x : ℕ) (left : List ℕ) (h q : ℕ) → length bs ≡ 8 → Going s t a d bs vs x left h → walkFrom s t d h vs (switchesOf s vs) x left ≡ stopped 13 q → NeverArrives s t a d bs × (q ≡ 8)
+walk-on : {s : Shape} {t : List ℕ} {a d : ℕ} {bs vs left : List ℕ} → Along s t a d bs vs left → walk s t a d bs ≡ walkFrom s t d (length vs - 1) vs (switchesOf s vs) (endOf vs) left
+walk-on {s} {t} {a} {d} {bs} {vs} {left} h = ap (walk s t a d) (h .bytes) ∙ walk-there vs left (h .way) (h .source) (h .away)
+
+walk-over : (s : Shape) (t : List ℕ) (d h : ℕ) (met used : List ℕ) (x : ℕ) → walkFrom s t d h met used x [] ≡ stopped 13 8
 unfolding walkFrom
-walk-passes s t a d bs vs x [] h q l g e =
-    let b : bs ≡ inTurn (byteTo s) vs = g .bytes ∙ append-nil (inTurn (byteTo s) vs) in (
-      record {
-        servers = vs;
-        way = g .way;
-        hops = omega (arith, l, ap (λ (y : List ℕ). length y) b, length-turn (byteTo s) vs, g .way .some);
-        source = g .source;
-        away = g .away;
-        bytes = b;
-      },
-      sym (stopped-hop e),
+walk-over s t d h met used x = refl
+
+-- a walk stops as it is said to
+pub stops-walk : {s : Shape} {t : List ℕ} {a d : ℕ} {bs : List ℕ} {r : Refusal} → Stops s t a d bs r → (n q : ℕ) × (walk s t a d bs ≡ stopped n q) × (refusedAt n 1 q ≡ r) × (n ≢ 0)
+stops-walk {s} {t} {a} {d} {bs} {r} (hop-fails {vs} {b} {left} h k) =
+    let f = fault s t vs (switchesOf s vs) (endOf vs) b in
+    let w = fails (λ z. refusedAt z 1 (length vs)) (readTests s t vs b) f r refl (read-number s t vs b) k in (
+      f,
+      length vs - 1 + 1,
+      walk-on h ∙ walk-refused s t d (length vs - 1) vs (switchesOf s vs) (endOf vs) b left (w .0),
+      ap (refusedAt f 1) (let z : length vs - 1 + 1 ≡ length vs = omega (arith, h .way .some) in z) ∙ sym (w .1),
+      w .0,
     )
-walk-passes s t a d bs vs x (b ∷ left) h q l g e =
-    elim (ℕ-discrete (fault s t vs (switchesOf s vs) x b) 0) [
-      | no n ↦ let w = stopped-number (sym (walk-refused s t d h vs (switchesOf s vs) x b left n) ∙ e) in
-          let o : ⊥ = omega (arith, one-hop _ (fault-numbers s t vs (switchesOf s vs) x b)) in absurd o
-      | yes y ↦ elim (ℕ-discrete (hopTo s x b) d) [
-        | yes z ↦ let w = ended-number (h + 1) _ _ left 13 q (sym (walk-arrives s t d h vs (switchesOf s vs) x b left y z) ∙ e) in
-            let o : ⊥ = omega arith in absurd o
-        | no z ↦ walk-passes s t a d bs (vs ++ (hopTo s x b ∷ [])) (hopTo s x b) left (h + 1) q l (going-on g y z)
-            (ap (λ (u : List ℕ). walkFrom s t d (h + 1) (vs ++ (hopTo s x b ∷ [])) u (hopTo s x b) left) (used g y) ∙ sym (walk-goes s t d h vs (switchesOf s vs) x b left y z) ∙ e)
-      ]
-    ]
+stops-walk {s} {t} {a} {d} {bs} (never-arrives {vs} h) = (13, 8, walk-on h ∙ walk-over s t d (length vs - 1) vs (switchesOf s vs) (endOf vs), refl, λ z. omega arith)
+stops-walk {s} {t} {a} {d} {bs} (goes-on {p} h) =
+    let m = p - (length (h .servers) - 1) in (
+      14,
+      suc (length (h .servers) - 1 + m),
+      ap (walk s t a d) (h .bytes) ∙ walk-to (h .servers) (h .left) (h .route)
+          ∙ ended-stops (length (h .servers) - 1) (h .servers) (switchesOf s (h .servers)) (h .left) m
+          (λ z. h .here (past (byteTo s) bs (h .servers) (h .left) p (h .bytes) (h .arrived) ∙ z))
+          (λ j k. let i = length (h .servers) - 1 + j in
+          ap (λ (x : ℕ). getD (h .left) x 0) (let z : j ≡ i - (length (h .servers) - 1) = omega arith in z)
+          ∙ sym (past (byteTo s) bs (h .servers) (h .left) i (h .bytes) (omega arith))
+          ∙ h .zeros i (omega arith) (omega arith)),
+      ap (λ (x : ℕ). refusedAt 14 1 (suc x)) (let z : length (h .servers) - 1 + m ≡ p = omega (arith, h .arrived) in z),
+      λ z. omega arith,
+    )
 
-walk-never : (s : Shape) (t : List ℕ) (a d : ℕ) (bs : List ℕ) → Ends s a d → length bs ≡ 8 → walked (walk s t a d bs) .refusal .number ≡ 13 → NeverArrives s t a d bs × (walked (walk s t a d bs) .refusal ≡ refusedAt 13 1 8)
-unfolding walk switchesOf inTurn
-walk-never s t a d bs h l u =
-    let w = walk-number (walk s t a d bs) 13 u (λ z. omega arith) in
-    let p = walk-passes s t a d bs (a ∷ []) a bs 0 (walked (walk s t a d bs) .refusal .hop) l (start t bs (h .source) (h .differ)) w in
-    (p .0, ap (λ (v : Walk). walked v .refusal) w ∙ ap (refusedAt 13 1) (p .1))
+pub stops-some : {s : Shape} {t : List ℕ} {a d : ℕ} {bs : List ℕ} {r : Refusal} → Stops s t a d bs r → r .number ≢ 0
+stops-some h = let w = stops-walk h in λ z. w .4 (ap (λ (x : Refusal). x .number) (w .3) ∙ z)
 
-pub no-arrival : NoArrival
-unfolding walkAnswer
-no-arrival s t a d bs u =
-    elim (ℕ-discrete (arrayRefusal s a d bs) 0) [
-      | no n ↦ let z : ⊥ = omega (arith, refused-number (arrayRefusal s a d bs) (walked (walk s t a d bs)) n, one-small (arrayRefusal s a d bs) (array-numbers s a d bs)) in absurd z
-      | yes z ↦ let f : walkAnswer s t a d bs ≡ walked (walk s t a d bs) = answer-none _ _ _ (sym z) in
-          let p = array-of s a d bs z in
-          let g = walk-never s t a d bs (p .0) (p .1) (ap (λ (x : Walked). x .refusal .number) (sym f) ∙ u) in
-          (g .0, ap (λ (x : Walked). x .refusal) f ∙ g .1)
-    ]
-
--- ---- the writer's hop
-
-write-arises : (s : Shape) (h : ℕ) (whole vs rest : List ℕ) → Prefix s [] vs → Servers s rest → length vs ≡ suc h → whole ≡ vs ++ rest → writeFrom s h vs (switchesOf s vs) (lastOf vs) rest .number ≢ 0 → WriteArises s whole (writeFrom s h vs (switchesOf s vs) (lastOf vs) rest)
-unfolding writeFrom
-write-arises s h whole vs [] p q l e n = absurd (n refl)
-write-arises s h whole vs (b ∷ rest) p q l e n =
-    elim (ℕ-discrete (writeFault s vs (switchesOf s vs) (lastOf vs) b) 0) [
-      | no y ↦ record {
-        before = vs;
-        next = b;
-        rest = rest;
-        servers = e;
-        way = p;
-        here = ap (λ (x : Bool). cond x on (refusedAt fail 1 (h + 1))) (ne-eqb fail 0 y) ∙ ap (refusedAt fail 1) (let z : h + 1 ≡ length vs = omega arith in z);
-      }
-      | yes y ↦ let st = write-step vs ha hb .0 y in
-          let m : on ≡ writeFrom s (h + 1) (vs ++ (b ∷ [])) (switchesOf s (vs ++ (b ∷ []))) (lastOf (vs ++ (b ∷ []))) rest =
-          ap (λ (u : List ℕ). writeFrom s (h + 1) (vs ++ (b ∷ [])) u b rest) (sym (switches-snoc s vs b (p .some)))
-          ∙ ap (λ (x : ℕ). writeFrom s (h + 1) (vs ++ (b ∷ [])) (switchesOf s (vs ++ (b ∷ []))) x rest) (sym (snoc-last vs b)) in
-          let f = ap (λ (x : Bool). cond x on (refusedAt fail 1 (h + 1))) (eq-eqb fail 0 y) ∙ m in
-          subst (WriteArises s whole) (sym f)
-          (write-arises s (h + 1) whole (vs ++ (b ∷ [])) rest (prefix-snoc vs b p st) (record { each = λ i k. q .each (suc i) (suc-le-suc k) })
-          (length-snoc vs b ∙ omega (arith, l)) (e ∙ sym (append-snoc vs b rest)) (λ z. n (ap (λ (r : Refusal). r .number) f ∙ z)))
-    ]
-  where
-    fail : ℕ
-    fail = writeFault s vs (switchesOf s vs) (lastOf vs) b
-
-    on : Refusal
-    on = writeFrom s (h + 1) (vs ++ (b ∷ [])) (switchesOf s vs ++ (switchTo s (lastOf vs) b ∷ [])) b rest
-
-    ha : Server s (lastOf vs)
-    ha = p .servers (length vs - 1) (omega (arith, p .some))
-
-    hb : Server s b
-    hb = q .each zero (suc-le-suc zero-le)
-
-way-arises : (s : Shape) (vs : List ℕ) → Servers s vs → onTheWay s vs .number ≢ 0 → WriteArises s vs (onTheWay s vs)
-unfolding onTheWay switchesOf inTurn
-way-arises s [] h n = absurd (n refl)
-way-arises s (v ∷ vs) h n =
-    write-arises s 0 (v ∷ vs) (v ∷ []) vs (prefix-one [] (h .each zero (suc-le-suc zero-le))) (record { each = λ i k. h .each (suc i) (suc-le-suc k) }) refl refl n
-
-one-write : (q : ℕ) → OneOf (1 ∷ 2 ∷ 3 ∷ 22 ∷ 4 ∷ 5 ∷ []) q → cond (eqb q 22) 0 q ≤ 5
-one-write q (nought z) = subst (λ (x : ℕ). cond (eqb x 22) 0 x ≤ 5) (sym z) zero-le
-one-write q (listed z) = leb-true _ 5 (all-at (λ x. leb (cond (eqb x 22) 0 x) 5) (1 ∷ 2 ∷ 3 ∷ 22 ∷ 4 ∷ 5 ∷ []) q refl z)
-
-written-is : (s : Shape) (vs : List ℕ) (r : Refusal) → written s vs r .refusal .number ≢ 0 → (r .number ≢ 0) × (written s vs r .refusal ≡ r)
-written-is s vs r n =
-    elim (ℕ-discrete (r .number) 0) [
-      | yes z ↦ absurd (n (ap (λ (x : Bool). cond x (aWriting (encode s vs)) (noWriting r) .refusal .number) (eq-eqb (r .number) 0 z)))
-      | no z ↦ (z, ap (λ (x : Bool). cond x (aWriting (encode s vs)) (noWriting r) .refusal) (ne-eqb (r .number) 0 z))
-    ]
-
-pub write-place : WritePlace
-unfolding writeAnswer
-write-place s vs u =
-    elim (ℕ-discrete (writeRefusal s vs) 0) [
-      | no n ↦ absurd (⊎-elim (λ e. early (writeRefusal s vs) 23 n (write-numbers s vs) e (omega arith) refl) (λ e. early (writeRefusal s vs) 12 n (write-numbers s vs) e (omega arith) refl) u)
-      | yes z ↦ let f : writeAnswer s vs ≡ written s vs (onTheWay s vs) = answer-none _ _ _ (sym z) in
-          let m : writeAnswer s vs .refusal .number ≢ 0 = ⊎-elim (λ e x. omega arith) (λ e x. omega arith) u in
-          let g = written-is s vs (onTheWay s vs) (λ x. m (ap (λ (y : Writing). y .refusal .number) f ∙ x)) in
-          subst (WriteArises s vs) (sym (ap (λ (y : Writing). y .refusal) f ∙ g .1)) (way-arises s vs (listed-of s vs z .servers) (g .0))
-    ]
-  where
-    early : (q r : ℕ) → q ≢ 0 → OneOf (1 ∷ 2 ∷ 3 ∷ 22 ∷ 4 ∷ 5 ∷ []) q → answer q (λ x. noWriting (plain x)) (written s vs (onTheWay s vs)) .refusal .number ≡ r → 5 < r → cond (eqb r 22) 0 r ≡ r → ⊥
-    early zero r n o e l c = n refl
-    early (suc q) r n o e l c = let w : cond (eqb r 22) 0 r ≤ 5 = subst (λ (x : ℕ). cond (eqb x 22) 0 x ≤ 5) e (one-write (suc q) o) in omega arith
+-- what reading comes to is what the walk answers
+pub reads-walk : {s : Shape} {t : List ℕ} {a d : ℕ} {bs : List ℕ} {r : Refusal} → Reads s t a d bs r → walked (walk s t a d bs) .refusal ≡ r
+reads-walk (inl h) = ap (λ (w : Walk). walked w .refusal) (encodes-walk (h .0 .1)) ∙ sym (h .1)
+reads-walk (inr h) = let w = stops-walk h in ap (λ (x : Walk). walked x .refusal) (w .2) ∙ w .3

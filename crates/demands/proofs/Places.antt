@@ -1,136 +1,38 @@
--- The places of 14 and 15, proved.
-use Prim.Native.Nat.{ℕ, zero, suc, _+_, _<_}
-use mathlib.Core.Path.{_≡_, refl, sym, ap, _∙_, subst}
+-- What checking a list comes to: its first array that is not read, else its first pair that is not parallel, proved.
+use Prim.Native.Nat.{ℕ, zero, suc, _+_, _/_, _≤_, _<_, suc-le-suc, zero-le}
+use mathlib.Core.Path.{_≡_, refl, sym, ap, ap₂, _∙_, subst}
 use mathlib.Core.Logic.{_≢_, _⊎_, inl, inr, ⊎-elim}
 use mathlib.Core.Bool.{Bool, true, false, cond}
-use mathlib.Core.List.{List, [], _∷_}
+use mathlib.Core.List.{List, [], _∷_, map}
 use native.Mathlib.Omega.{arith}
 use native.Mathlib.Nat.{le-of-suc-le-suc}
 use native.Mathlib.Decide.{ℕ-discrete}
-use lib.ListN.{length, getD}
+use lib.ListN.{length, getD, take, drop, length-map}
 use borrow.Author.Tests.{eq-eqb, ne-eqb}
-use Rattle.lists.specs.Lists.{isIn}
+use Rattle.lists.proofs.ListLaws.{take-filled}
 use Rattle.refusals.specs.declared.Refusal.{Refusal}
-use Rattle.refusals.specs.Refusals.{plain, refusedAt, answer}
+use Rattle.refusals.specs.Refusals.{none, plain, refusedAt}
 use Rattle.refusals.proofs.AnswerLaws.{answer-none}
 use Rattle.room.specs.declared.Shape.{Shape}
-use Rattle.path.specs.Walks.{Walk, stopped, arrived, hopTo, fault, ended, walkFrom, walk}
+use Rattle.room.specs.Shapes.{Ends}
+use Rattle.links.specs.Table.{TableOf, roomRefusal}
 use Rattle.path.specs.declared.Walked.{Walked}
-use Rattle.path.specs.Answers.{arrayRefusal, noWalk, walked, walkAnswer}
-use Rattle.path.proofs.CodecLaws.{array-of, array-none}
-use Rattle.path.proofs.RouteLaws.{walk-refused, walk-arrives, walk-goes}
-use Rattle.verdict.specs.Checks.{parallel, firstStop, firstMeeting, firstOf, firstPair, walksOf, checkAnswer}
+use Rattle.path.specs.Routes.{Parallel, Encodes}
+use Rattle.path.specs.Answers.{walkAnswer}
+use Rattle.path.proofs.CodecLaws.{walk-given, walk-exactly}
+use Rattle.verdict.specs.Checks.{arrays, parallel, firstStop, firstMeeting, firstOf, firstPair, listRefusal, walksOf, checkAnswer}
 use Rattle.verdict.specs.Arrived.{nowhere}
-use Rattle.demands.specs.Demand1.{OneOf, nought, listed, zeroFrom, FirstAfterArrival, ListPlace}
-use Rattle.demands.proofs.Numbers.{array-numbers, fault-numbers}
+use Rattle.verdict.proofs.AcceptLaws.{walkedOf, parallel-of, of-parallel, accepted-of, of-accepted}
+use Rattle.verdict.proofs.ScanLaws.{first-left, first-right}
+use Rattle.pick.specs.Picks.{arrayAt}
+use Rattle.pick.proofs.UsableLaws.{array-long, array-next, clash}
+use Rattle.demands.specs.Tests.{Refused, Hold, Exactly}
+use Rattle.demands.specs.Refusals.{endsTests, roomTests, Arrays, checkTests, IsRead, Stops, Reads, FirstRefused, FirstPair, Checks}
+use Rattle.demands.proofs.Chains.{front, zero-of, answers, exactly}
+use Rattle.demands.proofs.Numbers.{ends-hold, room-number, list-number}
+use Rattle.demands.proofs.Hops.{walk-answer, walk-reads, reads-walk, stops-walk, stops-some}
 
--- ---- 14
-
-pub stopped-number : {r q x y : ℕ} → stopped r q ≡ stopped x y → r ≡ x
-stopped-number e = cc
-
-pub stopped-hop : {r q x y : ℕ} → stopped r q ≡ stopped x y → q ≡ y
-stopped-hop e = cc
-
-pub unlike : {A : Type 0} {vs ws : List ℕ} {r q : ℕ} → arrived vs ws ≡ stopped r q → A
-unlike e = let z : _≡_ {A = ℕ} 0 1 = cc in let n : ⊥ = omega arith in absurd n
-
-zeros-end : (h : ℕ) (met used bs : List ℕ) → ended h met used (zeroFrom 0 bs) ≡ arrived met used
-unfolding ended
-zeros-end h met used [] = refl
-zeros-end h met used (b ∷ bs) = zeros-end (h + 1) met used bs
-
--- what stops after arrival is 14
-pub ended-number : (h : ℕ) (met used bs : List ℕ) (r q : ℕ) → ended h met used bs ≡ stopped r q → r ≡ 14
-unfolding ended
-ended-number h met used [] r q e = unlike e
-ended-number h met used (b ∷ bs) r q e =
-    elim (ℕ-discrete b 0) [
-      | yes y ↦ ended-number (h + 1) met used bs r q (rw (eq-eqb b 0 y) at e)
-      | no n ↦ sym (stopped-number (rw (ne-eqb b 0 n) at e))
-    ]
-
-ended-first : (h : ℕ) (met used bs : List ℕ) (q : ℕ) → ended h met used bs ≡ stopped 14 q → (p : ℕ) × (q ≡ h + suc p) × (getD bs p 0 ≢ 0) × (ended h met used (zeroFrom p bs) ≡ arrived met used)
-unfolding ended
-ended-first h met used [] q e = unlike e
-ended-first h met used (b ∷ bs) q e =
-    elim (ℕ-discrete b 0) [
-      | yes y ↦ let r = ended-first (h + 1) met used bs q (rw (eq-eqb b 0 y) at e) in
-          (suc (r .0), omega (arith, r .1), r .2, rw (eq-eqb b 0 y) (r .3))
-      | no n ↦ let w = stopped-hop (rw (ne-eqb b 0 n) at e) in
-          (0, omega arith, n, zeros-end (h + 1) met used bs)
-    ]
-
--- one of some numbers is no other
-pub not-among : (F : List ℕ) (r x : ℕ) → OneOf F r → isIn x F ≡ false → x ≢ 0 → r ≢ x
-not-among F r x (nought z) h n e = n (sym e ∙ z)
-not-among F r x (listed z) h n e =
-    let y : false ≡ true = sym h ∙ ap (λ (k : ℕ). isIn k F) (sym e) ∙ z in let w : _≡_ {A = ℕ} 0 1 = cc in omega arith
-
--- no fault of a hop is 14
-hop-not-14 : (s : Shape) (t met used : List ℕ) (a b : ℕ) → fault s t met used a b ≢ 14
-unfolding isIn
-hop-not-14 s t met used a b = not-among (8 ∷ 9 ∷ 10 ∷ 11 ∷ 12 ∷ []) _ 14 (fault-numbers s t met used a b) refl (λ z. omega arith)
-
--- a walk arrives
-abbrev Arrives : Walk → Type 0
-Arrives w = (vs ws : List ℕ) × (w ≡ arrived vs ws)
-
-walk-first : (s : Shape) (t : List ℕ) (d h : ℕ) (met used : List ℕ) (a : ℕ) (bs : List ℕ) (q : ℕ) → walkFrom s t d h met used a bs ≡ stopped 14 q → (p : ℕ) × (q ≡ h + suc p) × (getD bs p 0 ≢ 0) × Arrives (walkFrom s t d h met used a (zeroFrom p bs))
-unfolding walkFrom
-walk-first s t d h met used a [] q e = let z : ⊥ = omega (arith, stopped-number e) in absurd z
-walk-first s t d h met used a (b ∷ bs) q e =
-    elim (ℕ-discrete (fault s t met used a b) 0) [
-      | no n ↦ absurd (hop-not-14 s t met used a b (stopped-number (sym (walk-refused s t d h met used a b bs n) ∙ e)))
-      | yes y ↦ elim (ℕ-discrete (hopTo s a b) d) [
-        | yes z ↦ let r = ended-first (h + 1) _ _ bs q (sym (walk-arrives s t d h met used a b bs y z) ∙ e) in
-            (suc (r .0), omega (arith, r .1), r .2, (_, _, walk-arrives s t d h met used a b (zeroFrom (r .0) bs) y z ∙ r .3))
-        | no z ↦ let r = walk-first s t d (h + 1) _ _ (hopTo s a b) bs q (sym (walk-goes s t d h met used a b bs y z) ∙ e) in
-            (suc (r .0), omega (arith, r .1), r .2, (r .3 .0, r .3 .1, walk-goes s t d h met used a b (zeroFrom (r .0) bs) y z ∙ r .3 .2))
-      ]
-    ]
-
-zero-long : (p : ℕ) (bs : List ℕ) → length (zeroFrom p bs) ≡ length bs
-zero-long zero [] = refl
-zero-long (suc p) [] = refl
-zero-long zero (b ∷ bs) = ap suc (zero-long zero bs)
-zero-long (suc p) (b ∷ bs) = ap suc (zero-long p bs)
-
--- an answer of 14 comes from the walk
-walk-fourteen : (w : Walk) → walked w .refusal .number ≡ 14 → (q : ℕ) × (w ≡ stopped 14 q)
-walk-fourteen (stopped r h) e = (h, ap (λ (x : ℕ). stopped x h) e)
-walk-fourteen (arrived vs ws) e = let z : ⊥ = omega arith in absurd z
-
-pub refused-number : (q : ℕ) (x : Walked) → q ≢ 0 → answer q (λ r. noWalk (plain r)) x .refusal .number ≡ q
-refused-number zero x n = absurd (n refl)
-refused-number (suc q) x n = refl
-
-pub first-after-arrival : FirstAfterArrival
-unfolding walkAnswer walk isIn
-first-after-arrival s t a d bs e =
-    elim (ℕ-discrete (arrayRefusal s a d bs) 0) [
-      | no n ↦ absurd (not-among (1 ∷ 2 ∷ 3 ∷ 4 ∷ 5 ∷ 7 ∷ []) _ 14 (array-numbers s a d bs) refl (λ z. omega arith) (sym (refused-number (arrayRefusal s a d bs) (walked (walk s t a d bs)) n) ∙ e))
-      | yes z ↦
-          let f : (cs : List ℕ) → length cs ≡ 8 → walkAnswer s t a d cs ≡ walked (walk s t a d cs) = λ cs l. answer-none _ _ _ (array-none cs (array-of s a d bs z .0) l) in
-          let l = array-of s a d bs z .1 in
-          let w = walk-fourteen (walk s t a d bs) (ap (λ (x : Walked). x .refusal .number) (sym (f bs l)) ∙ e) in
-          let r = walk-first s t d 0 (a ∷ []) [] a bs (w .0) (w .1) in (
-            r .0,
-            ap (λ (x : Walked). x .refusal) (f bs l ∙ ap walked (w .1)) ∙ ap (refusedAt 14 1) (omega (arith, r .1)),
-            r .2,
-            ap (λ (x : Walked). x .refusal) (f (zeroFrom (r .0) bs) (zero-long (r .0) bs ∙ l) ∙ ap walked (r .3 .2)),
-          )
-    ]
-
--- ---- a list
-
-first-zero : (r q : Refusal) → r .number ≡ 0 → firstOf r q ≡ q
-unfolding firstOf
-first-zero r q e = rw (eq-eqb (r .number) 0 e)
-
-first-own : (r q : Refusal) → r .number ≢ 0 → firstOf r q ≡ r
-unfolding firstOf
-first-own r q n = ap (λ (b : Bool). cond b q r) (ne-eqb (r .number) 0 n)
+-- ---- walked arrays
 
 -- an array read, or the first that is refused
 split-stop : (i : ℕ) (w : Walked) (ws : List Walked) → firstStop i (w ∷ ws) .number ≡ 0 → (w .refusal .number ≡ 0) × (firstStop (i + 1) ws .number ≡ 0)
@@ -235,24 +137,244 @@ unfolding firstPair
 pair-found i [] n = absurd (n refl)
 pair-found i (w ∷ ws) n =
     elim (ℕ-discrete (firstMeeting w (i + 1) ws .number) 0) [
-      | yes z ↦ let e = first-zero (firstMeeting w (i + 1) ws) (firstPair (i + 1) ws) z in
+      | yes z ↦ let e = first-right (firstMeeting w (i + 1) ws) (firstPair (i + 1) ws) z in
           subst (Pair i (w ∷ ws)) (sym e) (pair-later (meeting-none w (i + 1) ws z) (pair-found (i + 1) ws (λ k. n (ap (λ (r : Refusal). r .number) e ∙ k))))
-      | no z ↦ subst (Pair i (w ∷ ws)) (sym (first-own (firstMeeting w (i + 1) ws) (firstPair (i + 1) ws) z)) (pair-first (meeting-found w (i + 1) ws z))
+      | no z ↦ subst (Pair i (w ∷ ws)) (sym (first-left (firstMeeting w (i + 1) ws) (firstPair (i + 1) ws) z)) (pair-first (meeting-found w (i + 1) ws z))
     ]
 
-pub list-place : ListPlace
+pair-none : (i : ℕ) (ws : List Walked) → firstPair i ws .number ≡ 0 → firstPair i ws ≡ none
+unfolding firstPair
+pair-none i [] e = refl
+pair-none i (w ∷ ws) e =
+    elim (ℕ-discrete (firstMeeting w (i + 1) ws .number) 0) [
+      | yes z ↦ let f = first-right (firstMeeting w (i + 1) ws) (firstPair (i + 1) ws) z in f ∙ pair-none (i + 1) ws (ap (λ (r : Refusal). r .number) (sym f) ∙ e)
+      | no z ↦ absurd (z (ap (λ (r : Refusal). r .number) (sym (first-left (firstMeeting w (i + 1) ws) (firstPair (i + 1) ws) z)) ∙ e))
+    ]
+
+-- ---- and back
+
+stop-none : (i : ℕ) (ws : List Walked) → ((j : ℕ) → j < length ws → getD ws j nowhere .refusal .number ≡ 0) → firstStop i ws ≡ none
+unfolding firstStop
+stop-none i [] f = refl
+stop-none i (w ∷ ws) f =
+    rw (eq-eqb (w .refusal .number) 0 (f zero (suc-le-suc zero-le))) (stop-none (i + 1) ws (λ j h. f (suc j) (suc-le-suc h)))
+
+stop-is : (i : ℕ) (ws : List Walked) (p : ℕ) → p < length ws → ((j : ℕ) → j < p → getD ws j nowhere .refusal .number ≡ 0) → getD ws p nowhere .refusal .number ≢ 0 → firstStop i ws ≡ refusedAt (getD ws p nowhere .refusal .number) (i + p) (getD ws p nowhere .refusal .hop)
+unfolding firstStop
+stop-is i [] p h f n = let z : ⊥ = omega arith in absurd z
+stop-is i (w ∷ ws) zero h f n =
+    rw (ne-eqb (w .refusal .number) 0 n) (ap (λ (x : ℕ). refusedAt (w .refusal .number) x (w .refusal .hop)) (let z : i ≡ i + 0 = omega arith in z))
+stop-is i (w ∷ ws) (suc p) h f n =
+    rw (eq-eqb (w .refusal .number) 0 (f zero (suc-le-suc zero-le)))
+    (stop-is (i + 1) ws p (le-of-suc-le-suc h) (λ j k. f (suc j) (suc-le-suc k)) n
+    ∙ ap (λ (x : ℕ). refusedAt (getD ws p nowhere .refusal .number) x (getD ws p nowhere .refusal .hop)) (let z : i + 1 + p ≡ i + suc p = omega arith in z))
+
+meeting-free : (w : Walked) (j : ℕ) (ws : List Walked) → ((z : ℕ) → z < length ws → parallel w (getD ws z nowhere) ≡ true) → firstMeeting w j ws ≡ none
+unfolding firstMeeting
+meeting-free w j [] f = refl
+meeting-free w j (v ∷ vs) f = rw (f zero (suc-le-suc zero-le)) (meeting-free w (j + 1) vs (λ z h. f (suc z) (suc-le-suc h)))
+
+meeting-is : (w : Walked) (j : ℕ) (ws : List Walked) (y : ℕ) → y < length ws → ((z : ℕ) → z < y → parallel w (getD ws z nowhere) ≡ true) → parallel w (getD ws y nowhere) ≡ false → firstMeeting w j ws ≡ refusedAt 15 (j + y) 0
+unfolding firstMeeting
+meeting-is w j [] y h f e = let z : ⊥ = omega arith in absurd z
+meeting-is w j (v ∷ vs) zero h f e = rw e (ap (λ (x : ℕ). refusedAt 15 x 0) (let z : j ≡ j + 0 = omega arith in z))
+meeting-is w j (v ∷ vs) (suc y) h f e =
+    rw (f zero (suc-le-suc zero-le))
+    (meeting-is w (j + 1) vs y (le-of-suc-le-suc h) (λ z k. f (suc z) (suc-le-suc k)) e ∙ ap (λ (x : ℕ). refusedAt 15 x 0) (let z : j + 1 + y ≡ j + suc y = omega arith in z))
+
+pair-is : (i : ℕ) (ws : List Walked) (x y : ℕ) → x < y → y < length ws → ((u v : ℕ) → u < v → v < length ws → (u < x) ⊎ ((u ≡ x) × (v < y)) → parallel (getD ws u nowhere) (getD ws v nowhere) ≡ true) → parallel (getD ws x nowhere) (getD ws y nowhere) ≡ false → firstPair i ws ≡ refusedAt 15 (i + y) 0
+unfolding firstPair
+pair-is i [] x y o h f e = let z : ⊥ = omega arith in absurd z
+pair-is i (w ∷ ws) x zero o h f e = let z : ⊥ = omega arith in absurd z
+pair-is i (w ∷ ws) zero (suc y) o h f e =
+    let m = meeting-is w (i + 1) ws y (le-of-suc-le-suc h) (λ z k. f zero (suc z) (suc-le-suc zero-le) (omega arith) (inr (refl, suc-le-suc k))) e in
+    first-left (firstMeeting w (i + 1) ws) (firstPair (i + 1) ws) (λ k. let z : _≡_ {A = ℕ} 15 0 = sym (ap (λ (r : Refusal). r .number) m) ∙ k in omega arith)
+    ∙ m
+    ∙ ap (λ (x : ℕ). refusedAt 15 x 0) (let z : i + 1 + y ≡ i + suc y = omega arith in z)
+pair-is i (w ∷ ws) (suc x) (suc y) o h f e =
+    first-right (firstMeeting w (i + 1) ws) (firstPair (i + 1) ws) (ap (λ (r : Refusal). r .number) (meeting-free w (i + 1) ws (λ z k. f zero (suc z) (suc-le-suc zero-le) (suc-le-suc k) (inl (suc-le-suc zero-le)))))
+    ∙ pair-is (i + 1) ws x y (le-of-suc-le-suc o) (le-of-suc-le-suc h) (λ u v p q k. f (suc u) (suc v) (suc-le-suc p) (suc-le-suc q) (⊎-elim (λ l. inl (suc-le-suc l)) (λ l. inr (ap suc (l .0), suc-le-suc (l .1))) k)) e
+    ∙ ap (λ (z : ℕ). refusedAt 15 z 0) (let z : i + 1 + y ≡ i + suc y = omega arith in z)
+
+-- ---- the arrays of a list
+
+arrays-long : (m : ℕ) (bs : List ℕ) → length (arrays m bs) ≡ m
+unfolding arrays
+arrays-long zero bs = refl
+arrays-long (suc m) bs = ap suc (arrays-long m (drop 8 bs))
+
+arrays-at : {B : Type 0} (f : List ℕ → B) (m : ℕ) (bs : List ℕ) (i : ℕ) (y : B) → i < m → getD (map f (arrays m bs)) i y ≡ f (arrayAt i bs)
+unfolding arrays
+arrays-at f zero bs i y h = let z : ⊥ = omega arith in absurd z
+arrays-at f (suc m) bs zero y h = refl
+arrays-at f (suc m) bs (suc i) y h = arrays-at f m (drop 8 bs) i y (le-of-suc-le-suc h) ∙ ap f (array-next i bs)
+
+module _ (s : Shape) (t : List ℕ) (a d : ℕ) (bs : List ℕ) (held : Hold (checkTests s t a d bs)) where
+  abbrev walks : List Walked
+  walks = walksOf s t a d bs
+
+  walks-long : length walks ≡ length bs / 8
+  unfolding walksOf
+  walks-long = length-map (arrays (length bs / 8) bs) (walkAnswer s t a d) ∙ arrays-long (length bs / 8) bs
+
+  walks-at : (i : ℕ) → i < length bs / 8 → getD walks i nowhere ≡ walkAnswer s t a d (arrayAt i bs)
+  unfolding walksOf
+  walks-at i h = arrays-at (walkAnswer s t a d) (length bs / 8) bs i nowhere h
+
+  ends : Ends s a d
+  ends = ends-hold s a d (front (endsTests s a d) ((6, TableOf s t) ∷ (7, Arrays s bs × (1 ≤ length bs)) ∷ []) held)
+
+  room : roomRefusal s t a d ≡ 0
+  unfolding roomRefusal
+  room = zero-of (roomTests s t a d) _ (room-number s t a d) (front (roomTests s t a d) ((7, Arrays s bs × (1 ≤ length bs)) ∷ []) held)
+
+  -- one of them: read exactly where its walk has no refusal, else it stops
+  array-reads : (i : ℕ) → i < length bs / 8 → Reads s t a d (arrayAt i bs) (getD walks i nowhere .refusal)
+  array-reads i h =
+      let l = array-long i bs h in
+      subst (λ (w : Walked). Reads s t a d (arrayAt i bs) (w .refusal)) (sym (walks-at i h ∙ walk-answer t (arrayAt i bs) ends l)) (walk-reads t (arrayAt i bs) ends l)
+
+  array-is : (i : ℕ) → i < length bs / 8 → (r : Refusal) → Reads s t a d (arrayAt i bs) r → getD walks i nowhere .refusal ≡ r
+  array-is i h r k = ap (λ (w : Walked). w .refusal) (walks-at i h ∙ walk-answer t (arrayAt i bs) ends (array-long i bs h)) ∙ reads-walk k
+
+  array-read : (i : ℕ) → i < length bs / 8 → getD walks i nowhere .refusal .number ≡ 0 → IsRead s t a d bs i
+  array-read i h e = walk-exactly s t a d (arrayAt i bs) .0 (ap (λ (w : Walked). w .refusal .number) (sym (walks-at i h)) ∙ e)
+
+  array-none : (i : ℕ) → i < length bs / 8 → IsRead s t a d bs i → getD walks i nowhere .refusal .number ≡ 0
+  array-none i h k = ap (λ (r : Refusal). r .number) (array-is i h none (inl (k, refl)))
+
+  -- where it is read, its walk is that of its route
+  array-walk : (i : ℕ) → i < length bs / 8 → (vs : List ℕ) → Encodes s t a d (arrayAt i bs) vs → getD walks i nowhere ≡ walkedOf s vs
+  array-walk i h vs k = walks-at i h ∙ walk-given k
+
+  abbrev route-at : ℕ → List ℕ
+  route-at i = take (getD walks i nowhere .count) (getD walks i nowhere .servers)
+
+  route-read : (i : ℕ) → i < length bs / 8 → IsRead s t a d bs i → Encodes s t a d (arrayAt i bs) (route-at i)
+  route-read i h k =
+      subst (Encodes s t a d (arrayAt i bs)) (sym (ap (λ (w : Walked). take (w .count) (w .servers)) (array-walk i h (k .0) (k .1)) ∙ take-filled 9 (k .0))) (k .1)
+
+  -- two routes are parallel exactly where the test of their walks holds
+  module _ (i j : ℕ) (p : i < length bs / 8) (q : j < length bs / 8) (us vs : List ℕ) (h : Encodes s t a d (arrayAt i bs) us) (k : Encodes s t a d (arrayAt j bs) vs) where
+    pair-walks : parallel (getD walks i nowhere) (getD walks j nowhere) ≡ parallel (walkedOf s us) (walkedOf s vs)
+    pair-walks = ap₂ parallel (array-walk i p us h) (array-walk j q vs k)
+
+    pair-parallel : parallel (getD walks i nowhere) (getD walks j nowhere) ≡ true → Parallel s us vs
+    pair-parallel e = parallel-of s us vs (sym pair-walks ∙ e)
+
+    parallel-pair : Parallel s us vs → parallel (getD walks i nowhere) (getD walks j nowhere) ≡ true
+    parallel-pair e = pair-walks ∙ of-parallel s us vs e
+
+  -- ---- what the check comes to
+
+  abbrev outcome : Refusal
+  outcome = firstOf (firstStop 1 walks) (firstPair 1 walks)
+
+  outcome-answer : checkAnswer s t a d bs ≡ outcome
+  unfolding checkAnswer
+  outcome-answer = answer-none _ plain _ (sym (zero-of (checkTests s t a d bs) (listRefusal s t a d bs) (list-number s t a d bs) held))
+
+  stops-first : firstStop 1 walks .number ≢ 0 → FirstRefused s t a d bs outcome
+  stops-first o = go (array-reads p within)
+    where
+      r : (p : ℕ) × (p < length walks) × (getD walks p nowhere .refusal .number ≢ 0) × ((j : ℕ) → j < p → getD walks j nowhere .refusal .number ≡ 0) × (firstStop 1 walks ≡ refusedAt (getD walks p nowhere .refusal .number) (1 + p) (getD walks p nowhere .refusal .hop))
+      r = stop-found 1 walks o
+
+      p : ℕ
+      p = r .0
+
+      within : p < length bs / 8
+      within = subst (λ (m : ℕ). p < m) walks-long (r .1)
+
+      go : Reads s t a d (arrayAt p bs) (getD walks p nowhere .refusal) → FirstRefused s t a d bs outcome
+      go (inl h) = absurd (r .2 (ap (λ (x : Refusal). x .number) (h .1)))
+      go (inr h) =
+          let w = stops-walk h in
+          record {
+            place = p;
+            number = w .0;
+            hop = w .1;
+            within = within;
+            before = λ i k. array-read i (omega (arith, within)) (r .3 i k);
+            stops = subst (Stops s t a d (arrayAt p bs)) (sym (w .3)) h;
+            here = first-left (firstStop 1 walks) (firstPair 1 walks) o ∙ r .4
+                ∙ ap₂ (λ (x : Refusal) (k : ℕ). refusedAt (x .number) k (x .hop)) (sym (w .3)) (let z : 1 + p ≡ suc p = omega arith in z);
+          }
+
+  pairs-first : firstStop 1 walks .number ≡ 0 → firstPair 1 walks .number ≢ 0 → FirstPair s t a d bs outcome
+  pairs-first o n =
+      record {
+        routes = route-at;
+        read = read;
+        first = r .first;
+        second = r .second;
+        order = r .order;
+        within = within;
+        before = λ i j u v k. pair-parallel i j (omega (arith, v)) v (route-at i) (route-at j) (read i (omega (arith, v))) (read j v) (r .before i j u (subst (λ (m : ℕ). j < m) (sym walks-long) v) k);
+        meet = λ k. clash _ (parallel-pair (r .first) (r .second) (omega (arith, within, r .order)) within (route-at (r .first)) (route-at (r .second)) (read (r .first) (omega (arith, within, r .order))) (read (r .second) within) k) (r .meet);
+        here = first-right (firstStop 1 walks) (firstPair 1 walks) o ∙ r .here ∙ ap (λ (x : ℕ). refusedAt 15 x 0) (let z : 1 + r .second ≡ suc (r .second) = omega arith in z);
+      }
+    where
+      r : Pair 1 walks (firstPair 1 walks)
+      r = pair-found 1 walks n
+
+      within : r .second < length bs / 8
+      within = subst (λ (m : ℕ). r .second < m) walks-long (r .within)
+
+      read : (i : ℕ) → i < length bs / 8 → Encodes s t a d (arrayAt i bs) (route-at i)
+      read i h = route-read i h (array-read i h (no-stop 1 walks o i (subst (λ (m : ℕ). i < m) (sym walks-long) h)))
+
+  outcome-checks : Checks s t a d bs outcome
+  outcome-checks =
+      elim (ℕ-discrete (firstStop 1 walks .number) 0) [
+        | no o ↦ inr (inl (stops-first o))
+        | yes o ↦ elim (ℕ-discrete (firstPair 1 walks .number) 0) [
+          | no n ↦ inr (inr (pairs-first o n))
+          | yes z ↦ let e = first-right (firstStop 1 walks) (firstPair 1 walks) o ∙ pair-none 1 walks z in inl (accepted-of s t a d bs (outcome-answer ∙ e), e)
+        ]
+      ]
+
+  -- ---- and back
+
+  refused-answer : (r : Refusal) → FirstRefused s t a d bs r → outcome ≡ r
+  refused-answer r h =
+      first-left (firstStop 1 walks) (firstPair 1 walks) (λ z. some (sym (ap (λ (x : Refusal). x .number) stop) ∙ z))
+      ∙ stop
+      ∙ ap₂ (λ (x : Refusal) (k : ℕ). refusedAt (x .number) k (x .hop)) is (let z : 1 + h .place ≡ suc (h .place) = omega arith in z)
+      ∙ sym (h .here)
+    where
+      is : getD walks (h .place) nowhere .refusal ≡ refusedAt (h .number) 1 (h .hop)
+      is = array-is (h .place) (h .within) _ (inr (h .stops))
+
+      some : getD walks (h .place) nowhere .refusal .number ≢ 0
+      some z = stops-some (h .stops) (ap (λ (x : Refusal). x .number) (sym is) ∙ z)
+
+      stop : firstStop 1 walks ≡ refusedAt (getD walks (h .place) nowhere .refusal .number) (1 + h .place) (getD walks (h .place) nowhere .refusal .hop)
+      stop = stop-is 1 walks (h .place) (subst (λ (m : ℕ). h .place < m) (sym walks-long) (h .within)) (λ j k. array-none j (omega (arith, h .within)) (h .before j k)) some
+
+  pair-answer : (r : Refusal) → FirstPair s t a d bs r → outcome ≡ r
+  pair-answer r h =
+      first-right (firstStop 1 walks) (firstPair 1 walks) (ap (λ (x : Refusal). x .number) (stop-none 1 walks (λ j k. array-none j (inside j k) (h .routes j, h .read j (inside j k)))))
+      ∙ pair-is 1 walks (h .first) (h .second) (h .order) (subst (λ (m : ℕ). h .second < m) (sym walks-long) (h .within))
+      (λ u v p q k. parallel-pair u v (omega (arith, inside v q)) (inside v q) (h .routes u) (h .routes v) (h .read u (omega (arith, inside v q))) (h .read v (inside v q)) (h .before u v p (inside v q) k))
+      (not-held _ (λ e. h .meet (pair-parallel (h .first) (h .second) (omega (arith, h .within, h .order)) (h .within) (h .routes (h .first)) (h .routes (h .second)) (h .read (h .first) (omega (arith, h .within, h .order))) (h .read (h .second) (h .within)) e)))
+      ∙ ap (λ (x : ℕ). refusedAt 15 x 0) (let z : 1 + h .second ≡ suc (h .second) = omega arith in z)
+      ∙ sym (h .here)
+    where
+      inside : (j : ℕ) → j < length walks → j < length bs / 8
+      inside j k = subst (λ (m : ℕ). j < m) walks-long k
+
+      not-held : (b : Bool) → (b ≡ true → ⊥) → b ≡ false
+      not-held true n = absurd (n refl)
+      not-held false n = refl
+
+  checks-answer : (r : Refusal) → Checks s t a d bs r → checkAnswer s t a d bs ≡ r
+  checks-answer r (inl h) = of-accepted s t a d bs room (h .0) ∙ sym (h .1)
+  checks-answer r (inr (inl h)) = outcome-answer ∙ refused-answer r h
+  checks-answer r (inr (inr h)) = outcome-answer ∙ pair-answer r h
+
+pub check-list : (s : Shape) (t : List ℕ) (a d : ℕ) (bs : List ℕ) → Exactly (checkAnswer s t a d bs) (Refused plain (checkTests s t a d bs) (Checks s t a d bs))
 unfolding checkAnswer
-list-place s t a d bs z n =
-    elim (ℕ-discrete (firstStop 1 W .number) 0) [
-      | no o ↦ let r = stop-found 1 W o in
-          inl (record { place = r .0; within = r .1; refused = r .2; before = r .3; here = e ∙ first-own (firstStop 1 W) (firstPair 1 W) o ∙ r .4 ∙ ap (λ (x : ℕ). refusedAt (getD W (r .0) nowhere .refusal .number) x (getD W (r .0) nowhere .refusal .hop)) (omega arith) })
-      | yes o ↦ let f = e ∙ first-zero (firstStop 1 W) (firstPair 1 W) o in
-          let r = pair-found 1 W (λ k. n (ap (λ (x : Refusal). x .number) f ∙ k)) in
-          inr (record { first = r .first; second = r .second; order = r .order; within = r .within; read = no-stop 1 W o; meet = r .meet; before = r .before; here = f ∙ r .here ∙ ap (λ (x : ℕ). refusedAt 15 x 0) (omega arith) })
-    ]
-  where
-    W : List Walked
-    W = walksOf s t a d bs
-
-    e : checkAnswer s t a d bs ≡ firstOf (firstStop 1 W) (firstPair 1 W)
-    e = answer-none _ plain _ (sym z)
+check-list s t a d bs =
+    exactly plain (Checks s t a d bs) (checkTests s t a d bs) (checkAnswer s t a d bs) (λ y h x k. checks-answer s t a d bs h y k)
+    (answers (λ x. x) plain plain (Checks s t a d bs) (checkTests s t a d bs) (listRefusal s t a d bs) (firstOf (firstStop 1 (walksOf s t a d bs)) (firstPair 1 (walksOf s t a d bs))) (λ r. refl) refl (list-number s t a d bs) (outcome-checks s t a d bs))

@@ -1,12 +1,10 @@
 -- The proved table, proved.
-use Prim.Native.Nat.{ℕ, zero, suc, _-_, _<_, suc-le-suc, zero-le}
+use Prim.Native.Nat.{ℕ, _-_}
 use mathlib.Core.Path.{_≡_, refl, sym, ap, subst}
-use mathlib.Core.Logic.{_⊎_, ⊎-elim}
 use mathlib.Core.Bool.{true, false}
-use mathlib.Core.List.{List, [], _∷_}
+use mathlib.Core.List.{List, [], _∷_, List·Memᴰ, List·Memᴰ·head, List·Memᴰ·eq-of-singleton}
 use native.Mathlib.Omega.{arith}
-use native.Mathlib.Decide.{ℕ-discrete}
-use lib.ListN.{length, getD, replicate}
+use lib.ListN.{replicate}
 use Rattle.lists.specs.Lists.{filled, isIn, inTurn, middle}
 use Rattle.refusals.specs.Refusals.{none, refusedAt, _or-else_}
 use Rattle.room.specs.declared.Shape.{Shape}
@@ -27,14 +25,14 @@ use Rattle.build.specs.declared.Building.{Building}
 use Rattle.build.specs.Built as build
 use Rattle.build.specs.Sets.{joined, setOf, arrayAt}
 use Rattle.build.specs.Answers.{noBuilding, aBuilding, buildAnswer}
-use Rattle.finder.specs.Alternates.{bytesOf}
+use Rattle.finder.specs.Alternates.{hopBytes}
 use Rattle.select.specs.Avoided.{avoided}
-use Rattle.select.specs.Selection.{Unbroken, Replaces, Slot, kept, replaced, Selects, Selecting}
+use Rattle.select.specs.Selection.{Unbroken, Replaces, Slot, kept, replaced, SlotBySlot, Selecting}
 use Rattle.select.proofs.OneAnswer.{selecting-unique}
 use Rattle.desk_line.specs.Answers.{deskText}
 use Rattle.desk_line.proofs.Vectors.{worked-line}
 use Rattle.demands.specs.ProvedTable.{digits, ascii, array, Built, dead03, ProvedTable}
-use Rattle.demands.proofs.ShortRoutes.{farOff, noneBefore, none-of, none-before}
+use Rattle.demands.proofs.ShortRoutes.{noneBefore, noneShorter, least, free-parallel}
 
 -- ---- addresses
 
@@ -147,38 +145,25 @@ around-direct =
       servers = disjoint-apart (middle around) (middle direct) refl;
     }
 
-bytes : bytesOf (fullRoom 4 1) around ≡ 0x01 ∷ 0x42 ∷ 0x03 ∷ 0x41 ∷ []
-unfolding bytesOf inTurn byteTo byteOf levelTo addresses.digit addresses.differing differFrom addresses.digits digitsOf
+bytes : hopBytes (fullRoom 4 1) around ≡ 0x01 ∷ 0x42 ∷ 0x03 ∷ 0x41 ∷ []
+unfolding hopBytes inTurn byteTo byteOf levelTo addresses.digit addresses.differing differFrom addresses.digits digitsOf
 bytes = refl
 
 -- no way of fewer hops leads around, nor one of as many that comes before
-far : (farOff (fullRoom 4 1) dead03 7 (4096 ∷ 1 ∷ []) 1 0 ≡ true) × (farOff (fullRoom 4 1) dead03 7 (4096 ∷ 1 ∷ []) 2 0 ≡ true) × (farOff (fullRoom 4 1) dead03 7 (4096 ∷ 1 ∷ []) 3 0 ≡ true)
-unfolding serversOf live failed bit isIn switchTo switchAt levelTo addresses.differing differFrom addresses.switchOf addresses.digits digitsOf addressOf
-far = (refl, refl, refl)
-
-first : noneBefore (fullRoom 4 1) dead03 7 (4096 ∷ 1 ∷ []) (0x01 ∷ 0x42 ∷ 0x03 ∷ 0x41 ∷ []) 0 ≡ true
+tests : (noneShorter (fullRoom 4 1) dead03 7 (4096 ∷ 1 ∷ []) 4 0 ≡ true) × (noneBefore (fullRoom 4 1) dead03 7 (4096 ∷ 1 ∷ []) (0x01 ∷ 0x42 ∷ 0x03 ∷ 0x41 ∷ []) 0 ≡ true)
 unfolding serversOf live failed bit isIn switchTo switchAt levelTo byteTo byteOf addresses.digit addresses.differing differFrom addresses.switchOf addresses.digits digitsOf addressOf
-first = refl
+tests = (refl, refl)
 
 alternate : Replaces (fullRoom 4 1) dead03 0 7 (direct ∷ []) around
-alternate = record { route = around-route; avoids = record { each = apart }; first = λ us r f. ⊎-elim (shorter us r (f .each 0 (suc-le-suc zero-le))) (λ b. none-before (fullRoom 4 1) dead03 7 (4096 ∷ 1 ∷ []) us _ first (switches .0) r (f .each 0 (suc-le-suc zero-le)) (b .0) (rw bytes at (b .1))) }
+alternate =
+    record {
+      route = around-route;
+      avoids = record { each = apart };
+      first = λ us r f. least (fullRoom 4 1) dead03 7 (4096 ∷ 1 ∷ []) _ around (tests .0) (tests .1) (sym bytes) refl us r (free-parallel (fullRoom 4 1) dead03 7 (switches .0) (f .each direct (List·Memᴰ·head refl)));
+    }
   where
-    apart : (i : ℕ) → i < 1 → Parallel (fullRoom 4 1) around (getD (direct ∷ []) i [])
-    apart zero h = around-direct
-    apart (suc i) h = let z : ⊥ = omega arith in absurd z
-
-    hops : (us : List ℕ) (m : ℕ) → farOff (fullRoom 4 1) dead03 7 (4096 ∷ 1 ∷ []) m 0 ≡ true → RouteTo (fullRoom 4 1) dead03 0 7 us → Parallel (fullRoom 4 1) us direct → length us ≡ suc m → ⊥
-    hops us m e r p l = none-of (fullRoom 4 1) dead03 7 (4096 ∷ 1 ∷ []) us m e (switches .0) r p l
-
-    shorter : (us : List ℕ) → RouteTo (fullRoom 4 1) dead03 0 7 us → Parallel (fullRoom 4 1) us direct → length us < 5 → ⊥
-    shorter us r p h =
-        elim (ℕ-discrete (length us) 2) [
-          | yes e ↦ hops us 1 (far .0) r p e
-          | no n ↦ elim (ℕ-discrete (length us) 3) [
-            | yes e ↦ hops us 2 (far .1) r p e
-            | no q ↦ hops us 3 (far .2) r p (omega (arith, r .route .some))
-          ]
-        ]
+    apart : (vs : List ℕ) → List·Memᴰ vs (direct ∷ []) → Parallel (fullRoom 4 1) around vs
+    apart vs m = subst (Parallel (fullRoom 4 1) around) (sym (List·Memᴰ·eq-of-singleton m)) around-direct
 
 -- slot 1 keeps its built route, slot 0 gets the alternate
 built : (build.builtRoute (fullRoom 4 1) 1 0 7 ≡ direct) × (build.builtRoute (fullRoom 4 1) 0 0 7 ≡ 0 ∷ 3 ∷ 7 ∷ [])
@@ -189,7 +174,7 @@ broken : Unbroken (fullRoom 4 1) dead03 (0 ∷ 3 ∷ 7 ∷ []) → ⊥
 unfolding live failed bit levelTo addresses.differing differFrom addresses.digits digitsOf
 broken u = let e : false ≡ true = u .alive 0 (omega arith) in let z : _≡_ {A = ℕ} 0 1 = cc in omega arith
 
-slots : Selects (fullRoom 4 1) dead03 0 7 2 [] (direct ∷ around ∷ [])
+slots : SlotBySlot (fullRoom 4 1) dead03 0 7 2 [] (direct ∷ around ∷ [])
 unfolding avoided
 slots = (
   direct ∷ [],

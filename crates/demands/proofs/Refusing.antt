@@ -1,103 +1,89 @@
--- Laws of refusals: a chain of tests gives one of its numbers; what an answer that may be a refusal holds.
-use Prim.Native.Nat.{ℕ, zero, suc, _+_}
+-- Laws of refusals: the form of what a chain of tests gives, and of an answer that may be a refusal.
+use Prim.Native.Nat.{ℕ, zero, suc, _≤_}
 use mathlib.Core.Path.{_≡_, refl, sym, ap, _∙_, subst}
-use mathlib.Core.Logic.{_⊎_, inl, inr, ⊎-elim}
-use mathlib.Core.Bool.{Bool, true, false, _&&_, _||_}
-use mathlib.Core.List.{List, [], _∷_, _++_}
+use mathlib.Core.Logic.{_≢_, _⊎_, inl, inr, ⊎-elim}
+use mathlib.Core.Bool.{Bool, true, false, _||_}
+use mathlib.Core.List.{List, [], _∷_}
 use native.Mathlib.Omega.{arith}
 use lib.Dec.{eqb}
 use borrow.Author.Tests.{eq-eqb, eqb-true}
 use Rattle.lists.proofs.ListLaws.{both-held}
 use Rattle.lists.specs.Lists.{isIn}
 use Rattle.refusals.specs.declared.Refusal.{Refusal}
-use Rattle.refusals.specs.Refusals.{none, plain, _or-else_, _unless_, answer}
-use Rattle.demands.specs.Demand1.{ofTheWhole, whole, Placed, OneOf, nought, listed, Refuses}
+use Rattle.refusals.specs.Refusals.{none, plain, refusedAt, answer}
+use Rattle.demands.specs.Tests.{Tests, Refused, Whole, Hold}
+use Rattle.demands.specs.Demand1.{ofTheWhole, ofAHop, Place, whole, at-hop, OneOf, nought, listed, Refuses}
+use Rattle.demands.proofs.Chains.{or-right, all, numbersOf}
 
 -- ---- numbers
-
-or-left : (x y : Bool) → x ≡ true → x || y ≡ true
-or-left x y e = rw e
-
-or-right : (x y : Bool) → y ≡ true → x || y ≡ true
-or-right true y e = refl
-or-right false y e = e
 
 either : (x y : Bool) → x || y ≡ true → (x ≡ true) ⊎ (y ≡ true)
 either true y e = inl refl
 either false y e = inr e
 
-pub in-left : (r : ℕ) (A B : List ℕ) → isIn r A ≡ true → isIn r (A ++ B) ≡ true
-unfolding isIn
-in-left r [] B e = let z : _≡_ {A = ℕ} 0 1 = cc in let n : ⊥ = omega arith in absurd n
-in-left r (a ∷ A) B e =
-    ⊎-elim (or-left (eqb r a) (isIn r (A ++ B))) (λ h. or-right (eqb r a) (isIn r (A ++ B)) (in-left r A B h)) (either (eqb r a) (isIn r A) e)
+or-left : (x y : Bool) → x ≡ true → x || y ≡ true
+or-left x y e = rw e
 
-pub in-right : (r : ℕ) (A B : List ℕ) → isIn r B ≡ true → isIn r (A ++ B) ≡ true
-unfolding isIn
-in-right r [] B e = e
-in-right r (a ∷ A) B e = or-right (eqb r a) (isIn r (A ++ B)) (in-right r A B e)
-
--- one test
-pub test-one : (r : ℕ) (t : Bool) → OneOf (r ∷ []) (r unless t)
-unfolding isIn
-test-one r true = nought refl
-test-one r false = listed (rw (eq-eqb r r refl))
-
--- two in turn
-pub chain-one : {A B : List ℕ} (p q : ℕ) → OneOf A p → OneOf B q → OneOf (A ++ B) (p or-else q)
-unfolding _or-else_
-chain-one {A} {B} zero q h (nought e) = nought e
-chain-one {A} {B} zero q h (listed e) = listed (in-right q A B e)
-chain-one {A} {B} (suc p) q (nought e) k = let z : ⊥ = omega arith in absurd z
-chain-one {A} {B} (suc p) q (listed e) k = listed (in-left (suc p) A B e)
-
--- whether f holds of all of a list
-abbrev pub all : (ℕ → Bool) → List ℕ → Bool
-all f [] = true
-all f (a ∷ A) = f a && all f A
-
-pub all-at : (f : ℕ → Bool) (A : List ℕ) (r : ℕ) → all f A ≡ true → isIn r A ≡ true → f r ≡ true
+all-at : (f : ℕ → Bool) (A : List ℕ) (r : ℕ) → all f A ≡ true → isIn r A ≡ true → f r ≡ true
 unfolding isIn
 all-at f [] r h e = let z : _≡_ {A = ℕ} 0 1 = cc in let n : ⊥ = omega arith in absurd n
 all-at f (a ∷ A) r h e =
     let w = both-held (f a) (all f A) h in
     ⊎-elim (λ g. ap f (eqb-true r a g) ∙ w .0) (λ g. all-at f A r (w .1) g) (either (eqb r a) (isIn r A) e)
 
--- the same numbers, or more
-pub one-of : {A B : List ℕ} {r : ℕ} → all (λ x. isIn x B) A ≡ true → OneOf A r → OneOf B r
-one-of h (nought e) = nought e
-one-of {A} {B} {r} h (listed e) = listed (all-at (λ x. isIn x B) A r h e)
+-- ---- refusals
+
+-- a refusal of m routes with one of these numbers
+abbrev pub Of : ℕ → List ℕ → Refusal → Type 0
+Of m F r = OneOf F (r .number) × Place m r
+
+pub none-of : {m : ℕ} {F : List ℕ} {r : Refusal} → r ≡ none → Of m F r
+none-of {m} {F} e = subst (Of m F) (sym e) (nought refl, whole refl)
+
+pub some-of : {F : List ℕ} {r : ℕ} → OneOf F r → r ≢ 0 → isIn r F ≡ true
+some-of (nought e) n = absurd (n e)
+some-of (listed e) n = e
+
+-- a number of a hop, at route i and hop h
+pub hop-of : {m : ℕ} (F B : List ℕ) (r i h : ℕ) → all ofAHop F ≡ true → all (λ x. isIn x B) F ≡ true → isIn r F ≡ true → 1 ≤ i → i ≤ m → 1 ≤ h → h ≤ 8 → Of m B (refusedAt r i h)
+hop-of F B r i h low u e p q x y = (listed (all-at (λ z. isIn z B) F r u e), at-hop (all-at ofAHop F r low e) p q x y)
+
+-- a chain gives what each of its tests gives, or its end
+pub chain-of : (refused : ℕ → Refusal) (m : ℕ) (F : List ℕ) (A : Tests) (Else : Refusal → Type 0) (r : Refusal) → ((n : ℕ) → isIn n (numbersOf A) ≡ true → Of m F (refused n)) → (Hold A → Else r → Of m F r) → Refused refused A Else r → Of m F r
+unfolding isIn
+chain-of refused m F [] Else r f g h = g tt h
+chain-of refused m F (t ∷ A) Else r f g (inl h) =
+    chain-of refused m F A Else r (λ n e. f n (or-right (eqb n (t .0)) (isIn n (numbersOf A)) e)) (λ a. g (h .0, a)) (h .1)
+chain-of refused m F (t ∷ A) Else r f g (inr h) =
+    subst (Of m F) (sym (h .1)) (f (t .0) (or-left (eqb (t .0) (t .0)) (isIn (t .0) (numbersOf A)) (eq-eqb (t .0) (t .0) refl)))
+
+-- a chain of the whole
+pub whole-of : (m : ℕ) (F : List ℕ) (A : Tests) (Else : Refusal → Type 0) (r : Refusal) → all ofTheWhole (numbersOf A) ≡ true → all (λ x. isIn x F) (numbersOf A) ≡ true → (Hold A → Else r → Of m F r) → Refused plain A Else r → Of m F r
+whole-of m F A Else r w u = chain-of plain m F A Else r (λ n e. (listed (all-at (λ x. isIn x F) (numbersOf A) n u e), whole (all-at ofTheWhole (numbersOf A) n w e)))
 
 -- ---- answers
 
--- a refusal of the whole
-pub plain-placed : {m : ℕ} {A : List ℕ} {r : ℕ} → all ofTheWhole A ≡ true → OneOf A r → Placed m (plain r)
-plain-placed h (nought e) = whole (ap ofTheWhole e)
-plain-placed {m} {A} {r} h (listed e) = whole (all-at ofTheWhole A r h e)
+module _ {X : Type 0} (refusal : X → Refusal) (bare : Refusal → X) (same : (r : Refusal) → refusal (bare r) ≡ r) where
+  -- where there is a refusal, there is nothing else
+  abbrev pub Bare : X → Type 0
+  Bare x = refusal x .number ≢ 0 → x ≡ bare (refusal x)
 
-module _ {X : Type 0} (refusal : X → Refusal) (bare : Refusal → X) (same : (r : Refusal) → refusal (bare r) ≡ r) (m : ℕ) where
-  -- an answer with no refusal
-  pub given-refuses : (A : List ℕ) (x : X) → refusal x ≡ none → Refuses refusal bare m A x
-  given-refuses A x e =
-      record {
-        number = nought (ap (λ (r : Refusal). r .number) e);
-        placed = subst (Placed m) (sym e) (whole refl);
-        nothing-else = λ n. absurd (n (ap (λ (r : Refusal). r .number) e));
-      }
+  pub bare-none : (x : X) → refusal x ≡ none → Bare x
+  bare-none x e n = absurd (n (ap (λ (r : Refusal). r .number) e))
 
-  -- a refusal and zeros
-  pub bare-refuses : (A : List ℕ) (r : Refusal) → OneOf A (r .number) → Placed m r → Refuses refusal bare m A (bare r)
-  bare-refuses A r h k =
-      record {
-        number = subst (λ (q : Refusal). OneOf A (q .number)) (sym (same r)) h;
-        placed = subst (Placed m) (sym (same r)) k;
-        nothing-else = λ n. ap bare (sym (same r));
-      }
+  pub bare-only : (r : Refusal) → Bare (bare r)
+  bare-only r n = ap bare (sym (same r))
 
-  pub more : {A B : List ℕ} {x : X} → all (λ a. isIn a B) A ≡ true → Refuses refusal bare m A x → Refuses refusal bare m B x
-  more h k = record { number = one-of h (k .number); placed = k .placed; nothing-else = k .nothing-else }
+  pub bare-is : (x : X) (r : Refusal) → x ≡ bare r → Bare x
+  bare-is x r e n = e ∙ ap bare (sym (ap refusal e ∙ same r))
 
-  -- a refusal of the whole, or what was asked for
-  pub answer-refuses : {A B : List ℕ} (q : ℕ) (x : X) → OneOf A q → all ofTheWhole A ≡ true → all (λ a. isIn a B) A ≡ true → (q ≡ 0 → Refuses refusal bare m B x) → Refuses refusal bare m B (answer q (λ r. bare (plain r)) x)
-  answer-refuses zero x h w u k = k refl
-  answer-refuses (suc q) x h w u k = bare-refuses _ (plain (suc q)) (one-of u h) (plain-placed w h)
+  pub bare-answer : (at : ℕ → Refusal) (q : ℕ) (x : X) → Bare x → Bare (answer q (λ r. bare (at r)) x)
+  bare-answer at zero x h = h
+  bare-answer at (suc q) x h = bare-only (at (suc q))
+
+  pub refuses : (m : ℕ) (F : List ℕ) (x : X) → Of m F (refusal x) → Bare x → Refuses refusal bare m F x
+  refuses m F x h k = record { number = h .0; placed = h .1; nothing-else = k }
+
+  -- an answer, or a refusal of the whole
+  pub answer-refuses : (m : ℕ) (F : List ℕ) (A : Tests) (q : ℕ) (x : X) → all ofTheWhole (numbersOf A) ≡ true → all (λ a. isIn a F) (numbersOf A) ≡ true → Whole A (refusal (answer q (λ r. bare (plain r)) x)) → refusal x ≡ none → Refuses refusal bare m F (answer q (λ r. bare (plain r)) x)
+  answer-refuses m F A q x w u h e = refuses m F _ (whole-of m F A (λ r. r ≡ none) _ w u (λ a. none-of) h) (bare-answer plain q x (bare-none x e))

@@ -1,5 +1,4 @@
--- A test run over all ways of a few hops between two servers: where it passes, no route of so many hops avoids a route, or none that
--- comes before another.
+-- Two tests run over all ways of a few hops between two servers: where they pass, no route that avoids these switches comes before a route.
 use Prim.Native.Nat.{ℕ, zero, suc, _-_, _<_, suc-le-suc, zero-le}
 use mathlib.Core.Path.{_≡_, refl, sym, ap, _∙_, subst}
 use mathlib.Core.Logic.{_⊎_, ⊎-elim}
@@ -19,7 +18,7 @@ use Rattle.room.proofs.RoomLaws.{neighbours-exactly}
 use Rattle.links.specs.Table.{live}
 use Rattle.path.specs.Routes.{levelTo, switchTo, byteTo, switchesOf, RouteTo, Parallel, levelOf, valueOf}
 use Rattle.path.specs.Walks.{single}
-use Rattle.finder.specs.Alternates.{bytesOf, Sooner, HopByHop}
+use Rattle.finder.specs.Alternates.{hopBytes, Sooner, HopByHop, Before}
 
 -- ---- the test
 
@@ -110,17 +109,15 @@ module _ (s : Shape) (t : List ℕ) (d : ℕ) (avoid : List ℕ) where
 
   -- ---- routes as such ways
 
-  module _ {a : ℕ} {us vs : List ℕ} (r : RouteTo s t a d us) (p : Parallel s us vs) (same : avoid ≡ switchesOf s vs) where
-    unused : (i : ℕ) → suc i < length us → Missing (switchTo s (getD us i 0) (getD us (suc i) 0)) avoid
-    unfolding switchesOf
-    unused i h =
-        subst (Missing (switchTo s (getD us i 0) (getD us (suc i) 0))) (sym same)
-        (record { not-at = λ j q e. p .switches .apart i j (omega (arith, length-turn (switchTo s) us)) q (turn-at (switchTo s) us i h ∙ sym e) })
+  -- the hops of servers in turn use no switch that is to be avoided
+  abbrev pub Free : List ℕ → Type 0
+  Free us = (i : ℕ) → suc i < length us → Missing (switchTo s (getD us i 0) (getD us (suc i) 0)) avoid
 
+  module _ {a : ℕ} {us : List ℕ} (r : RouteTo s t a d us) (f : Free us) where
     goes-at : (i : ℕ) → suc i < length us → (getD us (suc i) 0 < serversOf s) × (goesOn (getD us i 0) (getD us (suc i) 0) ≡ true)
     goes-at i h = (
       r .route .servers (suc i) h .below,
-      rw (neighbours-exactly (r .route .servers i (omega arith)) (r .route .servers (suc i) h) _ .1 (r .route .hops i h), r .route .alive i h, missing-in (switchTo s (getD us i 0) (getD us (suc i) 0)) avoid (unused i h)),
+      rw (neighbours-exactly (r .route .servers i (omega arith)) (r .route .servers (suc i) h) _ .1 (r .route .hops i h), r .route .alive i h, missing-in (switchTo s (getD us i 0) (getD us (suc i) 0)) avoid (f i h)),
     )
 
   goes-all : (b : ℕ) (bs : List ℕ) → ((i : ℕ) → i < length bs → (getD bs i 0 < serversOf s) × (goesOn (getD (b ∷ bs) i 0) (getD bs i 0) ≡ true)) → Goes b bs
@@ -134,15 +131,47 @@ module _ (s : Shape) (t : List ℕ) (d : ℕ) (avoid : List ℕ) where
       let e : suc (suc (length cs) - 1) ≡ suc (suc (length cs)) - 1 = omega arith in
       last-at c cs ∙ ap (λ (m : ℕ). getD (b ∷ c ∷ cs) m 0) e
 
-  -- no route of m hops is parallel to the route vs
-  pub none-of : {a : ℕ} {vs : List ℕ} (us : List ℕ) (m : ℕ) → farOff m a ≡ true → avoid ≡ switchesOf s vs → RouteTo s t a d us → Parallel s us vs → length us ≡ suc m → ⊥
-  none-of [] m e same r p l = omega arith
-  none-of (b ∷ bs) m e same r p l =
-      far m b bs (rw (r .source) e) (omega arith) (goes-all b bs (λ i q. goes-at r p same i (suc-le-suc q))) (last-at b bs ∙ r .arrives)
+  -- no route has m hops
+  none-of : {a : ℕ} (us : List ℕ) (m : ℕ) → farOff m a ≡ true → RouteTo s t a d us → Free us → length us ≡ suc m → ⊥
+  none-of [] m e r f l = omega arith
+  none-of (b ∷ bs) m e r f l =
+      far m b bs (rw (r .source) e) (omega arith) (goes-all b bs (λ i q. goes-at r f i (suc-le-suc q))) (last-at b bs ∙ r .arrives)
 
-  -- nor any that has as many hops as these bytes and comes before them
-  pub none-before : {a : ℕ} {vs : List ℕ} (us cs : List ℕ) → noneBefore cs a ≡ true → avoid ≡ switchesOf s vs → RouteTo s t a d us → Parallel s us vs → length us ≡ suc (length cs) → HopByHop (bytesOf s us) cs → ⊥
-  unfolding bytesOf
-  none-before [] cs e same r p l = omega arith
-  none-before (b ∷ bs) cs e same r p l =
-      first cs b bs (rw (r .source) e) (omega arith) (goes-all b bs (λ i q. goes-at r p same i (suc-le-suc q))) (last-at b bs ∙ r .arrives)
+  -- nor as many hops as these bytes, and comes before them
+  none-before : {a : ℕ} (us cs : List ℕ) → noneBefore cs a ≡ true → RouteTo s t a d us → Free us → length us ≡ suc (length cs) → HopByHop (hopBytes s us) cs → ⊥
+  unfolding hopBytes
+  none-before [] cs e r f l = omega arith
+  none-before (b ∷ bs) cs e r f l =
+      first cs b bs (rw (r .source) e) (omega arith) (goes-all b bs (λ i q. goes-at r f i (suc-le-suc q))) (last-at b bs ∙ r .arrives)
+
+  -- whether no way of fewer than m hops leads from a to d
+  abbrev pub noneShorter : ℕ → ℕ → Bool
+  noneShorter zero a = true
+  noneShorter (suc m) a = farOff m a && noneShorter m a
+
+  shorter-at : (m i a : ℕ) → noneShorter m a ≡ true → i < m → farOff i a ≡ true
+  shorter-at zero i a e h = let z : ⊥ = omega arith in absurd z
+  shorter-at (suc m) i a e h =
+      let w = both-held (farOff m a) (noneShorter m a) e in
+      elim (ℕ-discrete i m) [
+        | yes q ↦ ap (λ (x : ℕ). farOff x a) q ∙ w .0
+        | no q ↦ shorter-at m i a (w .1) (omega arith)
+      ]
+
+  -- where both tests pass, no route comes before the one with these bytes
+  pub least : {a : ℕ} (cs vs : List ℕ) → noneShorter (length cs) a ≡ true → noneBefore cs a ≡ true → cs ≡ hopBytes s vs → length vs ≡ suc (length cs) → (us : List ℕ) → RouteTo s t a d us → Free us → Before s us vs → ⊥
+  least {a} cs vs e g same l us r f =
+      ⊎-elim
+      (λ h. none-of us (length us - 1) (shorter-at (length cs) (length us - 1) a e (omega (arith, r .route .some))) r f (omega (arith, r .route .some)))
+      (λ h. none-before us cs g r f (omega (arith, h .0)) (rw (← same) at (h .1)))
+
+-- where nothing is to be avoided
+pub free-all : (s : Shape) (t : List ℕ) (d : ℕ) (us : List ℕ) → Free s t d [] us
+free-all s t d us i h = record { not-at = λ j q e. omega arith }
+
+-- the switches of a route are avoided by the routes that are parallel to it
+pub free-parallel : (s : Shape) (t : List ℕ) (d : ℕ) {avoid us vs : List ℕ} → avoid ≡ switchesOf s vs → Parallel s us vs → Free s t d avoid us
+unfolding switchesOf
+free-parallel s t d {avoid} {us} {vs} same p i h =
+    subst (Missing (switchTo s (getD us i 0) (getD us (suc i) 0))) (sym same)
+    (record { not-at = λ j q e. p .switches .apart i j (omega (arith, length-turn (switchTo s) us)) q (turn-at (switchTo s) us i h ∙ sym e) })

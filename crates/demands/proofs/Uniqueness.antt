@@ -5,6 +5,7 @@ use Rattle.links.proofs.Unique as links
 use Rattle.path.proofs.Unique as path
 use Rattle.verdict.proofs.Unique as verdict
 use Rattle.build.proofs.Unique as build
+use Rattle.laying.proofs.Unique as laying
 use Rattle.finder.proofs.Unique as finder
 use Rattle.select.proofs.Unique as select
 use Rattle.pick.proofs.Unique as pick
@@ -58,6 +59,7 @@ every-input =
       route-set-new = λ κs a. tt;
       route-set-with-route = λ κs a. tt;
       build-routes = λ κs a. tt;
+      lay-route = λ κs a. tt;
       find-route = λ κs a. tt;
       select-routes = λ κs a. tt;
       pick-route = λ κs a. tt;
@@ -139,6 +141,8 @@ uniqueness =
       route-set-new = build.new-unique;
       route-set-with-route = build.with-route-unique;
       build-routes = build.build-routes-unique;
+      lay-route = laying.lay-route-unique;
+      lay-route-leaves = laying.lay-route-leaves;
       find-route = finder.find-route-unique;
       select-routes = select.select-routes-unique;
       pick-route = pick.pick-route-unique;

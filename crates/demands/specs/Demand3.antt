@@ -8,6 +8,7 @@ use mathlib.Core.List.{List}
 use lib.ListN.{length, getD, take, drop}
 use Rattle.refusals.specs.Refusals.{none}
 use Rattle.room.specs.declared.Shape.{Shape}
+use Rattle.room.specs.Shapes.{Valid}
 use Rattle.links.specs.Table.{failed, tableRefusal}
 use Rattle.path.specs.Answers.{readAnswer}
 use Rattle.verdict.specs.Checks.{checkAnswer}
@@ -17,6 +18,7 @@ use Rattle.build.specs.Answers.{buildAnswer}
 use Rattle.select.specs.declared.Selection.{Selection}
 use Rattle.select.specs.Selection.{Selecting}
 use Rattle.step.specs.Steps.{macAt, portAt, delivery}
+use Rattle.step.specs.Packed.{Bytes}
 use Rattle.step.specs.Delivery.{Tables, stepAfter}
 
 -- a list is accepted exactly when the table is one of the room, and the list is 1 to k + 1 arrays, each the encoding of a route
@@ -30,6 +32,10 @@ AcceptedExactly =
 pub record Healthy (s : Shape) (t : List ℕ) : Type 0 where
   pub table : tableRefusal s t ≡ 0
   pub all : (a l : ℕ) → failed t a l ≡ false
+
+-- every room can be healthy
+abbrev pub HealthyExists : Type 0
+HealthyExists = (s : Shape) → Valid s → (t : List ℕ) × Healthy s t
 
 -- what the builder answers in a healthy room is k + 1 arrays, and the list of them is accepted
 abbrev pub BuiltAccepted : Type 0
@@ -53,6 +59,10 @@ SelectionAccepted =
 pub record Delivers (s : Shape) (d : ℕ) (bs : List ℕ) (tables : ℕ → List ℕ) (a : ℕ) (vs : List ℕ) : Type 0 where
   pub hop : (i : ℕ) → suc i < length vs → stepAfter s d bs tables i a 0 ≡ record { refusal = none; delivered = false; next = getD vs (suc i) 0; index = i + 1; mac = macAt (tables (getD vs i 0)) (getD bs i 0); port = portAt (tables (getD vs i 0)) (getD bs i 0) }
   pub delivered : stepAfter s d bs tables (length vs - 1) a 0 ≡ delivery
+
+-- for every failed-link table there are neighbour tables, of bytes, that agree with it
+abbrev pub TablesExist : Type 0
+TablesExist = (s : Shape) (t : List ℕ) → (tables : ℕ → List ℕ) × Tables s t tables × ((a : ℕ) → Bytes (tables a))
 
 -- the array at place i of a list, the first counted as 0
 abbrev pub arrayAt : ℕ → List ℕ → List ℕ

@@ -1,5 +1,9 @@
+pub mod Tests
 pub mod Demand1
+pub mod Refusals
+pub mod Buffers
 pub mod Demand2
 pub mod Demand3
 pub mod ProvedTable
+pub mod TieRows
 pub mod Uniqueness

@@ -92,6 +92,8 @@ use Rattle.build.proofs.RouteSet.with_route.Reads as route-set-with-route-reads
 use Rattle.build.proofs.RouteSet.with_route.Kinds as route-set-with-route-kinds
 use Rattle.build.proofs.build_routes.Reads as build-routes-reads
 use Rattle.build.proofs.build_routes.Kinds as build-routes-kinds
+use Rattle.laying.proofs.lay_route.Reads as lay-route-reads
+use Rattle.laying.proofs.lay_route.Kinds as lay-route-kinds
 use Rattle.finder.proofs.find_route.Reads as find-route-reads
 use Rattle.finder.proofs.find_route.Kinds as find-route-kinds
 use Rattle.select.proofs.select_routes.Reads as select-routes-reads
@@ -210,6 +212,8 @@ pub record EveryInput : Type 0 where
   pub route-set-new : Takes 0 route-set-new-kinds.ps route-set-new-reads.Pre
   pub route-set-with-route : Takes 0 route-set-with-route-kinds.ps route-set-with-route-reads.Pre
   pub build-routes : Takes 0 build-routes-kinds.ps build-routes-reads.Pre
+  -- laying
+  pub lay-route : Takes 2 lay-route-kinds.ps lay-route-reads.Pre
   -- finder
   pub find-route : Takes 1 find-route-kinds.ps find-route-reads.Pre
   -- select
@@ -303,6 +307,10 @@ pub record Uniqueness : Type 0 where
   pub route-set-new : Determined 0 route-set-new-kinds.ps route-set-new-kinds.r route-set-new-reads.Post
   pub route-set-with-route : Determined 0 route-set-with-route-kinds.ps route-set-with-route-kinds.r route-set-with-route-reads.Post
   pub build-routes : Determined 0 build-routes-kinds.ps build-routes-kinds.r build-routes-reads.Post
+  -- laying
+  pub lay-route : Determined 2 lay-route-kinds.ps lay-route-kinds.r lay-route-reads.Post
+  -- and the bytes of the table that it leaves behind
+  pub lay-route-leaves : Leaves 2 lay-route-kinds.ps lay-route-kinds.r lay-route-reads.Post (λ κs s. now (s .1 .0))
   -- finder
   pub find-route : Determined 1 find-route-kinds.ps find-route-kinds.r find-route-reads.Post
   -- select

@@ -25,8 +25,9 @@ use Rattle.finder.specs.declared.Found.{Found}
 use Rattle.finder.specs.Answers.{Finding}
 use Rattle.finder.proofs.AnswerLaws.{given-some, found-refusal, found-or-none}
 use Rattle.select.specs.declared.Selection.{Selection}
-use Rattle.select.specs.Selection.{Selecting, Chosen, selection}
-use Rattle.select.proofs.SelectLaws.{select-ends, select-le, chosen-settled}
+use Rattle.select.specs.Selection.{Selecting, GivesRoutes, selection}
+use Rattle.select.proofs.SlotLaws.{all-settled}
+use Rattle.select.proofs.SelectLaws.{select-ends, select-le}
 use Rattle.driver.specs.Words.{word, Small, left}
 use Rattle.driver.specs.Routes.{FoundWord, SelectedWord}
 use Rattle.driver.proofs.WordLaws.{chain-le, none-small, plain-small}
@@ -95,9 +96,9 @@ select-small {s} {t} {a} {d} x f =
       | no n ↦ subst (λ (y : Selection). Small (y .refusal) (y .routes .count)) (sym (f .refused n)) (plain-small (roomRefusal s t a d) (let h = select-le s t a d in omega arith))
     ]
   where
-    given : Chosen s t a d x → Ends s a d → Small (x .refusal) (x .routes .count)
+    given : GivesRoutes s t a d x → Ends s a d → Small (x .refusal) (x .routes .count)
     given c e =
-        let h = chosen-settled e c in
+        let h = all-settled t e (c .slots) in
         subst (λ (y : Selection). Small (y .refusal) (y .routes .count)) (sym (c .answer)) (chosen-small s (c .routes) (omega (arith, h .few, e .source .valid .levels)))
 
 pub select-said : {s e : Shape} {t : List ℕ} {a d w : ℕ} {x : Selection} {lent routes : List ℕ} → Selecting s t a d x → s ≡ e → w ≡ word (x .refusal) (x .routes .count) → routes ≡ left (x .refusal .number) lent (x .routes .bytes) → SelectedWord e t a d w lent routes

@@ -11,18 +11,18 @@ use Rattle.room.specs.declared.Shape.{Shape}
 use Rattle.links.specs.Table.{roomRefusal}
 use Rattle.path.specs.Routes.{encode, RouteTo}
 use Rattle.finder.specs.declared.Found.{Found}
-use Rattle.finder.specs.Answers.{notFound, Given, Finding}
+use Rattle.finder.specs.Answers.{noRoute, GivesAlternate, Finding}
 use Rattle.finder.proofs.Order.{split}
 
 module _ {s : Shape} {t : List ℕ} {a d : ℕ} {r : Found} where
   -- the hops and bytes of the alternate
-  pub given-hops : (g : Given s t a d r) → r .hops ≡ length (g .servers) - 1
+  pub given-hops : (g : GivesAlternate s t a d r) → r .hops ≡ length (g .servers) - 1
   given-hops g = ap (λ (x : Found). x .hops) (g .answer)
 
-  pub given-bytes : (g : Given s t a d r) → r .bytes ≡ encode s (g .servers)
+  pub given-bytes : (g : GivesAlternate s t a d r) → r .bytes ≡ encode s (g .servers)
   given-bytes g = ap (λ (x : Found). x .bytes) (g .answer)
 
-  pub given-some : Given s t a d r → (0 < r .hops) × (r .hops ≤ 8)
+  pub given-some : GivesAlternate s t a d r → (0 < r .hops) × (r .hops ≤ 8)
   given-some g =
       (omega (arith, given-hops g, g .alternate .route .route .some), omega (arith, given-hops g, g .alternate .route .route .few))
 
@@ -38,7 +38,7 @@ module _ {s : Shape} {t : List ℕ} {a d : ℕ} {r : Found} where
 
     module _ (z : roomRefusal s t a d ≡ 0) where
       -- the alternate, or no route
-      pub found-or-none : Given s t a d r ⊎ ((r ≡ notFound 0) × ((vs : List ℕ) → RouteTo s t a d vs → ⊥))
+      pub found-or-none : GivesAlternate s t a d r ⊎ ((r ≡ noRoute 0) × ((vs : List ℕ) → RouteTo s t a d vs → ⊥))
       found-or-none = ⊎-elim (λ p. inl (f .given z p)) (λ p. inr (f .none z (omega arith))) (split 0 (r .hops))
 
       -- no hops exactly where there is no route

@@ -5,12 +5,16 @@ use native.Mathlib.Numerals.{add-one}
 use mathlib.Core.Path.{_≡_, refl, sym, ap, _∙_}
 use mathlib.Core.Logic.{⊎-elim}
 use mathlib.Core.List.{List, [], _∷_, _++_, append-nil, append-assoc, map, map-append}
-use lib.ListN.{length, getD, take, replicate, length-append}
+use lib.ListN.{length, getD, take, replicate, length-append, length-replicate}
 use lib.Seq.{take-take, length-take-le}
+use Rattle.refusals.specs.declared.Refusal.{Refusal}
+use Rattle.refusals.specs.Refusals.{none}
+use Rattle.finder.specs.declared.Found.{Found}
+use Rattle.finder.specs.Answers.{noRoute}
 use Rattle.finder.specs.Hops.{turned}
 use Rattle.finder.specs.State.{trail}
 use Rattle.finder.specs.Kept.{keyed}
-use Rattle.finder.specs.Trace.{Reached}
+use Rattle.finder.specs.Trace.{Reached, TracedBack}
 use Rattle.finder.proofs.Trail.{trail-step, trail-zero}
 use Rattle.finder.proofs.Order.{split}
 
@@ -32,13 +36,8 @@ rest-front x l h z (suc i) b = take-zero 7 l i (z i (omega arith))
 pub long-front : (x : ℕ) (l : List ℕ) → length l ≡ 8 → length (x ∷ take 7 l) ≡ 8
 long-front x l e = ap suc (length-take-le 7 l (omega arith))
 
--- a label's byte, as a program computes it
-pub turned-at : (k x : ℕ) → (k - x / 64) * 64 + x % 64 ≡ turned k x
-unfolding turned
-turned-at k x = refl
-
 -- what one turn of the way back reads
-pub record Read (back queue : List ℕ) (k at : ℕ) : Type 0 where
+pub record InTables (back queue : List ℕ) (k at : ℕ) : Type 0 where
   pub place : at < 4096
   pub key : getD back at 0 < 1048576
   pub next : getD queue (getD back at 0 / 256) 0 < 4096
@@ -79,7 +78,7 @@ module _ {k root : ℕ} {back queue : List ℕ} {dst : ℕ} (p : Reached k root 
     before-i = omega (arith, key-at, p .links .earlier (s .i) later (s .found), s .found)
 
     -- what the code reads is in the tables
-    pub in-tables : Read back queue k at
+    pub in-tables : InTables back queue k at
     in-tables =
         record {
           place = rw (← s .here) (p .links .inside (s .i) (s .found));
@@ -117,3 +116,54 @@ module _ {k root : ℕ} {back queue : List ℕ} {dst : ℕ} (p : Reached k root 
       let z : s .i ≡ 0 = omega arith in
       s .way ∙ ap (λ (m : ℕ). way-to m ++ take hops bytes) z ∙ ap (λ (l : List ℕ). map (turned k) l ++ take hops bytes) (trail-zero (keyed back queue)))
       (split 0 (s .i))
+
+-- ---- hop after hop, back from the destination
+
+-- what holds at each turn: `bytes` are those of the last hops, and `at` is where they begin
+pub record Tracing (k root : ℕ) (back queue : List ℕ) (dst : ℕ) (bytes : List ℕ) (hops at : ℕ) : Type 0 where
+  pub few : hops ≤ 8
+  pub long : length bytes ≡ 8
+  pub rest : (i : ℕ) → hops ≤ i → getD bytes i 0 ≡ 0
+  pub along : (p : Reached k root back queue dst) → Along p bytes hops at
+
+module _ {k root : ℕ} {back queue : List ℕ} {dst : ℕ} where
+  pub tracing-starts : (m : ℕ) → m ≡ 8 → Tracing k root back queue dst (replicate m 0) 0 dst
+  tracing-starts m e =
+      record { few = omega arith; long = length-replicate {A = ℕ} m 0 ∙ e; rest = λ i h. zeros m i; along = λ p. along-start p (replicate m 0) }
+
+  module _ {bytes : List ℕ} {hops at : ℕ} (h : Tracing k root back queue dst bytes hops at) where
+    -- the hop before, put in front
+    pub tracing-more : (at ≡ root → ⊥) → (hops ≡ 8 → ⊥) → (next : List ℕ) → next ≡ ((k - getD back at 0 % 256 / 64) * 64 + getD back at 0 % 256 % 64) ∷ take 7 bytes
+        → Tracing k root back queue dst next (hops + 1) (getD queue (getD back at 0 / 256) 0)
+    unfolding turned
+    tracing-more away less next e =
+        rw e
+        (record {
+          few = omega (arith, h .few);
+          long = long-front b bytes (h .long);
+          rest = rest-front b bytes hops (h .rest);
+          along = λ p. along-step p (h .along p) away (omega (arith, h .few)) b refl;
+        })
+      where
+        b : ℕ
+        b = turned k (getD back at 0 % 256)
+
+    -- a ninth hop
+    pub tracing-over : (at ≡ root → ⊥) → hops ≡ 8 → (r : Found) → r ≡ noRoute 0 → TracedBack k root back queue dst r
+    tracing-over away full r e =
+        rw e
+        (record {
+          refusal = refl;
+          traced = λ p. record { fits = λ few. absurd (omega (arith, more p (h .along p) away (h .long) (h .few))); over = λ many. refl; long = refl; rest = λ i few. zeros 8 i };
+        })
+
+    -- the root
+    pub tracing-ends : at ≡ root → (q : Refusal) → q ≡ none → TracedBack k root back queue dst (record { refusal = q; hops = hops; bytes = bytes })
+    tracing-ends here q e =
+        record {
+          refusal = e;
+          traced = λ p.
+              let w = along-end p (h .along p) here in
+              let l = ap length w ∙ length-take-le hops bytes (omega (arith, h .few, h .long)) in
+              record { fits = λ few. (sym l, sym w); over = λ many. absurd (omega (arith, h .few)); long = h .long; rest = h .rest };
+        }

@@ -2,28 +2,26 @@
 use Prim.Native.Nat.{ℕ, _+_, _-_, _*_, _<_, _≤_}
 use native.Mathlib.Omega.{arith}
 use mathlib.Core.Path.{_≡_, refl, sym, ap, ap₂, _∙_, subst}
-use mathlib.Core.Logic.{_≢_, _⊎_, ⊎-elim}
+use mathlib.Core.Logic.{_⊎_, ⊎-elim}
 use mathlib.Core.List.{List, [], _∷_, _++_, map}
-use lib.Dec.{eqb}
 use lib.ListN.{length, getD, take, drop, replicate, length-map, length-drop, length-replicate, getD-replicate, take-append-drop}
 use lib.Seq.{ext-getD, getD-drop}
-use borrow.Author.Tests.{eqb-false, not-true}
 use Rattle.lists.specs.Lists.{inTurn, filled}
 use Rattle.refusals.specs.Refusals.{none, _or-else_}
-use Rattle.refusals.proofs.ChainLaws.{or-else-zero, test-held, chain-goes}
+use Rattle.refusals.proofs.ChainLaws.{or-else-zero, chain-goes}
 use Rattle.room.specs.declared.Shape.{Shape}
-use Rattle.room.specs.Shapes.{Server}
-use Rattle.room.specs.Refusals.{shapeRefusal, pairRefusal, endsRefusal}
-use Rattle.room.proofs.RefusalLaws.{pair-of, valid-none}
+use Rattle.room.specs.Refusals.{shapeRefusal, endsRefusal}
+use Rattle.room.proofs.RefusalLaws.{valid-none, ends-of}
+use Rattle.room.specs.Shapes.{Ends}
 use Rattle.links.specs.Table.{tableRefusal, roomTableRefusal, roomRefusal}
 use Rattle.path.specs.Routes.{byteTo, encode}
 use Rattle.finder.specs.declared.Found.{Found}
-use Rattle.finder.specs.Answers.{notFound, found, Finding}
-use Rattle.finder.specs.Walks.{Walk, Least}
+use Rattle.finder.specs.Answers.{noRoute, aRoute, Finding}
+use Rattle.finder.specs.Walks.{Leads, Least}
 use Rattle.finder.specs.Hops.{turned, stepOf, Ok}
 use Rattle.finder.specs.State.{trail}
-use Rattle.finder.specs.Kept.{placed, keyed}
-use Rattle.finder.specs.Trace.{Links, Reached, Traced}
+use Rattle.finder.specs.Kept.{noParent, queued, keyed}
+use Rattle.finder.specs.Trace.{BackLinks, Reached, Traced, TracedBack}
 use Rattle.finder.proofs.Order.{split}
 use Rattle.finder.proofs.Theory.{found-least, none-leads}
 use Rattle.finder.proofs.Hops.{Kept-in, ok-low}
@@ -32,30 +30,20 @@ use Rattle.finder.proofs.Least.{least-alternate, no-walk-no-route}
 
 -- ---- what is given where nothing is refused
 
-pub record Ready (s : Shape) (a d : ℕ) : Type 0 where
-  pub source : Server s a
-  pub destination : Server s d
-  pub apart : a ≢ d
-
-pub ready : (s : Shape) (t : List ℕ) (a d : ℕ) → roomRefusal s t a d ≡ 0 → Ready s a d
-unfolding roomRefusal endsRefusal
-ready s t a d e =
-    let z = or-else-zero _ _ e in
-    let y = or-else-zero (pairRefusal s a d) _ (z .0) in
-    let p = pair-of s a d (y .0) in
-    record { source = p .0; destination = p .1; apart = eqb-false a d (not-true (eqb a d) (test-held _ 4 (y .1))) }
+pub ready : (s : Shape) (t : List ℕ) (a d : ℕ) → roomRefusal s t a d ≡ 0 → Ends s a d
+unfolding roomRefusal
+ready s t a d e = ends-of s a d (or-else-zero _ _ e .0)
 
 -- the table's test, after that of the ends
 pub table-next : (s : Shape) (t : List ℕ) (a d r x : ℕ) → r ≡ endsRefusal s a d → r ≡ 0 → x ≡ roomTableRefusal s t → x ≡ endsRefusal s a d or-else tableRefusal s t
-unfolding endsRefusal _or-else_ roomTableRefusal
+unfolding _or-else_ roomTableRefusal
 table-next s t a d r x e z f =
-    let y = or-else-zero (pairRefusal s a d) _ (sym e ∙ z) in
-    let v : 0 ≡ shapeRefusal s = valid-none (pair-of s a d (y .0) .0 .valid) in
+    let v : 0 ≡ shapeRefusal s = valid-none (ends-of s a d (sym e ∙ z) .source .valid) in
     chain-goes r _ _ x e z (rw (← v) at f)
 
-pub refused-answer : {s : Shape} {t : List ℕ} {a d : ℕ} (q : ℕ) → q ≡ roomRefusal s t a d → (q ≡ 0 → ⊥) → (r : Found) → r ≡ notFound q → Finding s t a d r
+pub refused-answer : {s : Shape} {t : List ℕ} {a d : ℕ} (q : ℕ) → q ≡ roomRefusal s t a d → (q ≡ 0 → ⊥) → (r : Found) → r ≡ noRoute q → Finding s t a d r
 refused-answer q e ne r f =
-    record { refused = λ n. f ∙ ap notFound e; given = λ z. absurd (ne (e ∙ z)); none = λ z. absurd (ne (e ∙ z)) }
+    record { refused = λ n. f ∙ ap noRoute e; given = λ z. absurd (ne (e ∙ z)); none = λ z. absurd (ne (e ∙ z)) }
 
 -- ---- eight bytes
 
@@ -78,16 +66,16 @@ no-bytes = refl
 pub record Ended (s : Shape) (t : List ℕ) (a : ℕ) (back queue : List ℕ) (n d : ℕ) : Type 0 where
   pub reach : ℕ
   pub kept : Kept-in s t a back queue n reach
-  pub how : (n * 256 ≤ reach) ⊎ (getD back d 0 ≡ 4294967295 → ⊥)
+  pub how : (n * 256 ≤ reach) ⊎ (getD back d 0 ≡ noParent → ⊥)
 
 module _ {s : Shape} {t : List ℕ} {a d : ℕ} {back queue : List ℕ} {n : ℕ} (pre : roomRefusal s t a d ≡ 0) (e : Ended s t a back queue n d) where
-  given : Ready s a d
+  given : Ends s a d
   given = ready s t a d pre
 
   low : (u x : ℕ) → Ok s t u x → x < 256
   low = ok-low s (given .source .valid) t
 
-  links : Links (s .k) a back queue n
+  links : BackLinks (s .k) a back queue n
   links =
       record {
         start = e .kept .state .start;
@@ -104,7 +92,7 @@ module _ {s : Shape} {t : List ℕ} {a d : ℕ} {back queue : List ℕ} {n : ℕ
   at-d = omega (arith, given .destination .below, given .destination .valid .small)
 
   -- the destination is not found: there is no route
-  pub none-found : getD back d 0 ≡ 4294967295 → (r : Found) → r ≡ notFound 0 → Finding s t a d r
+  pub none-found : getD back d 0 ≡ noParent → (r : Found) → r ≡ noRoute 0 → Finding s t a d r
   none-found free r er =
       record {
         refused = λ ne. absurd (ne pre);
@@ -112,17 +100,17 @@ module _ {s : Shape} {t : List ℕ} {a d : ℕ} {back queue : List ℕ} {n : ℕ
         none = λ z h. (er, no-walk-no-route s t a d no-walk);
       }
     where
-      no-walk : (xs : List ℕ) → length xs ≤ 8 → Walk (stepOf s) (Ok s t) a xs d → ⊥
+      no-walk : (xs : List ℕ) → length xs ≤ 8 → Leads (stepOf s) (Ok s t) a xs d → ⊥
       no-walk xs few w =
           ⊎-elim
           (λ all.
-          none-leads (stepOf s) (Ok s t) low a (placed queue) (keyed back queue) n (e .reach) (e .kept .state) all d
+          none-leads (stepOf s) (Ok s t) low a (queued queue) (keyed back queue) n (e .reach) (e .kept .state) all d
           (λ i hi here. omega (arith, e .kept .known i hi, ap (λ (m : ℕ). getD back m 0) here)) xs w)
           (λ ne. ne free)
           (e .how)
 
   -- it is found
-  module _ (ne : getD back d 0 ≡ 4294967295 → ⊥) where
+  module _ (ne : getD back d 0 ≡ noParent → ⊥) where
     place : (i : ℕ) × (i < n) × (getD queue i 0 ≡ d)
     place = e .kept .marked d at-d ne
 
@@ -136,7 +124,7 @@ module _ {s : Shape} {t : List ℕ} {a d : ℕ} {back queue : List ℕ} {n : ℕ
     unfolding way
     least =
         subst (λ (w : ℕ). Least (stepOf s) (Ok s t) a (trail (keyed back queue) (place .0) (place .0)) w) (place .2)
-        (found-least (stepOf s) (Ok s t) low a (placed queue) (keyed back queue) n (e .reach) (e .kept .state) (place .0) (place .1))
+        (found-least (stepOf s) (Ok s t) low a (queued queue) (keyed back queue) n (e .reach) (e .kept .state) (place .0) (place .1))
 
     -- the answer that was traced
     traced-answer : (r : Found) → r .refusal ≡ none → (xs : List ℕ) → Least (stepOf s) (Ok s t) a xs d → Traced (map (turned (s .k)) xs) (r .hops) (r .bytes) → Finding s t a d r
@@ -149,7 +137,7 @@ module _ {s : Shape} {t : List ℕ} {a d : ℕ} {back queue : List ℕ} {n : ℕ
         record {
           refused = λ q. absurd (q pre);
           given = λ q h. absurd (omega arith);
-          none = λ q h. (whole r (notFound 0) er z b, no-walk-no-route s t a d (λ ys few w. ⊎-elim (λ lt. omega arith) (λ m. omega (arith, m .0)) (l .first ys w)));
+          none = λ q h. (whole r (noRoute 0) er z b, no-walk-no-route s t a d (λ ys few w. ⊎-elim (λ lt. omega arith) (λ m. omega (arith, m .0)) (l .first ys w)));
         })
         (λ fits.
         let f = tr .fits (omega (arith, long)) in
@@ -157,7 +145,7 @@ module _ {s : Shape} {t : List ℕ} {a d : ℕ} {back queue : List ℕ} {n : ℕ
         let b : r .bytes ≡ filled 8 (inTurn (byteTo s) (met s a xs)) = eight (map (turned (s .k)) xs) (r .bytes) (r .hops) (tr .long) (f .0) (f .1) (tr .rest) ∙ ap (filled 8) (sym same) in
         record {
           refused = λ q. absurd (q pre);
-          given = λ q h. record { servers = met s a xs; alternate = least-alternate s t a d (given .source) (given .apart) xs fits l; answer = whole r (found s (met s a xs)) er m b };
+          given = λ q h. record { servers = met s a xs; alternate = least-alternate s t a d (given .source) (given .differ) xs fits l; answer = whole r (aRoute s (met s a xs)) er m b };
           none = λ q h. absurd (omega (arith, f .0, long, some-hops xs (l .leads)));
         })
         (split 8 (length xs))
@@ -168,13 +156,13 @@ module _ {s : Shape} {t : List ℕ} {a d : ℕ} {back queue : List ℕ} {n : ℕ
         same : inTurn (byteTo s) (met s a xs) ≡ map (turned (s .k)) xs
         same = met-bytes′ s t a xs d (l .leads)
 
-        some-hops : (ys : List ℕ) → Walk (stepOf s) (Ok s t) a ys d → 0 < length ys
-        some-hops [] w = absurd (given .apart w)
+        some-hops : (ys : List ℕ) → Leads (stepOf s) (Ok s t) a ys d → 0 < length ys
+        some-hops [] w = absurd (given .differ w)
         some-hops (y ∷ ys) w = omega arith
 
         whole : (x y : Found) → x .refusal ≡ y .refusal → x .hops ≡ y .hops → x .bytes ≡ y .bytes → x ≡ y
         whole x y p q b = λ i. record { refusal = p i; hops = q i; bytes = b i }
 
-    pub found-answer : (r : Found) → r .refusal ≡ none → ((p : Reached (s .k) a back queue d) → Traced (map (turned (s .k)) (trail (keyed back queue) (p .d) (p .d))) (r .hops) (r .bytes)) → Finding s t a d r
+    pub found-answer : (r : Found) → TracedBack (s .k) a back queue d r → Finding s t a d r
     unfolding way place reached
-    found-answer r er tr = traced-answer r er way least (tr reached)
+    found-answer r b = traced-answer r (b .refusal) way least (b .traced reached)

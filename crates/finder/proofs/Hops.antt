@@ -13,12 +13,9 @@ use Rattle.room.proofs.RoomLaws.{bound-le, with-server}
 use Rattle.links.specs.Table.{failed, live}
 use Rattle.links.proofs.TableLaws.{live-exactly, live-receiver}
 use Rattle.finder.specs.Hops.{stepOf, Ok}
-use Rattle.finder.specs.Kept.{Kept}
-use Rattle.finder.specs.Scan.{Trying, Tried}
+use Rattle.finder.specs.Kept.{noParent, Kept}
+use Rattle.finder.specs.Scan.{Visiting, Visited}
 use Rattle.finder.proofs.Tables.{pass, add}
-
-abbrev none : ℕ
-none = 4294967295
 
 pub absurd-bool : {X : Type 0} → true ≡ false → X
 absurd-bool e = let q : _≡_ {A = ℕ} 0 1 = cc in absurd (omega arith)
@@ -89,7 +86,7 @@ module _ {s : Shape} {root : ℕ} {t back queue : List ℕ} {n a level v : ℕ} 
   shut z = one (λ b x eb ex o. absurd-bool (sym (o .alive) ∙ rw (eb, ex, ← to-w, at-level) z))
 
   -- it leads to a server that is found
-  pub seen : (getD back w 0 ≡ none → ⊥) → Kept-in s t root back queue n (a * 256 + ((s .k - level) * 64 + v) + 1)
+  pub seen : (getD back w 0 ≡ noParent → ⊥) → Kept-in s t root back queue n (a * 256 + ((s .k - level) * 64 + v) + 1)
   seen d =
       one
       (λ b x eb ex o.
@@ -97,7 +94,7 @@ module _ {s : Shape} {root : ℕ} {t back queue : List ℕ} {n a level v : ℕ} 
       (f .0, f .1, rw (eb, ex, ← to-w) (f .2)))
 
   -- it leads to one that is not
-  pub new : live t level (getD queue a 0) w ≡ true → getD back w 0 ≡ none
+  pub new : live t level (getD queue a 0) w ≡ true → getD back w 0 ≡ noParent
       → Kept-in s t root (set back w (a * 256 + ((s .k - level) * 64 + v))) (set queue n w) (n + 1) (a * 256 + ((s .k - level) * 64 + v) + 1)
   new z free =
       add kept (ok-low s valid t) a ((s .k - level) * 64 + v) w ha refl to-w hop-inside
@@ -111,8 +108,8 @@ module _ {s : Shape} {root : ℕ} {t back queue : List ℕ} {n a level v : ℕ} 
       free
 
 -- and so where it is tried
-module _ {s : Shape} {t back queue : List ℕ} {head tail l v w : ℕ} (h : Trying s t back queue head tail l v w) where
-  pub tried-shut : (f : Bool) → f ≡ live t l w w → f ≡ false → Tried s t queue back queue head tail tail l v
+module _ {s : Shape} {t back queue : List ℕ} {head tail l v w : ℕ} (h : Visiting s t back queue head tail l v w) where
+  pub tried-shut : (f : Bool) → f ≡ live t l w w → f ≡ false → Visited s t queue back queue head tail tail l v
   tried-shut f e z =
       record {
         grows = omega arith;
@@ -120,7 +117,7 @@ module _ {s : Shape} {t back queue : List ℕ} {head tail l v w : ℕ} (h : Tryi
         kept = shut (h .kept) (h .valid) (h .place) (h .level) (h .value) w (h .leads) (live-receiver t l (getD queue head 0) w (link-shut t l w (sym e ∙ z)));
       }
 
-  pub tried-new : (f : Bool) → f ≡ live t l w w → f ≡ true → Tried s t queue (set back w (head * 256 + ((s .k - l) * 64 + v))) (set queue tail w) head tail (tail + 1) l v
+  pub tried-new : (f : Bool) → f ≡ live t l w w → f ≡ true → Visited s t queue (set back w (head * 256 + ((s .k - l) * 64 + v))) (set queue tail w) head tail (tail + 1) l v
   tried-new f e z =
       record {
         grows = omega arith;

@@ -1,13 +1,14 @@
--- The least walk is the alternate, and the alternate the least walk; where no route is, no walk of eight hops or fewer is.
+-- The least walk is the alternate; where no walk of eight hops or fewer is there is no route.
 use Prim.Native.Nat.{ℕ, zero, suc, _+_, _-_, _*_, _/_, _<_, _≤_}
 use native.Mathlib.Omega.{arith}
-use mathlib.Core.Path.{_≡_, refl, sym, ap, ap₂, _∙_}
+use mathlib.Core.Path.{_≡_, refl, sym, ap, _∙_}
 use mathlib.Core.Logic.{_≢_, _⊎_, inl, inr, ⊎-elim}
 use mathlib.Core.Bool.{false}
 use mathlib.Core.List.{List, [], _∷_, _++_, map}
 use lib.ListN.{length, getD, take, drop, length-append, length-drop}
 use lib.Seq.{length-take-le}
 use Rattle.lists.specs.Lists.{Once, inTurn}
+use Rattle.lists.proofs.ListLaws.{length-turn, turn-at}
 use Rattle.room.specs.declared.Shape.{Shape}
 use Rattle.room.specs.Shapes.{Server, Link}
 use Rattle.room.specs.Addresses.{digit, switchOf, Beside}
@@ -15,28 +16,18 @@ use Rattle.room.proofs.RoomLaws.{same-switch, switch-same}
 use Rattle.links.specs.Table.{failed}
 use Rattle.links.proofs.TableLaws.{live-exactly}
 use Rattle.path.specs.Routes.{switchTo, switchAt, switchesOf, RouteTo}
-use Rattle.finder.specs.Alternates.{bytesOf, Sooner, HopByHop, Before, Alternate}
-use Rattle.finder.specs.Walks.{Walk, Lex, Shortlex, Least}
+use Rattle.path.proofs.HopLaws.{switch-id}
+use Rattle.finder.specs.Alternates.{hopBytes, Sooner, HopByHop, Before, Alternate}
+use Rattle.finder.specs.Walks.{Leads, Lex, Least}
 use Rattle.finder.specs.Hops.{turned, stepOf, Ok}
-use Rattle.finder.proofs.Order.{split, least-unique}
-use Rattle.finder.proofs.Repeats.{Twice, repeats, turn-long, turn-at}
-use Rattle.finder.proofs.Walking.{switch-small, beside-step, beside-ok, hop-neighbours, hop-level, hop-switch, met, met-long, met-first, met-last, met-bytes, part-to, part-from, hop-at, met-server, walk-append, labelsOf, labels-long, route-walk}
-
--- one number, one level and one switch
-same-at : (s : Shape) (l m a b : ℕ) → Link s a l → Link s b m → switchAt s l a ≡ switchAt s m b → (l ≡ m) × (switchOf s l a ≡ switchOf s l b)
-unfolding switchAt
-same-at s l m a b ha hb e =
-    let x = switch-small ha in
-    let y = switch-small hb in
-    let p : l ≡ m = omega arith in
-    let q : switchOf s l a ≡ switchOf s m b = omega arith in
-    (p, q ∙ ap (λ (i : ℕ). switchOf s i b) (sym p))
+use Rattle.finder.proofs.Repeats.{Twice, repeats}
+use Rattle.finder.proofs.Walking.{beside-step, beside-ok, hop-neighbours, hop-level, hop-switch, met, met-long, met-first, met-last, met-bytes, part-to, part-from, hop-at, met-server, walk-append, labelsOf, labels-long, route-walk}
 
 -- ---- a walk with a repeat is cut short; one without is a route
 
 module _ (s : Shape) (t : List ℕ) where
   abbrev Walks : ℕ → List ℕ → ℕ → Type 0
-  Walks u xs w = Walk (stepOf s) (Ok s t) u xs w
+  Walks u xs w = Leads (stepOf s) (Ok s t) u xs w
 
   -- between the servers met at i and at j, another way
   record Shorter (a : ℕ) (xs : List ℕ) (d : ℕ) : Type 0 where
@@ -68,7 +59,7 @@ module _ (s : Shape) (t : List ℕ) where
     cut-switch : Once (met s a xs) → Twice (switchesOf s (met s a xs)) → Shorter a xs d
     unfolding switchesOf
     cut-switch once w =
-        let n : length (inTurn (switchTo s) (met s a xs)) ≡ length xs = omega (arith, turn-long (switchTo s) (met s a xs), met-long s a xs) in
+        let n : length (inTurn (switchTo s) (met s a xs)) ≡ length xs = omega (arith, length-turn (switchTo s) (met s a xs), met-long s a xs) in
         let hj : w .j < length xs = omega (arith, w .inside, n) in
         let hi : w .i < length xs = omega (arith, w .order) in
         over (w .i) (w .j) (w .order) hi hj
@@ -83,7 +74,7 @@ module _ (s : Shape) (t : List ℕ) where
             turn-at (switchTo s) (met s a xs) i (omega (arith, met-long s a xs)) ∙ ap (switchTo s (at i)) (o .1) ∙ hop-switch (o .0)
 
         over : (i j : ℕ) → i < j → i < length xs → j < length xs → switchAt s (lev i) (at i) ≡ switchAt s (lev j) (at j) → Shorter a xs d
-        over i j o hi hj e = joined (same-at s (lev i) (lev j) (at i) (at j) li lj e)
+        over i j o hi hj e = joined (switch-id li lj .0 e)
           where
             oi : Ok s t (at i) (getD xs i 0) × (at (suc i) ≡ stepOf s (at i) (getD xs i 0))
             oi = hop-at s t a xs d i hi h
@@ -100,10 +91,10 @@ module _ (s : Shape) (t : List ℕ) where
             last : Server s (at (suc j))
             last = met-server s t a xs d ha h (suc j) (omega (arith, met-long s a xs))
 
-            joined : (lev i ≡ lev j) × (switchOf s (lev i) (at i) ≡ switchOf s (lev i) (at j)) → Shorter a xs d
+            joined : (lev i ≡ lev j) × (switchOf s (lev i) (at i) ≡ switchOf s (lev j) (at j)) → Shorter a xs d
             joined q =
                 let nj : Beside s (lev j) (at j) (at (suc j)) = rw (oj .1) (hop-neighbours (oj .0) .beside) in
-                let b : Beside s (lev i) (at i) (at (suc j)) = switch-same li last (q .1 ∙ same-switch (li .level) (rw (q .0) nj)) in
+                let b : Beside s (lev i) (at i) (at (suc j)) = switch-same li last (q .1 ∙ ap (λ (m : ℕ). switchOf s m (at j)) (sym (q .0)) ∙ same-switch (li .level) (rw (q .0) nj)) in
                 let fi : failed t (at i) (lev i) ≡ false = live-exactly t _ _ _ .0 (oi .0 .alive) .0 in
                 let fj : failed t (at (suc j)) (lev i) ≡ false = rw (q .0, oj .1) (live-exactly t _ _ _ .0 (oj .0 .alive) .1) in
                 let ne : at i ≢ at (suc j) = once .apart i (suc j) (omega arith) (omega (arith, met-long s a xs)) in
@@ -175,39 +166,12 @@ turned-twice : (k x : ℕ) → x / 64 ≤ k → turned k (turned k x) ≡ x
 unfolding turned
 turned-twice k x h = omega arith
 
-turned-levels : (k : ℕ) (xs : List ℕ) → Levels k (map (turned k) xs)
-unfolding turned
-turned-levels k [] = tt
-turned-levels k (x ∷ xs) = (omega arith, turned-levels k xs)
-
-turned-back : (k : ℕ) (xs : List ℕ) → Levels k xs → map (turned k) (map (turned k) xs) ≡ xs
-turned-back k [] l = refl
-turned-back k (x ∷ xs) l = ap₂ _∷_ (turned-twice k x (l .0)) (turned-back k xs (l .1))
-
--- a smaller label is a hop that comes sooner, and the other way round
-sooner : (k x y : ℕ) → x / 64 ≤ k → y / 64 ≤ k → x < y → Sooner (turned k x) (turned k y)
-unfolding turned
-sooner k x y hx hy h = ⊎-elim (λ lt. inl (omega arith)) (λ ge. inr (omega arith, omega arith)) (split (x / 64) (y / 64))
-
+-- a hop that comes sooner has a smaller label
 not-sooner : (k x y : ℕ) → x / 64 ≤ k → y / 64 ≤ k → x ≤ y → Sooner (turned k y) (turned k x) → ⊥
 unfolding turned
 not-sooner k x y hx hy h e = ⊎-elim (λ lt. omega arith) (λ q. omega (arith, q .0, q .1)) e
 
--- of two lists of labels, the first comes no later, or the second's bytes come before the first's
-lex-or : (k : ℕ) (xs ys : List ℕ) → Levels k xs → Levels k ys → length xs ≡ length ys → Lex xs ys ⊎ HopByHop (map (turned k) ys) (map (turned k) xs)
-lex-or k [] ys lx ly e = inl tt
-lex-or k (x ∷ xs) [] lx ly e = absurd (omega arith)
-lex-or k (x ∷ xs) (y ∷ ys) lx ly e =
-    ⊎-elim (λ lt. inl (inl lt))
-    (λ ge.
-    ⊎-elim (λ gt. inr (inl (sooner k y x (ly .0) (lx .0) gt)))
-    (λ le.
-    let q : x ≡ y = omega arith in
-    ⊎-elim (λ h. inl (inr (q, h))) (λ h. inr (inr (ap (turned k) (sym q), h))) (lex-or k xs ys (lx .1) (ly .1) (omega arith)))
-    (split y x))
-    (split x y)
-
--- and not both
+-- where labels come no later, bytes do not come after
 lex-not : (k : ℕ) (xs ys : List ℕ) → Levels k xs → Levels k ys → Lex xs ys → HopByHop (map (turned k) ys) (map (turned k) xs) → ⊥
 lex-not k [] [] lx ly l h = h
 lex-not k [] (y ∷ ys) lx ly l h = h
@@ -219,15 +183,15 @@ lex-not k (x ∷ xs) (y ∷ ys) lx ly l h =
     l
 
 module _ (s : Shape) (t : List ℕ) (a d : ℕ) where
-  walk-levels : (u : ℕ) (xs : List ℕ) → Walk (stepOf s) (Ok s t) u xs d → Levels (s .k) xs
+  walk-levels : (u : ℕ) (xs : List ℕ) → Leads (stepOf s) (Ok s t) u xs d → Levels (s .k) xs
   walk-levels u [] h = tt
   walk-levels u (x ∷ xs) h = (h .0 .level, walk-levels (stepOf s u x) xs (h .1))
 
   -- the bytes of a route, from its labels
-  route-bytes : (vs : List ℕ) → RouteTo s t a d vs → bytesOf s vs ≡ map (turned (s .k)) (labelsOf s vs)
+  route-bytes : (vs : List ℕ) → RouteTo s t a d vs → hopBytes s vs ≡ map (turned (s .k)) (labelsOf s vs)
   route-bytes vs r =
       let w = route-walk s t vs r in
-      ap (bytesOf s) (sym (w .1)) ∙ met-bytes s t a (labelsOf s vs) d (w .0)
+      ap (hopBytes s) (sym (w .1)) ∙ met-bytes s t a (labelsOf s vs) d (w .0)
 
   route-long : (vs : List ℕ) → RouteTo s t a d vs → length vs ≡ suc (length (labelsOf s vs))
   route-long vs r = omega (arith, labels-long s vs, r .route .some)
@@ -255,46 +219,6 @@ module _ (s : Shape) (t : List ℕ) (a d : ℕ) where
           absurd (⊎-elim (λ l. omega (arith, route-long (r .servers) (r .route))) (λ l. omega (arith, l .0, route-long (r .servers) (r .route))) (least .first (labelsOf s (r .servers)) (w .0))))
           (r .how)
 
-  -- the alternate is the least of all walks, however long
-  pub alternate-least : Server s a → a ≢ d → (vs : List ℕ) → Alternate s t a d vs → Least (stepOf s) (Ok s t) a (labelsOf s vs) d
-  alternate-least ha ne vs alt =
-      record {
-        leads = route-walk s t vs (alt .route) .0;
-        first = λ ys w.
-            ⊎-elim (λ lt. inl lt)
-            (λ ge. compared ys w (omega (arith, ge)) (walk-within s t a ys d ha w ne (omega (arith, ge, long, alt .route .route .few))))
-            (split (length (labelsOf s vs)) (length ys));
-      }
-    where
-      long : length vs ≡ suc (length (labelsOf s vs))
-      long = route-long vs (alt .route)
-
-      compared : (ys : List ℕ) → Walk (stepOf s) (Ok s t) a ys d → length ys ≤ length (labelsOf s vs) → Within s t a ys d → Shortlex (labelsOf s vs) ys
-      compared ys w le r =
-          ⊎-elim
-          (λ e.
-          let q : RouteTo s t a d (met s a ys) = rw (← e) (r .route) in
-          ⊎-elim (λ lt. absurd (alt .first (met s a ys) q (inl (omega (arith, met-long s a ys, long)))))
-          (λ ge.
-          let same : length (labelsOf s vs) ≡ length ys = omega arith in
-          ⊎-elim (λ l. inr (same, l))
-          (λ b.
-          absurd (alt .first (met s a ys) q
-          (inr (omega (arith, met-long s a ys, long), rw (route-bytes vs (alt .route), met-bytes s t a ys d w) b))))
-          (lex-or (s .k) (labelsOf s vs) ys (walk-levels a (labelsOf s vs) (route-walk s t vs (alt .route) .0)) (walk-levels a ys w) same))
-          (split (length ys) (length (labelsOf s vs))))
-          (λ lt. absurd (alt .first (r .servers) (r .route) (inl (omega (arith, long)))))
-          (r .how)
-
-  -- there is one alternate at most
-  pub alternate-unique : Server s a → a ≢ d → (us vs : List ℕ) → Alternate s t a d us → Alternate s t a d vs → us ≡ vs
-  alternate-unique ha ne us vs p q =
-      let e : labelsOf s us ≡ labelsOf s vs = least-unique (alternate-least ha ne us p) (alternate-least ha ne vs q) in
-      sym (route-walk s t us (p .route) .1) ∙ ap (met s a) e ∙ route-walk s t vs (q .route) .1
-
-  -- where no walk of eight hops or fewer is there is no route, and the other way round
-  pub no-walk-no-route : ((xs : List ℕ) → length xs ≤ 8 → Walk (stepOf s) (Ok s t) a xs d → ⊥) → (vs : List ℕ) → RouteTo s t a d vs → ⊥
+  -- where no walk of eight hops or fewer is there is no route
+  pub no-walk-no-route : ((xs : List ℕ) → length xs ≤ 8 → Leads (stepOf s) (Ok s t) a xs d → ⊥) → (vs : List ℕ) → RouteTo s t a d vs → ⊥
   no-walk-no-route none vs r = none (labelsOf s vs) (omega (arith, route-long vs r, r .route .few)) (route-walk s t vs r .0)
-
-  pub no-route-no-walk : Server s a → a ≢ d → ((vs : List ℕ) → RouteTo s t a d vs → ⊥) → (xs : List ℕ) → length xs ≤ 8 → Walk (stepOf s) (Ok s t) a xs d → ⊥
-  no-route-no-walk ha ne none xs few w = let r = walk-within s t a xs d ha w ne few in none (r .servers) (r .route)

@@ -1,5 +1,6 @@
 -- The theory of the search, which the proofs of the functions cite.
 pub mod Order
+pub mod OneAlternate
 pub mod Trail
 pub mod Theory
 pub mod Grow

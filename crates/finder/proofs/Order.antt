@@ -2,11 +2,11 @@
 use Prim.Native.Nat.{ℕ, _+_, _*_, _<_, _≤_}
 use native.Mathlib.Omega.{arith}
 use native.Mathlib.Decide.{decLt}
-use mathlib.Core.Path.{_≡_, refl, ap₂}
+use mathlib.Core.Path.{_≡_, refl}
 use mathlib.Core.Logic.{_⊎_, inl, inr, ⊎-elim}
 use mathlib.Core.List.{List, [], _∷_, _++_}
 use lib.ListN.{length}
-use Rattle.finder.specs.Walks.{Lex, Shortlex, Least}
+use Rattle.finder.specs.Walks.{Lex, Shortlex}
 
 unfoldable pub rank : ℕ → List ℕ → ℕ
 rank r [] = r
@@ -61,20 +61,3 @@ rank-shortlex xs ys l h =
     ⊎-elim inl
     (λ ge. ⊎-elim (λ lt. absurd (omega (arith, rank-short ys xs l lt))) (λ le. let e : length xs ≡ length ys = omega arith in inr (e, rank-lex 0 xs ys l e h)) (split (length ys) (length xs)))
     (split (length xs) (length ys))
-
-lex-antisym : (xs ys : List ℕ) → length xs ≡ length ys → Lex xs ys → Lex ys xs → xs ≡ ys
-lex-antisym [] [] e h k = refl
-lex-antisym [] (y ∷ ys) e h k = absurd (omega arith)
-lex-antisym (x ∷ xs) [] e h k = absurd (omega arith)
-lex-antisym (x ∷ xs) (y ∷ ys) e h k =
-    ⊎-elim (λ lt. absurd (⊎-elim (λ gt. omega arith) (λ w. omega (arith, w .0)) k))
-    (λ w. ⊎-elim (λ gt. absurd (omega (arith, w .0))) (λ v. ap₂ _∷_ (w .0) (lex-antisym xs ys (omega arith) (w .1) (v .1))) k)
-    h
-
--- there is one first walk at most
-pub least-unique : {step : ℕ → ℕ → ℕ} {ok : ℕ → ℕ → Type 0} {u w : ℕ} {xs ys : List ℕ} → Least step ok u xs w → Least step ok u ys w → xs ≡ ys
-least-unique {xs = xs} {ys = ys} p r =
-    ⊎-elim
-    (λ lt. absurd (⊎-elim (λ gt. omega arith) (λ v. omega (arith, v .0)) (r .first xs (p .leads))))
-    (λ w. ⊎-elim (λ gt. absurd (omega (arith, w .0))) (λ v. lex-antisym xs ys (w .0) (w .1) (v .1)) (r .first xs (p .leads)))
-    (p .first ys (r .leads))

@@ -1,12 +1,12 @@
--- Lists with and without repeats, and what is made of each two elements in a row.
-use Prim.Native.Nat.{ℕ, zero, suc, _-_, _<_}
+-- Lists with and without repeats.
+use Prim.Native.Nat.{ℕ, zero, suc, _<_}
 use native.Mathlib.Omega.{arith}
 use native.Mathlib.Decide.{ℕ-discrete}
-use mathlib.Core.Path.{_≡_, refl}
+use mathlib.Core.Path.{_≡_}
 use mathlib.Core.Logic.{_≢_, _⊎_, inl, inr, ⊎-elim}
 use mathlib.Core.List.{List, [], _∷_}
 use lib.ListN.{length, getD}
-use Rattle.lists.specs.Lists.{Once, inTurn}
+use Rattle.lists.specs.Lists.{Once}
 
 -- two places that hold the same
 pub record Twice (xs : List ℕ) : Type 0 where
@@ -41,17 +41,3 @@ repeats (x ∷ xs) =
     more f o i zero h b e = omega arith
     more f o zero (suc j) h b e = f j (omega arith) e
     more f o (suc i) (suc j) h b e = o .apart i j (omega arith) (omega arith) e
-
-module _ (f : ℕ → ℕ → ℕ) where
-  pub turn-long : (vs : List ℕ) → length (inTurn f vs) ≡ length vs - 1
-  unfolding inTurn
-  turn-long [] = refl
-  turn-long (x ∷ []) = refl
-  turn-long (x ∷ y ∷ ys) = omega (arith, turn-long (y ∷ ys))
-
-  pub turn-at : (vs : List ℕ) (i : ℕ) → suc i < length vs → getD (inTurn f vs) i 0 ≡ f (getD vs i 0) (getD vs (suc i) 0)
-  unfolding inTurn
-  turn-at [] i h = absurd (omega arith)
-  turn-at (x ∷ []) i h = absurd (omega arith)
-  turn-at (x ∷ y ∷ ys) zero h = refl
-  turn-at (x ∷ y ∷ ys) (suc i) h = turn-at (y ∷ ys) i (omega arith)

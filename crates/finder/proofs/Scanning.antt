@@ -17,8 +17,8 @@ use Rattle.links.specs.Table.{failed, roomRefusal}
 use Rattle.links.proofs.TableLaws.{live-exactly}
 use Rattle.finder.specs.declared.Side.{Side}
 use Rattle.finder.specs.Hops.{stepOf, Ok}
-use Rattle.finder.specs.Kept.{Kept}
-use Rattle.finder.specs.Scan.{markAt, Scanned, Swept, Siding, Sided, Trying, Tried}
+use Rattle.finder.specs.Kept.{noParent, Kept}
+use Rattle.finder.specs.Scan.{markAt, Scanned, Swept, Siding, Sided, Visiting, Visited}
 use Rattle.finder.proofs.Order.{split}
 use Rattle.finder.proofs.Tables.{recast}
 use Rattle.finder.proofs.Back.{zeros}
@@ -226,7 +226,7 @@ module _ {s : Shape} {t : List ℕ} {a d : ℕ} {back queue marks : List ℕ} {h
       marked = sweep-mark (h .sweeping) w (near .0) (omega arith) (ap (switchOf s level) leads ∙ with-switch value)
 
       -- the next hop to try
-      pub to-try : getD back w 0 ≡ 4294967295 → Trying s t back queue head tail level v w
+      pub to-try : getD back w 0 ≡ noParent → Visiting s t back queue head tail level v w
       to-try free =
           record {
             valid = h .valid;
@@ -242,7 +242,7 @@ module _ {s : Shape} {t : List ℕ} {a d : ℕ} {back queue marks : List ℕ} {h
           }
 
       -- it was tried
-      pub value-tried : {back′ queue′ : List ℕ} {r : ℕ} → Tried s t queue back′ queue′ head tail r level v
+      pub value-tried : {back′ queue′ : List ℕ} {r : ℕ} → Visited s t queue back′ queue′ head tail r level v
           → AtValue s t a d u side marks₀ back′ queue′ (set marks (w * 4 + level) 1) head r level (v + 1) (w + side .stride)
       value-tried g =
           record {
@@ -261,7 +261,7 @@ module _ {s : Shape} {t : List ℕ} {a d : ℕ} {back queue marks : List ℕ} {h
           }
 
       -- it leads to a server that is found
-      pub value-seen : (getD back w 0 ≡ 4294967295 → ⊥) → AtValue s t a d u side marks₀ back queue (set marks (w * 4 + level) 1) head tail level (v + 1) (w + side .stride)
+      pub value-seen : (getD back w 0 ≡ noParent → ⊥) → AtValue s t a d u side marks₀ back queue (set marks (w * 4 + level) 1) head tail level (v + 1) (w + side .stride)
       value-seen ne =
           value-tried
           (record {
@@ -271,7 +271,7 @@ module _ {s : Shape} {t : List ℕ} {a d : ℕ} {back queue marks : List ℕ} {h
           })
 
       -- it led to the destination
-      pub ended-found : {back′ queue′ : List ℕ} {r : ℕ} → Tried s t queue back′ queue′ head tail r level v → (getD back′ d 0 ≡ 4294967295 → ⊥) → Ended s t a back′ queue′ r d
+      pub ended-found : {back′ queue′ : List ℕ} {r : ℕ} → Visited s t queue back′ queue′ head tail r level v → (getD back′ d 0 ≡ noParent → ⊥) → Ended s t a back′ queue′ r d
       ended-found g ne = record { reach = head * 256 + ((s .k - level) * 64 + v) + 1; kept = recast (h .kept .state .start) refl (g .kept); how = inr ne }
 
     -- the values are done

@@ -54,6 +54,13 @@ module _ {s : Shape} {u l : ℕ} (h : Link s u l) (p : ℕ) (e : p ≡ s .n ^ l)
   unfolding bound
   reach-bound v b = reach-base v b
 
+-- what the program computes on the way to the first server at a switch, with m values for the digit, stays small
+pub record FirstSmall (u p m : ℕ) : Type 0 where
+  pub positive : 0 < p
+  pub some : 0 < m
+  pub inner : m * (u / p / m) ≤ 4096
+  pub whole : u % p + p * (m * (u / p / m)) ≤ 4096
+
 module _ {s : Shape} {marks : List ℕ} {u l p : ℕ} (g : Siding s marks u l p) where
   -- the mark has a place
   pub inside : (l ≤ 3) × (u < 4096) × (u * 4 + l < length marks)
@@ -76,15 +83,8 @@ module _ {s : Shape} {marks : List ℕ} {u l p : ℕ} (g : Siding s marks u l p)
     reach : (v : ℕ) → v < x .value → first + v * p ≡ withDigit s l v u
     reach v b = ap (λ (y : ℕ). u % p + p * (y * (u / p / y)) + v * p) values ∙ reach-bound (g .link) p (g .stride) v (omega (arith, values))
 
-    -- what the program computes stays small
-    pub record Small : Type 0 where
-      pub positive : 0 < p
-      pub some : 0 < x .value
-      pub inner : x .value * (u / p / x .value) ≤ 4096
-      pub whole : first ≤ 4096
-
-    pub small : Small
-    small =
+    pub first-small : FirstSmall u p (x .value)
+    first-small =
         let v = g .link .server .valid in
         let b : 2 ≤ x .value = omega (arith, values, bound-two v l) in
         let w = with-server {v = 0} (record { link = g .link; value = omega (arith, values) }) .below in
@@ -102,7 +102,7 @@ module _ {s : Shape} {marks : List ℕ} {u l p : ℕ} (g : Siding s marks u l p)
           short = short;
           most = omega (arith, values);
           all = λ m. (values, live-exactly t l u u .0 (sym i ∙ z) .0);
-          none = λ m. absurd (omega (arith, small .some));
+          none = λ m. absurd (omega (arith, first-small .some));
         }
 
   -- nothing to try

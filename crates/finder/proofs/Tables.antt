@@ -11,11 +11,8 @@ use lib.Seq.{getD-set-same, getD-set-other}
 use lib.Dec.{eqb}
 use borrow.Author.Tests.{eq-eqb, ne-eqb}
 use borrow.Author.Count.{below-more}
-use Rattle.finder.specs.Kept.{Blank, Kept, occupied, oneMoreUnless, placed, keyed}
+use Rattle.finder.specs.Kept.{noParent, Blank, Kept, occupied, oneMoreUnless, queued, keyed}
 use Rattle.finder.proofs.Grow.{advance, push}
-
-abbrev none : ℕ
-none = 4294967295
 
 oneMoreUnless-le : (b : Bool) (m : ℕ) → oneMoreUnless b m ≤ suc m
 unfolding oneMoreUnless
@@ -30,22 +27,22 @@ oneMoreUnless-suc false m = refl
 occupied-le : (l : List ℕ) → occupied l ≤ length l
 unfolding occupied
 occupied-le [] = omega arith
-occupied-le (x ∷ xs) = omega (arith, occupied-le xs, oneMoreUnless-le (eqb x none) (occupied xs))
+occupied-le (x ∷ xs) = omega (arith, occupied-le xs, oneMoreUnless-le (eqb x noParent) (occupied xs))
 
 -- where an entry is free, the taken ones are fewer than all
-occupied-room : (l : List ℕ) (w : ℕ) → w < length l → getD l w 0 ≡ none → occupied l < length l
+occupied-room : (l : List ℕ) (w : ℕ) → w < length l → getD l w 0 ≡ noParent → occupied l < length l
 unfolding occupied oneMoreUnless
 occupied-room [] w h e = absurd (omega arith)
-occupied-room (x ∷ xs) zero h e = rw (eq-eqb x none e) (omega (arith, occupied-le xs))
-occupied-room (x ∷ xs) (suc w) h e = omega (arith, occupied-room xs w (omega arith) e, oneMoreUnless-le (eqb x none) (occupied xs))
+occupied-room (x ∷ xs) zero h e = rw (eq-eqb x noParent e) (omega (arith, occupied-le xs))
+occupied-room (x ∷ xs) (suc w) h e = omega (arith, occupied-room xs w (omega arith) e, oneMoreUnless-le (eqb x noParent) (occupied xs))
 
-occupied-set : (l : List ℕ) (w v : ℕ) → w < length l → getD l w 0 ≡ none → (v ≡ none → ⊥) → occupied (set l w v) ≡ suc (occupied l)
+occupied-set : (l : List ℕ) (w v : ℕ) → w < length l → getD l w 0 ≡ noParent → (v ≡ noParent → ⊥) → occupied (set l w v) ≡ suc (occupied l)
 unfolding occupied oneMoreUnless
 occupied-set [] w v h e d = absurd (omega arith)
-occupied-set (x ∷ xs) zero v h e d = rw (ne-eqb v none d, eq-eqb x none e)
-occupied-set (x ∷ xs) (suc w) v h e d = ap (oneMoreUnless (eqb x none)) (occupied-set xs w v (omega arith) e d) ∙ oneMoreUnless-suc (eqb x none) (occupied xs)
+occupied-set (x ∷ xs) zero v h e d = rw (ne-eqb v noParent d, eq-eqb x noParent e)
+occupied-set (x ∷ xs) (suc w) v h e d = ap (oneMoreUnless (eqb x noParent)) (occupied-set xs w v (omega arith) e d) ∙ oneMoreUnless-suc (eqb x noParent) (occupied xs)
 
-occupied-none : (n : ℕ) → occupied (replicate n none) ≡ 0
+occupied-none : (n : ℕ) → occupied (replicate n noParent) ≡ 0
 unfolding occupied oneMoreUnless
 occupied-none zero = refl
 occupied-none (suc n) = occupied-none n
@@ -69,11 +66,11 @@ module _ {step : ℕ → ℕ → ℕ} {ok : ℕ → ℕ → Type 0} {size root :
       }
 
   -- while a server is not found, the queue has room
-  pub vacant : (w : ℕ) → w < 4096 → getD back w 0 ≡ none → n < 4096
+  pub vacant : (w : ℕ) → w < 4096 → getD back w 0 ≡ noParent → n < 4096
   vacant w hw free = omega (arith, s .count, s .long-back, occupied-room back w (omega (arith, s .long-back)) free)
 
   module _ (low : (u y : ℕ) → ok u y → y < 256) (a x w : ℕ) (ha : a < n) (et : t ≡ a * 256 + x) (ew : w ≡ step (getD queue a 0) x) (hw : w < size)
-      (o : ok (getD queue a 0) x) (free : getD back w 0 ≡ none) where
+      (o : ok (getD queue a 0) x) (free : getD back w 0 ≡ noParent) where
     room : n < 4096
     room = vacant w (omega (arith, s .within)) free
 
@@ -95,7 +92,7 @@ module _ {step : ℕ → ℕ → ℕ} {ok : ℕ → ℕ → Type 0} {size root :
     below : t < 1048576
     below = omega (arith, room, low (getD queue a 0) x o)
 
-    marked′ : (v : ℕ) → v < 4096 → (getD (set back w t) v 0 ≡ none → ⊥) → (i : ℕ) × (i < n + 1) × (getD (set queue n w) i 0 ≡ v)
+    marked′ : (v : ℕ) → v < 4096 → (getD (set back w t) v 0 ≡ noParent → ⊥) → (i : ℕ) × (i < n + 1) × (getD (set queue n w) i 0 ≡ v)
     marked′ v hv d =
         elim (ℕ-discrete v w) [
           | yes e ↦ (n, omega arith, at-n ∙ sym e)
@@ -108,7 +105,7 @@ module _ {step : ℕ → ℕ → ℕ} {ok : ℕ → ℕ → Type 0} {size root :
     add =
         record {
           state =
-              push (s .state) low (placed (set queue n w)) (keyed (set back w t) (set queue n w)) at-i key-i a x ha et (at-n ∙ ew) key-n o
+              push (s .state) low (queued (set queue n w)) (keyed (set back w t) (set queue n w)) at-i key-i a x ha et (at-n ∙ ew) key-n o
               (λ i h e. not-yet i h (e ∙ sym ew));
           inside = below-more (λ (i : ℕ). getD (set queue n w) i 0 < size) n (λ i h. omega (arith, at-i i h, s .inside i h)) (omega (arith, at-n));
           known = below-more (λ (i : ℕ). getD (set back w t) (getD (set queue n w) i 0) 0 < 1048576) n (λ i h. omega (arith, key-i i h, s .known i h)) (omega (arith, key-n, below));
@@ -153,8 +150,8 @@ start step ok size root b q hs hr bl lq =
     at-0 : getD (set q 0 root) 0 0 ≡ root
     at-0 = getD-set-same q 0 root 0 (omega arith)
 
-pub blank : (m : ℕ) → m ≡ 4096 → Blank (replicate m none)
-blank m e = record { long = length-replicate {A = ℕ} m none ∙ e; none = λ w b. getD-replicate m w none 0 (omega arith); count = occupied-none m }
+pub blank : (m : ℕ) → m ≡ 4096 → Blank (replicate m noParent)
+blank m e = record { long = length-replicate {A = ℕ} m noParent ∙ e; none = λ w b. getD-replicate m w noParent 0 (omega arith); count = occupied-none m }
 
 pub recast : {step : ℕ → ℕ → ℕ} {ok : ℕ → ℕ → Type 0} {size root root′ : ℕ} {back queue : List ℕ} {n t t′ : ℕ} → root ≡ root′ → t ≡ t′
     → Kept step ok size root back queue n t → Kept step ok size root′ back queue n t′

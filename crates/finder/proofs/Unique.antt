@@ -9,10 +9,9 @@ use Rattle.refusals.specs.Determined.{Determined}
 use Rattle.room.specs.declared.Shape.{Shape}
 use Rattle.links.specs.Table.{roomRefusal}
 use Rattle.finder.specs.declared.Found.{Found}
-use Rattle.finder.specs.Answers.{found, Given, Finding}
+use Rattle.finder.specs.Answers.{aRoute, GivesAlternate, Finding}
 use Rattle.finder.proofs.Order.{split}
-use Rattle.finder.proofs.Least.{alternate-unique}
-use Rattle.finder.proofs.Finish.{ready}
+use Rattle.finder.proofs.OneAlternate.{alternate-unique}
 use Rattle.finder.proofs.finding.find_route.Reads as find-route
 use Rattle.finder.proofs.finding.find_route.Kinds as find-route-kinds
 
@@ -28,10 +27,9 @@ finding-unique s t a d x y f g =
   where
     both : roomRefusal s t a d ≡ 0 → 0 < x .hops → 0 < y .hops → x ≡ y
     both z p q =
-        let r = ready s t a d z in
-        let u : Given s t a d x = f .given z p in
-        let v : Given s t a d y = g .given z q in
-        u .answer ∙ ap (found s) (alternate-unique s t a d (r .source) (r .apart) (u .servers) (v .servers) (u .alternate) (v .alternate)) ∙ sym (v .answer)
+        let u : GivesAlternate s t a d x = f .given z p in
+        let v : GivesAlternate s t a d y = g .given z q in
+        u .answer ∙ ap (aRoute s) (alternate-unique (u .alternate) (v .alternate)) ∙ sym (v .answer)
 
 pub find-route-unique : Determined 1 find-route-kinds.ps find-route-kinds.r find-route.Post
 find-route-unique κs a x y s t e f = finding-unique _ _ _ _ x y e f

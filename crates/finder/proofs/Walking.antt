@@ -1,24 +1,23 @@
 -- Walks over the hops of the room: the servers met on the way, and routes as walks.
 use Prim.Native.Nat.{ℕ, zero, suc, _+_, _-_, _*_, _/_, _%_, _<_, _≤_}
 use native.Mathlib.Omega.{arith}
-use native.Mathlib.Nat.{div-le-self}
 use mathlib.Core.Path.{_≡_, refl, sym, ap, ap₂, _∙_}
 use mathlib.Core.Logic.{_≢_}
 use mathlib.Core.Bool.{true, false}
 use mathlib.Core.List.{List, [], _∷_, _++_, map}
 use lib.ListN.{length, getD, take, drop, length-map}
 use Rattle.lists.specs.Lists.{inTurn}
+use Rattle.lists.proofs.ListLaws.{length-turn}
 use Rattle.room.specs.declared.Shape.{Shape}
-use Rattle.room.specs.Shapes.{serversOf, bound, Server, Link, Value}
-use Rattle.room.specs.Addresses.{digit, withDigit, switchOf, switchesAt, Beside, Neighbours}
-use Rattle.room.proofs.RoomLaws.{bound-le, digit-lt, with-server, with-same, with-own, with-beside, with-switch, beside-with, switch-lt, neighbours-exactly}
+use Rattle.room.specs.Shapes.{Server, Value}
+use Rattle.room.specs.Addresses.{digit, withDigit, switchOf, Beside, Neighbours}
+use Rattle.room.proofs.RoomLaws.{bound-le, digit-lt, with-server, with-same, with-own, with-beside, with-switch, beside-with, neighbours-exactly}
 use Rattle.links.specs.Table.{live, failed}
 use Rattle.links.proofs.TableLaws.{live-exactly}
 use Rattle.path.specs.Routes.{byteOf, switchAt, levelTo, switchTo, byteTo, Route, RouteTo}
-use Rattle.finder.specs.Alternates.{bytesOf}
-use Rattle.finder.specs.Walks.{Walk}
+use Rattle.finder.specs.Alternates.{hopBytes}
+use Rattle.finder.specs.Walks.{Leads}
 use Rattle.finder.specs.Hops.{turned, stepOf, Ok}
-use Rattle.finder.proofs.Repeats.{turn-long}
 use Rattle.finder.proofs.Hops.{label-level, label-value, step-at}
 
 -- ---- one hop
@@ -27,10 +26,6 @@ use Rattle.finder.proofs.Hops.{label-level, label-value, step-at}
 pub level-to : {s : Shape} {l a b : ℕ} → Server s a → Server s b → Neighbours s l a b → levelTo s a b ≡ l
 unfolding levelTo
 level-to {s} {l} ha hb n = ap (λ (ls : List ℕ). getD ls 0 0) (neighbours-exactly ha hb l .1 n)
-
-pub switch-small : {s : Shape} {a l : ℕ} → Link s a l → switchOf s l a < 4096
-unfolding switchesAt
-switch-small {s} {a} {l} h = omega (arith, switch-lt h, div-le-self (serversOf s) (bound s l), h .server .valid .small)
 
 -- two servers that agree in every digit but l are one hop apart, where their links at level l are live
 module _ {s : Shape} {l u w : ℕ} (hu : Server s u) (hw : Server s w) (hl : l ≤ s .k) (b : Beside s l u w) where
@@ -122,15 +117,15 @@ turn-met f s u v (x ∷ xs) = refl
 
 -- the labels of a route's hops
 abbrev pub labelsOf : Shape → List ℕ → List ℕ
-labelsOf s vs = map (turned (s .k)) (bytesOf s vs)
+labelsOf s vs = map (turned (s .k)) (hopBytes s vs)
 
 pub labels-long : (s : Shape) (vs : List ℕ) → length (labelsOf s vs) ≡ length vs - 1
-unfolding bytesOf
-labels-long s vs = length-map (bytesOf s vs) (turned (s .k)) ∙ turn-long (byteTo s) vs
+unfolding hopBytes
+labels-long s vs = length-map (hopBytes s vs) (turned (s .k)) ∙ length-turn (byteTo s) vs
 
 module _ (s : Shape) (t : List ℕ) where
   abbrev pub Walks : ℕ → List ℕ → ℕ → Type 0
-  Walks u xs w = Walk (stepOf s) (Ok s t) u xs w
+  Walks u xs w = Leads (stepOf s) (Ok s t) u xs w
 
   pub met-last : (u : ℕ) (xs : List ℕ) (w : ℕ) → Walks u xs w → getD (met s u xs) (length xs) 0 ≡ w
   unfolding met
@@ -138,14 +133,14 @@ module _ (s : Shape) (t : List ℕ) where
   met-last u (x ∷ xs) w h = met-last (stepOf s u x) xs w (h .1)
 
   -- the bytes of the servers met are the labels' bytes
-  pub met-bytes : (u : ℕ) (xs : List ℕ) (w : ℕ) → Walks u xs w → bytesOf s (met s u xs) ≡ map (turned (s .k)) xs
-  unfolding met bytesOf inTurn
+  pub met-bytes : (u : ℕ) (xs : List ℕ) (w : ℕ) → Walks u xs w → hopBytes s (met s u xs) ≡ map (turned (s .k)) xs
+  unfolding met hopBytes inTurn
   met-bytes u [] w h = refl
   met-bytes u (x ∷ xs) w h =
       turn-met (byteTo s) s u (stepOf s u x) xs ∙ ap₂ _∷_ (hop-byte (h .0)) (met-bytes (stepOf s u x) xs w (h .1))
 
   pub met-bytes′ : (u : ℕ) (xs : List ℕ) (w : ℕ) → Walks u xs w → inTurn (byteTo s) (met s u xs) ≡ map (turned (s .k)) xs
-  unfolding bytesOf
+  unfolding hopBytes
   met-bytes′ u xs w h = met-bytes u xs w h
 
   -- a walk up to the i-th server met, and from there on
@@ -210,7 +205,7 @@ module _ (s : Shape) (t : List ℕ) where
 
   hops-walk : (v : ℕ) (vs : List ℕ) → ((i : ℕ) → i < length vs → Hopping (getD (v ∷ vs) i 0) (getD vs i 0))
       → Walks v (labelsOf s (v ∷ vs)) (getD (v ∷ vs) (length vs) 0) × (met s v (labelsOf s (v ∷ vs)) ≡ v ∷ vs)
-  unfolding bytesOf inTurn met
+  unfolding hopBytes inTurn met
   hops-walk v [] f = (refl, refl)
   hops-walk v (w ∷ ws) f =
       let o = label-ok (f 0 (omega arith)) in

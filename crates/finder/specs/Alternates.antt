@@ -9,8 +9,8 @@ use Rattle.room.specs.declared.Shape.{Shape}
 use Rattle.path.specs.Routes.{byteTo, RouteTo, levelOf, valueOf}
 
 -- the path bytes of a route's hops, in turn
-unfoldable pub bytesOf : Shape → List ℕ → List ℕ
-bytesOf s vs = inTurn (byteTo s) vs
+unfoldable pub hopBytes : Shape → List ℕ → List ℕ
+hopBytes s vs = inTurn (byteTo s) vs
 
 -- of two hops, by their path bytes: the higher level comes first, then the lower value
 abbrev pub Sooner : ℕ → ℕ → Type 0
@@ -24,7 +24,7 @@ HopByHop (b ∷ bs) (c ∷ cs) = Sooner b c ⊎ ((b ≡ c) × HopByHop bs cs)
 
 -- route us comes before route vs: it has fewer hops, or as many and comes first hop by hop
 abbrev pub Before : Shape → List ℕ → List ℕ → Type 0
-Before s us vs = (length us < length vs) ⊎ ((length us ≡ length vs) × HopByHop (bytesOf s us) (bytesOf s vs))
+Before s us vs = (length us < length vs) ⊎ ((length us ≡ length vs) × HopByHop (hopBytes s us) (hopBytes s vs))
 
 -- the alternate from a to d over the live links of table t: a route, of eight hops at most, and no route comes before it
 pub record Alternate (s : Shape) (t : List ℕ) (a d : ℕ) (vs : List ℕ) : Type 0 where

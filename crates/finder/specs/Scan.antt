@@ -11,7 +11,7 @@ use Rattle.room.specs.Addresses.{withDigit, switchOf}
 use Rattle.links.specs.Table.{failed}
 use Rattle.finder.specs.declared.Side.{Side}
 use Rattle.finder.specs.Hops.{stepOf, Ok}
-use Rattle.finder.specs.Kept.{Kept}
+use Rattle.finder.specs.Kept.{noParent, Kept}
 
 -- where the mark of server u at level l stands: four places for each server
 abbrev pub markAt : ℕ → ℕ → ℕ
@@ -43,7 +43,7 @@ pub record Sided (s : Shape) (t marks : List ℕ) (u l : ℕ) (side : Side) : Ty
 
 -- the next hop to try: from the server at the place `head`, whose link is live, at a level, with the value v, to server w, which
 -- is not found yet
-pub record Trying (s : Shape) (t back queue : List ℕ) (head tail l v w : ℕ) : Type 0 where
+pub record Visiting (s : Shape) (t back queue : List ℕ) (head tail l v w : ℕ) : Type 0 where
   pub valid : Valid s
   pub place : head < tail
   pub level : l ≤ s .k
@@ -52,11 +52,11 @@ pub record Trying (s : Shape) (t back queue : List ℕ) (head tail l v w : ℕ) 
   pub leads : w ≡ withDigit s l v (getD queue head 0)
   pub inside : w < 4096
   pub alive : failed t (getD queue head 0) l ≡ false
-  pub new : getD back w 0 ≡ 4294967295
+  pub new : getD back w 0 ≡ noParent
   pub kept : Kept (stepOf s) (Ok s t) (serversOf s) (getD queue 0 0) back queue tail (head * 256 + ((s .k - l) * 64 + v))
 
 -- after that hop was tried: r servers are found
-pub record Tried (s : Shape) (t queue back′ queue′ : List ℕ) (head tail r l v : ℕ) : Type 0 where
+pub record Visited (s : Shape) (t queue back′ queue′ : List ℕ) (head tail r l v : ℕ) : Type 0 where
   pub grows : tail ≤ r
   pub same : (i : ℕ) → i < tail → getD queue′ i 0 ≡ getD queue i 0
   pub kept : Kept (stepOf s) (Ok s t) (serversOf s) (getD queue 0 0) back′ queue′ r (head * 256 + ((s .k - l) * 64 + v) + 1)

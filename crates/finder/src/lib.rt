@@ -1,6 +1,8 @@
 // The search for the alternate: the least route over the live links of a failed-link table. Every
 // call takes every input: it answers, or refuses by number.
 use refusals::Refusal;
+// answers.rt: the answer where there is no route
+mod answers;
 // finding.rt: the call, and what it refuses
 mod finding;
 // scan.rt: breadth first from the source, until the destination is met

@@ -9,11 +9,11 @@ ghost use Rattle.room.specs.Shapes.{serversOf};
 ghost use Rattle.links.specs.Table.{roomRefusal};
 ghost use Rattle.finder.specs.Hops.{stepOf, Ok};
 ghost use Rattle.finder.specs.Kept.{Blank, Kept};
-ghost use Rattle.finder.specs.Scan.{Siding, Sided, Trying, Tried};
+ghost use Rattle.finder.specs.Scan.{Siding, Sided, Visiting, Visited};
 ghost use Rattle.finder.specs.Answers.{Finding};
 use crate::Found;
 use crate::Side;
-use crate::finding::no_route;
+use crate::answers::no_route;
 use crate::trace::retrace;
 use links::is_live;
 use room::Shape;
@@ -76,8 +76,8 @@ fn visit(
     v: usize,
     w: usize,
 ) -> usize
-    requires { ⌜ Trying shape (now table) (now back) (now queue) head tail level v w ⌝ }
-    ensures { λ r. ⌜ Tried shape (now (table .entry)) (now (queue .entry)) (now (back .exit)) (now (queue .exit)) head tail r level v ⌝ }
+    requires { ⌜ Visiting shape (now table) (now back) (now queue) head tail level v w ⌝ }
+    ensures { λ r. ⌜ Visited shape (now (table .entry)) (now (queue .entry)) (now (back .exit)) (now (queue .exit)) head tail r level v ⌝ }
 {
     if is_live(table, level, w, w) {
         back[w] = (head * 256 + ((shape.k - level) * 64 + v)) as u32;

@@ -1,14 +1,10 @@
 // The way back from the destination, in the tables of the scan.
 ghost use mathlib.Core.Path.{_≡_};
-ghost use mathlib.Core.List.{_∷_, map};
+ghost use mathlib.Core.List.{_∷_};
 ghost use lib.ListN.{take};
-ghost use Rattle.refusals.specs.Refusals.{none};
-ghost use Rattle.finder.specs.Hops.{turned};
-ghost use Rattle.finder.specs.Kept.{keyed};
-ghost use Rattle.finder.specs.State.{trail};
-ghost use Rattle.finder.specs.Trace.{Reached, Traced};
+ghost use Rattle.finder.specs.Trace.{Reached, TracedBack};
 use crate::Found;
-use crate::finding::no_route;
+use crate::answers::no_route;
 use refusals::Refusal;
 use room::Shape;
 
@@ -37,7 +33,7 @@ pub(crate) fn retrace(
     destination: usize,
 ) -> Found
     requires { ⌜ Reached k source (now back) (now queue) destination ⌝ }
-    ensures { λ r. ⌜ (r .refusal ≡ none) × ((p : Reached k source (now (back .entry)) (now (queue .entry)) destination) → Traced (map (turned k) (trail (keyed (now (back .entry)) (now (queue .entry))) (p .d) (p .d))) (r .hops) (r .bytes)) ⌝ }
+    ensures { λ r. ⌜ TracedBack k source (now (back .entry)) (now (queue .entry)) destination r ⌝ }
 {
     let mut bytes = [0u8; 8];
     let mut hops: usize = 0;

@@ -8,7 +8,7 @@ use native.Mathlib.Omega.{arith}
 use native.Mathlib.Decide.{ℕ-discrete}
 use native.Mathlib.Nat.{one-le-pow, lt-of-lt-of-le, pow-le-pow-right}
 use lib.Dec.{eqb, lit<}
-use lib.ListN.{length, getD, set, replicate, length-set}
+use lib.ListN.{length, getD, set, replicate, length-set, length-replicate}
 use lib.Seq.{getD-set-same, getD-set-other, set-getD}
 use borrow.Author.Tests.{lt-ltb, ltb-true, eq-eqb, eqb-true, not-true}
 use Rattle.lists.proofs.ListLaws.{both-held, same-at}
@@ -146,17 +146,20 @@ pub table-link-none : {s : Shape} {t : List ℕ} {a l : ℕ} → Link s a l → 
 unfolding tableLinkRefusal
 table-link-none h k = chain-goes _ _ _ _ (link-none h) refl (table-none k)
 
+pub table-fits : {s : Shape} {t : List ℕ} → TableOf s t → (a : ℕ) → getD t a 0 < 2 ^ suc (s .k)
+table-fits {s} {t} h a = fits-lt (s .k) (getD t a 0) (h .fits a)
+
 -- no bit above k is set
 pub table-above : {s : Shape} {t : List ℕ} → TableOf s t → (a l : ℕ) → s .k < l → failed t a l ≡ false
 unfolding failed
-table-above {s} {t} h a l p = bit-none (suc (s .k)) l (getD t a 0) (fits-lt (s .k) (getD t a 0) (h .fits a)) p
+table-above {s} {t} h a l p = bit-none (suc (s .k)) l (getD t a 0) (table-fits h a) p
 
 -- every byte is one
 pub table-byte : {s : Shape} {t : List ℕ} → Valid s → TableOf s t → (a : ℕ) → getD t a 0 < 256
 table-byte {s} {t} v h a =
     let p : suc (s .k) ≤ 8 = omega (arith, v .levels) in
     let q : 2 ^ suc (s .k) ≤ 2 ^ 8 = pow-le-pow-right (lit< tt) p in
-    lt-of-lt-of-le (fits-lt (s .k) (getD t a 0) (h .fits a)) q
+    lt-of-lt-of-le (table-fits h a) q
 
 -- changing a link of the room leaves a table of the room
 pub changed-table : (b : Bool) {s : Shape} {t : List ℕ} → TableOf s t → (a l : ℕ) → l ≤ s .k → TableOf s (changed b a l t)
@@ -189,6 +192,14 @@ live-sender t l a b e = rw e
 
 pub live-receiver : (t : List ℕ) (l a b : ℕ) → failed t b l ≡ true → live t l a b ≡ false
 live-receiver t l a b e = live-swap t l a b ∙ live-sender t l b a e
+
+-- the table of a healthy room
+pub zeros-table : (s : Shape) → TableOf s (replicate (serversOf s) 0)
+zeros-table s =
+    record {
+      long = length-replicate {A = ℕ} (serversOf s) 0;
+      fits = λ a. rw (same-at {A = ℕ} 0 (serversOf s) a) (lt-fits (s .k) 0 (one-le-pow (suc (s .k)) 2 (lit< tt)));
+    }
 
 -- over zeros every hop is live
 pub failed-zeros : (m a l : ℕ) → failed (replicate m 0) a l ≡ false

@@ -1,10 +1,10 @@
 -- Reading, writing and reversing undo each other: what each call answers without refusal is exactly the routes and their bytes.
 use Prim.Native.Nat.{ℕ, zero, suc, _+_, _-_, _≤_, _<_, zero-le, suc-le-suc}
-use mathlib.Core.Path.{_≡_, refl, sym, ap, _∙_, subst}
+use mathlib.Core.Path.{_≡_, refl, sym, ap, ap₂, _∙_, subst}
 use mathlib.Core.Logic.{_≢_, _↔_}
 use mathlib.Core.Bool.{Bool, true, false≢true, not, _&&_}
 use mathlib.Core.List.{List, [], _∷_, _++_, append-nil, reverse, reverse-reverse}
-use native.Mathlib.Nat.{le-of-suc-le-suc}
+use native.Mathlib.Nat.{add-zero, le-of-suc-le-suc}
 use native.Mathlib.Omega.{arith}
 use native.Mathlib.Decide.{decLt, ℕ-discrete}
 use lib.ListN.{length, getD, take, replicate, length-reverse}
@@ -14,7 +14,7 @@ use borrow.Author.Tests.{eq-eqb, ne-eqb, eqb-true, eqb-false, leb-true, le-leb, 
 use Rattle.lists.proofs.ListLaws.{both-held, length-snoc, snoc-last, length-turn, turn-at, length-filled, take-filled, filled-at, filled-past}
 use Rattle.lists.specs.Lists.{isIn, inTurn, filled}
 use Rattle.refusals.specs.declared.Refusal.{Refusal}
-use Rattle.refusals.specs.Refusals.{none, plain, _or-else_, _unless_}
+use Rattle.refusals.specs.Refusals.{none, plain, refusedAt, _or-else_, _unless_}
 use Rattle.refusals.proofs.ChainLaws.{or-else-zero, chain-goes, test-held}
 use Rattle.refusals.proofs.AnswerLaws.{answered, answer-none}
 use Rattle.room.specs.declared.Shape.{Shape}
@@ -29,11 +29,11 @@ use Rattle.links.proofs.TableLaws.{live-empty}
 use Rattle.path.specs.declared.Walked.{Walked}
 use Rattle.path.specs.declared.Reading.{Reading}
 use Rattle.path.specs.declared.Writing.{Writing}
-use Rattle.path.specs.Routes.{switchAt, levelTo, switchTo, byteTo, switchesOf, encode, Route, Encodes}
+use Rattle.path.specs.Routes.{switchAt, levelTo, switchTo, byteTo, switchesOf, encode, Route, Prefix, Encodes}
 use Rattle.path.specs.Walks.{Walk, stopped, arrived, hopTo, hopRefusal, fault, ended, walkFrom, walk, single, writeFault, writeFrom}
 use Rattle.path.specs.Answers.{arrayRefusal, noWalk, walked, walkAnswer, reading, readAnswer, noWriting, reversed, reverseAnswer, serversRefusal, writeRefusal, written, onTheWay, writeAnswer}
 use Rattle.path.proofs.HopLaws.{byte-small}
-use Rattle.path.proofs.RouteLaws.{lastOf, Prefix, Step, route-prefix, prefix-route, prefix-one, prefix-front, prefix-step, prefix-snoc, switches-snoc, walk-refused, walk-arrives, walk-goes, read-sound, read-complete}
+use Rattle.path.proofs.RouteLaws.{lastOf, Step, route-prefix, prefix-route, prefix-one, prefix-front, prefix-step, prefix-snoc, switches-snoc, walk-refused, walk-arrives, walk-goes, read-sound, read-complete}
 use Rattle.path.proofs.ReverseLaws.{source-server, dest-server, ends-differ, first-arrival, route-to-reverse}
 
 -- ---- the bytes of a route
@@ -237,14 +237,25 @@ write-sound s h vs (b ∷ rest) p q e =
     hb : Server s b
     hb = q .each zero (suc-le-suc zero-le)
 
-write-complete : (s : Shape) (h : ℕ) (vs rest : List ℕ) → 0 < length vs → Prefix s [] (vs ++ rest) → writeFrom s h vs (switchesOf s vs) (lastOf vs) rest ≡ none
-unfolding writeFrom
-write-complete s h vs [] o p = refl
-write-complete s h vs (b ∷ rest) o p =
-    rw (eq-eqb _ _ (write-step vs (front .servers (length vs - 1) (omega arith)) (st .server) .1 st))
-    (ap (λ (l : List ℕ). writeFrom s (h + 1) (vs ++ (b ∷ [])) l b rest) (sym (switches-snoc s vs b o))
-    ∙ ap (λ (x : ℕ). writeFrom s (h + 1) (vs ++ (b ∷ [])) (switchesOf s (vs ++ (b ∷ []))) x rest) (sym (snoc-last vs b))
-    ∙ write-complete s (h + 1) (vs ++ (b ∷ [])) rest longer whole)
+-- one hop of the writer: it is refused, or goes on
+module _ (s : Shape) (h : ℕ) (vs : List ℕ) (b : ℕ) (rest : List ℕ) where
+  pub write-refused : writeFault s vs (switchesOf s vs) (lastOf vs) b ≢ 0 → writeFrom s h vs (switchesOf s vs) (lastOf vs) (b ∷ rest) ≡ refusedAt (writeFault s vs (switchesOf s vs) (lastOf vs) b) 1 (h + 1)
+  unfolding writeFrom
+  write-refused n = rw (ne-eqb (writeFault s vs (switchesOf s vs) (lastOf vs) b) 0 n)
+
+  pub write-goes : 0 < length vs → writeFault s vs (switchesOf s vs) (lastOf vs) b ≡ 0 → writeFrom s h vs (switchesOf s vs) (lastOf vs) (b ∷ rest) ≡ writeFrom s (h + 1) (vs ++ (b ∷ [])) (switchesOf s (vs ++ (b ∷ []))) (lastOf (vs ++ (b ∷ []))) rest
+  unfolding writeFrom
+  write-goes o y =
+      rw (eq-eqb (writeFault s vs (switchesOf s vs) (lastOf vs) b) 0 y)
+      (ap₂ (λ (u : List ℕ) (x : ℕ). writeFrom s (h + 1) (vs ++ (b ∷ [])) u x rest) (sym (switches-snoc s vs b o)) (sym (snoc-last vs b)))
+
+-- hop after hop along a way
+write-along : (s : Shape) (h : ℕ) (vs rest more : List ℕ) → 0 < length vs → Prefix s [] (vs ++ rest) → writeFrom s h vs (switchesOf s vs) (lastOf vs) (rest ++ more) ≡ writeFrom s (h + length rest) (vs ++ rest) (switchesOf s (vs ++ rest)) (lastOf (vs ++ rest)) more
+write-along s h vs [] more o p = rw (append-nil vs, add-zero h)
+write-along s h vs (b ∷ rest) more o p =
+    write-goes s h vs b (rest ++ more) o (write-step vs ha (st .server) .1 st)
+    ∙ write-along s (h + 1) (vs ++ (b ∷ [])) rest more longer whole
+    ∙ ap₂ (λ (k : ℕ) (l : List ℕ). writeFrom s k l (switchesOf s l) (lastOf l) more) (let e : h + 1 + length rest ≡ h + suc (length rest) = omega arith in e) (append-snoc vs b rest)
   where
     longer : 0 < length (vs ++ (b ∷ []))
     longer = omega (arith, length-snoc vs b)
@@ -252,11 +263,19 @@ write-complete s h vs (b ∷ rest) o p =
     whole : Prefix s [] (vs ++ (b ∷ []) ++ rest)
     whole = subst (Prefix s []) (sym (append-snoc vs b rest)) p
 
-    front : Prefix s [] vs
-    front = prefix-front vs (b ∷ rest) o p
+    ha : Server s (lastOf vs)
+    ha = prefix-front vs (b ∷ rest) o p .servers (length vs - 1) (omega arith)
 
     st : Step s [] vs (lastOf vs) b
     st = prefix-step vs b o (prefix-front (vs ++ (b ∷ [])) rest longer whole)
+
+-- from the first server
+pub way-along : (s : Shape) (vs more : List ℕ) → Prefix s [] vs → onTheWay s (vs ++ more) ≡ writeFrom s (length vs - 1) vs (switchesOf s vs) (lastOf vs) more
+unfolding onTheWay switchesOf inTurn
+way-along s [] more p = let z : ⊥ = omega (arith, p .some) in absurd z
+way-along s (v ∷ vs) more p =
+    write-along s 0 (v ∷ []) vs more (suc-le-suc zero-le) p
+    ∙ ap (λ (k : ℕ). writeFrom s k (v ∷ vs) (switchesOf s (v ∷ vs)) (lastOf (v ∷ vs)) more) (let z : 0 + length vs ≡ length (v ∷ vs) - 1 = omega arith in z)
 
 pub servers-of : (s : Shape) (vs : List ℕ) → serversRefusal s vs ≡ 0 → Servers s vs
 unfolding serversRefusal
@@ -312,10 +331,9 @@ route-listed {s} {t} {vs} h =
       differ = h .servers-once .apart 0 (length vs - 1) (omega (arith, h .some)) (omega (arith, h .some));
     }
 
-way-none : {s : Shape} (vs : List ℕ) → 0 < length vs → Prefix s [] vs → onTheWay s vs ≡ none
-unfolding onTheWay switchesOf inTurn
-way-none [] o p = let z : ⊥ = omega arith in absurd z
-way-none {s} (v ∷ vs) o p = write-complete s 0 (v ∷ []) vs (suc-le-suc zero-le) p
+way-none : {s : Shape} (vs : List ℕ) → Prefix s [] vs → onTheWay s vs ≡ none
+unfolding writeFrom
+way-none {s} vs p = ap (onTheWay s) (sym (append-nil vs)) ∙ way-along s vs [] p
 
 pub way-route : {s : Shape} (vs : List ℕ) → Listed s vs → onTheWay s vs .number ≡ 0 → Route s [] vs
 unfolding onTheWay switchesOf inTurn
@@ -327,7 +345,7 @@ way-route {s} (v ∷ vs) h e =
 pub write-given : {s : Shape} {vs : List ℕ} → Route s [] vs → writeAnswer s vs ≡ record { refusal = none; bytes = encode s vs }
 unfolding writeAnswer
 write-given {s} {vs} h =
-    answer-none _ _ _ (listed-none (route-listed h)) ∙ ap (written s vs) (way-none vs (omega (arith, h .some)) (route-prefix h))
+    answer-none _ _ _ (listed-none (route-listed h)) ∙ ap (written s vs) (way-none vs (route-prefix h))
 
 written-number : (s : Shape) (vs : List ℕ) (r : Refusal) → written s vs r .refusal .number ≡ 0 → r .number ≡ 0
 written-number s vs r e = go (ℕ-discrete (r .number) 0)

@@ -3,11 +3,12 @@ use Prim.Native.Nat.{ℕ, zero, suc, _+_, _-_, _≤_, _<_, zero-le, suc-le-suc}
 use mathlib.Core.Path.{_≡_, refl, sym, ap, ap₂, _∙_, subst}
 use mathlib.Core.Logic.{_≢_, _↔_}
 use mathlib.Core.Bool.{true, false, not, _&&_}
-use mathlib.Core.List.{List, [], _∷_, _++_}
+use mathlib.Core.List.{List, [], _∷_, _++_, append-nil}
 use native.Mathlib.Omega.{arith}
+use native.Mathlib.Nat.{add-zero}
 use native.Mathlib.Decide.{ℕ-discrete}
-use lib.ListN.{length, getD, replicate, length-append, List·getD-append}
-use lib.Seq.{getD-append-seam, append-snoc}
+use lib.ListN.{length, getD, take, replicate, length-append, drop-of-length-le, List·getD-append}
+use lib.Seq.{getD-append-seam, append-snoc, split-at, length-take-le}
 use borrow.Author.Tests.{eq-eqb, ne-eqb, not-true}
 use Rattle.lists.proofs.ListLaws.{both-held, length-snoc, snoc-last, snoc-at, once-snoc, once-front, length-turn, turn-snoc, turn-front}
 use Rattle.lists.specs.Lists.{isIn, Once, inTurn, filled}
@@ -17,7 +18,7 @@ use Rattle.room.specs.declared.Shape.{Shape}
 use Rattle.room.specs.Shapes.{Server}
 use Rattle.room.specs.Addresses.{Neighbours}
 use Rattle.links.specs.Table.{live}
-use Rattle.path.specs.Routes.{levelOf, switchAt, levelTo, switchTo, byteTo, switchesOf, encode, Route, RouteTo}
+use Rattle.path.specs.Routes.{levelOf, switchAt, levelTo, switchTo, byteTo, switchesOf, encode, Route, Prefix, RouteTo}
 use Rattle.path.specs.Walks.{stopped, arrived, hopTo, hopRefusal, fault, ended, walkFrom, walk}
 use Rattle.path.proofs.HopLaws.{hop-server, hop-neighbours, hop-level, hop-byte, hop-switch, byte-hop, byte-taken, byte-switch, byte-level}
 
@@ -26,15 +27,6 @@ abbrev pub lastOf : List ℕ → ℕ
 lastOf vs = getD vs (length vs - 1) 0
 
 -- ---- the beginnings of routes, hop after hop
-
--- servers in turn as on a route, of any number of hops
-pub record Prefix (s : Shape) (t vs : List ℕ) : Type 0 where
-  pub some : 1 ≤ length vs
-  pub servers : (i : ℕ) → i < length vs → Server s (getD vs i 0)
-  pub hops : (i : ℕ) → suc i < length vs → Neighbours s (levelTo s (getD vs i 0) (getD vs (suc i) 0)) (getD vs i 0) (getD vs (suc i) 0)
-  pub alive : (i : ℕ) → suc i < length vs → live t (levelTo s (getD vs i 0) (getD vs (suc i) 0)) (getD vs i 0) (getD vs (suc i) 0) ≡ true
-  pub servers-once : Once vs
-  pub switches-once : Once (switchesOf s vs)
 
 pub route-prefix : {s : Shape} {t vs : List ℕ} → Route s t vs → Prefix s t vs
 route-prefix h =
@@ -312,7 +304,7 @@ read-sound {s} {a} {d} t bs vs ws ha ne l e =
     bytes : bs ≡ inTurn (byteTo s) vs ++ replicate (8 - length (inTurn (byteTo s) vs)) 0
     bytes = sym (c .bytes) ∙ ap (λ (k : ℕ). inTurn (byteTo s) vs ++ replicate k 0) (sym zeros)
 
--- ---- a walk over the bytes of a route arrives with it
+-- ---- a walk over the bytes of a way goes along it
 
 module _ {s : Shape} {t vs : List ℕ} {a b : ℕ} (ha : Server s a) (st : Step s t vs a b) (d h : ℕ) (bs : List ℕ) where
   pub step-arrives : b ≡ d → walkFrom s t d h vs (switchesOf s vs) a (byteTo s a b ∷ bs) ≡ ended (h + 1) (vs ++ (b ∷ [])) (switchesOf s vs ++ (switchTo s a b ∷ [])) bs
@@ -325,54 +317,93 @@ module _ {s : Shape} {t vs : List ℕ} {a b : ℕ} (ha : Server s a) (st : Step 
       walk-goes s t d h vs (switchesOf s vs) a (byteTo s a b) bs (step-fault ha st) (λ q. e (sym (byte-hop ha (st .server) (st .hop)) ∙ q))
       ∙ ap₂ (λ (x y : ℕ). walkFrom s t d (h + 1) (vs ++ (x ∷ [])) (switchesOf s vs ++ (y ∷ [])) x bs) (byte-hop ha (st .server) (st .hop)) (byte-switch ha (st .server) (st .hop))
 
-pub walk-route : (s : Shape) (t : List ℕ) (d h : ℕ) (vs rest : List ℕ) (m : ℕ) → 0 < length vs → 0 < length rest → Prefix s t (vs ++ rest) → lastOf (vs ++ rest) ≡ d → walkFrom s t d h vs (switchesOf s vs) (lastOf vs) (inTurn (byteTo s) (lastOf vs ∷ rest) ++ replicate m 0) ≡ arrived (vs ++ rest) (switchesOf s (vs ++ rest))
+-- hop after hop over the bytes of a way, where none of its servers is the destination
+walk-along : (s : Shape) (t : List ℕ) (d h : ℕ) (vs rest left : List ℕ) → 0 < length vs → Prefix s t (vs ++ rest) → ((i : ℕ) → i < length rest → getD rest i 0 ≢ d) → walkFrom s t d h vs (switchesOf s vs) (lastOf vs) (inTurn (byteTo s) (lastOf vs ∷ rest) ++ left) ≡ walkFrom s t d (h + length rest) (vs ++ rest) (switchesOf s (vs ++ rest)) (lastOf (vs ++ rest)) left
 unfolding inTurn
-walk-route s t d h vs [] m o r p e = let z : ⊥ = omega arith in absurd z
-walk-route s t d h vs (b ∷ []) m o r p e =
-    let ha = prefix-front vs (b ∷ []) o p .servers (length vs - 1) (omega arith) in
-    step-arrives ha (prefix-step vs b o p) d h (replicate m 0) (sym (snoc-last vs b) ∙ e)
-    ∙ ended-zeros (h + 1) (vs ++ (b ∷ [])) (switchesOf s vs ++ (switchTo s (lastOf vs) b ∷ [])) m
-    ∙ ap (arrived (vs ++ (b ∷ []))) (sym (switches-snoc s vs b o))
-walk-route s t d h vs (b ∷ c ∷ cs) m o r p e =
-    step-goes ha (prefix-step vs b o front) d h bs other
-    ∙ ap (λ (l : List ℕ). walkFrom s t d (h + 1) vs' l b bs) (sym (switches-snoc s vs b o))
-    ∙ ap (λ (x : ℕ). walkFrom s t d (h + 1) vs' (switchesOf s vs') x (inTurn (byteTo s) (x ∷ c ∷ cs) ++ replicate m 0)) (sym (snoc-last vs b))
-    ∙ walk-route s t d (h + 1) vs' (c ∷ cs) m (omega (arith, length-snoc vs b)) (suc-le-suc zero-le) p' (ap lastOf join ∙ e)
-    ∙ ap (λ (l : List ℕ). arrived l (switchesOf s l)) join
+walk-along s t d h vs [] left o p n = rw (append-nil vs, add-zero h)
+walk-along s t d h vs (b ∷ rest) left o p n =
+    step-goes ha (prefix-step vs b o front) d h bytes (n zero (suc-le-suc zero-le))
+    ∙ ap (λ (l : List ℕ). walkFrom s t d (h + 1) vs' l b bytes) (sym (switches-snoc s vs b o))
+    ∙ ap (λ (x : ℕ). walkFrom s t d (h + 1) vs' (switchesOf s vs') x (inTurn (byteTo s) (x ∷ rest) ++ left)) (sym (snoc-last vs b))
+    ∙ walk-along s t d (h + 1) vs' rest left longer p' (λ i k. n (suc i) (suc-le-suc k))
+    ∙ ap₂ (λ (k : ℕ) (l : List ℕ). walkFrom s t d k l (switchesOf s l) (lastOf l) left) (let e : h + 1 + length rest ≡ h + suc (length rest) = omega arith in e) join
   where
     vs' : List ℕ
     vs' = vs ++ (b ∷ [])
 
-    bs : List ℕ
-    bs = inTurn (byteTo s) (b ∷ c ∷ cs) ++ replicate m 0
+    bytes : List ℕ
+    bytes = inTurn (byteTo s) (b ∷ rest) ++ left
 
-    join : vs ++ (b ∷ []) ++ (c ∷ cs) ≡ vs ++ (b ∷ c ∷ cs)
-    join = append-snoc vs b (c ∷ cs)
+    join : vs ++ (b ∷ []) ++ rest ≡ vs ++ (b ∷ rest)
+    join = append-snoc vs b rest
 
-    p' : Prefix s t (vs ++ (b ∷ []) ++ (c ∷ cs))
+    p' : Prefix s t (vs ++ (b ∷ []) ++ rest)
     p' = subst (Prefix s t) (sym join) p
 
+    longer : 0 < length (vs ++ (b ∷ []))
+    longer = omega (arith, length-snoc vs b)
+
     front : Prefix s t (vs ++ (b ∷ []))
-    front = prefix-front (vs ++ (b ∷ [])) (c ∷ cs) (omega (arith, length-snoc vs b)) p'
+    front = prefix-front (vs ++ (b ∷ [])) rest longer p'
 
     ha : Server s (lastOf vs)
     ha = prefix-front vs (b ∷ []) o front .servers (length vs - 1) (omega arith)
 
-    other : b ≢ d
-    other q =
-        p .servers-once .apart (length vs) (length (vs ++ (b ∷ c ∷ cs)) - 1) (omega (arith, length-append vs (b ∷ c ∷ cs))) (omega (arith, length-append vs (b ∷ c ∷ cs)))
-        (getD-append-seam vs b (c ∷ cs) 0 ∙ q ∙ sym e)
+-- from the source to the end of a way that has not met the destination
+pub walk-there : {s : Shape} {t : List ℕ} {a d : ℕ} (vs left : List ℕ) → Prefix s t vs → getD vs 0 0 ≡ a → ((i : ℕ) → i < length vs → getD vs i 0 ≢ d) → walk s t a d (inTurn (byteTo s) vs ++ left) ≡ walkFrom s t d (length vs - 1) vs (switchesOf s vs) (lastOf vs) left
+unfolding walk switchesOf inTurn
+walk-there [] left p e n = let z : ⊥ = omega (arith, p .some) in absurd z
+walk-there {s} {t} {a} {d} (x ∷ rest) left p e n =
+    ap (λ (y : ℕ). walkFrom s t d 0 (y ∷ []) [] y (inTurn (byteTo s) (x ∷ rest) ++ left)) (sym e)
+    ∙ walk-along s t d 0 (x ∷ []) rest left (suc-le-suc zero-le) p (λ i k. n (suc i) (suc-le-suc k))
+    ∙ ap (λ (k : ℕ). walkFrom s t d k (x ∷ rest) (switchesOf s (x ∷ rest)) (lastOf (x ∷ rest)) left) (let z : 0 + length rest ≡ length (x ∷ rest) - 1 = omega arith in z)
+
+-- and by a route to the destination, whatever bytes are left
+pub walk-to : {s : Shape} {t : List ℕ} {a d : ℕ} (vs left : List ℕ) → RouteTo s t a d vs → walk s t a d (inTurn (byteTo s) vs ++ left) ≡ ended (length vs - 1) vs (switchesOf s vs) left
+walk-to {s} {t} {a} {d} vs left h =
+    ap (walk s t a d) bytes
+    ∙ walk-there front (byteTo s (lastOf front) d ∷ left) begin (at 0 some ∙ h .source) away
+    ∙ step-arrives (begin .servers (length front - 1) (omega (arith, some))) (prefix-step front d some whole) d (length front - 1) left refl
+    ∙ ap₂ (λ (k : ℕ) (w : List ℕ). ended k (front ++ (d ∷ [])) w left) (let z : length front - 1 + 1 ≡ length vs - 1 = omega (arith, long, some) in z) (sym (switches-snoc s front d some))
+    ∙ ap (λ (l : List ℕ). ended (length vs - 1) l (switchesOf s l) left) (sym cut)
+  where
+    front : List ℕ
+    front = take (length vs - 1) vs
+
+    long : length front ≡ length vs - 1
+    long = length-take-le (length vs - 1) vs (omega arith)
+
+    some : 0 < length front
+    some = omega (arith, long, h .route .some)
+
+    cut : vs ≡ front ++ (d ∷ [])
+    cut =
+        split-at vs (length vs - 1) 0 (omega (arith, h .route .some))
+        ∙ ap₂ (λ (x : ℕ) (l : List ℕ). front ++ (x ∷ l)) (h .arrives) (drop-of-length-le vs (let z : length vs ≤ suc (length vs - 1) = omega arith in z))
+
+    whole : Prefix s t (front ++ (d ∷ []))
+    whole = subst (Prefix s t) cut (route-prefix (h .route))
+
+    begin : Prefix s t front
+    begin = prefix-front front (d ∷ []) some whole
+
+    at : (i : ℕ) → i < length front → getD front i 0 ≡ getD vs i 0
+    at i p = sym (snoc-at front d i p) ∙ ap (λ (l : List ℕ). getD l i 0) (sym cut)
+
+    away : (i : ℕ) → i < length front → getD front i 0 ≢ d
+    away i p e = whole .servers-once .apart i (length front) p (omega (arith, length-snoc front d)) (snoc-at front d i p ∙ e ∙ sym (getD-append-seam front d [] 0))
+
+    bytes : inTurn (byteTo s) vs ++ left ≡ inTurn (byteTo s) front ++ (byteTo s (lastOf front) d ∷ left)
+    bytes =
+        ap (λ (l : List ℕ). inTurn (byteTo s) l ++ left) cut
+        ∙ ap (λ (l : List ℕ). l ++ left) (turn-snoc (byteTo s) front d some)
+        ∙ append-snoc (inTurn (byteTo s) front) (byteTo s (lastOf front) d) left
 
 -- a walk over the bytes of a route arrives with its servers and its switches
 pub read-complete : {s : Shape} {t : List ℕ} {a d : ℕ} {vs : List ℕ} → RouteTo s t a d vs → walk s t a d (encode s vs) ≡ arrived vs (switchesOf s vs)
-unfolding walk switchesOf inTurn encode filled
-read-complete {s} {t} {a} {d} {vs} h = go vs (h .route .some) (route-prefix (h .route)) (h .source) (h .arrives)
-  where
-    go : (us : List ℕ) → 2 ≤ length us → Prefix s t us → getD us 0 0 ≡ a → lastOf us ≡ d → walk s t a d (encode s us) ≡ arrived us (switchesOf s us)
-    go [] o p e f = let z : ⊥ = omega arith in absurd z
-    go (x ∷ rest) o p e f =
-        subst (λ (y : ℕ). walk s t y d (encode s (x ∷ rest)) ≡ arrived (x ∷ rest) (switchesOf s (x ∷ rest))) e
-        (walk-route s t d 0 (x ∷ []) rest (8 - length (inTurn (byteTo s) (x ∷ rest))) (suc-le-suc zero-le) (omega arith) p f)
+unfolding encode filled
+read-complete {s} {t} {a} {d} {vs} h =
+    walk-to vs (replicate (8 - length (inTurn (byteTo s) vs)) 0) h ∙ ended-zeros (length vs - 1) vs (switchesOf s vs) (8 - length (inTurn (byteTo s) vs))
 
 -- the reading rule is exactly this: the servers are those of a route, the switches are its switches, and the bytes are its bytes
 pub read-exact : {s : Shape} {a d : ℕ} (t bs vs ws : List ℕ) → Server s a → a ≢ d → length bs ≡ 8 → (walk s t a d bs ≡ arrived vs ws) ↔ (RouteTo s t a d vs × (ws ≡ switchesOf s vs) × (bs ≡ encode s vs))

@@ -53,6 +53,15 @@ pub record Route (s : Shape) (t vs : List ℕ) : Type 0 where
   pub servers-once : Once vs
   pub switches-once : Once (switchesOf s vs)
 
+-- the beginning of a route: servers in turn as on a route, of any number of hops, none at all with them
+pub record Prefix (s : Shape) (t vs : List ℕ) : Type 0 where
+  pub some : 1 ≤ length vs
+  pub servers : (i : ℕ) → i < length vs → Server s (getD vs i 0)
+  pub hops : (i : ℕ) → suc i < length vs → Neighbours s (levelTo s (getD vs i 0) (getD vs (suc i) 0)) (getD vs i 0) (getD vs (suc i) 0)
+  pub alive : (i : ℕ) → suc i < length vs → live t (levelTo s (getD vs i 0) (getD vs (suc i) 0)) (getD vs i 0) (getD vs (suc i) 0) ≡ true
+  pub servers-once : Once vs
+  pub switches-once : Once (switchesOf s vs)
+
 -- a route from server a to server d
 pub record RouteTo (s : Shape) (t : List ℕ) (a d : ℕ) (vs : List ℕ) : Type 0 where
   pub route : Route s t vs

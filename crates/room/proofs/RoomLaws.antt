@@ -37,6 +37,10 @@ bound-two v l = v .two
 pub positive : {s : Shape} → Valid s → 0 < s .n
 positive v = omega arith
 
+pub servers-power : (s : Shape) → s .n ^ (s .k + 1) ≡ serversOf s
+unfolding serversOf
+servers-power s = ap (λ (x : ℕ). s .n ^ x) (add-one (s .k))
+
 pub servers-le : {s : Shape} → Valid s → serversOf s ≤ s .n ^ suc (s .k)
 unfolding serversOf
 servers-le {s} v = le-refl (s .n ^ suc (s .k))

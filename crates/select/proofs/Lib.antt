@@ -1,7 +1,6 @@
-pub mod AvoidLaws
+pub mod AvoidedLaws
 pub mod SlotLaws
-pub mod MarkLaws
-pub mod LayLaws
+pub mod HeldLaws
 pub mod SelectLaws
 pub mod SlotCode
 pub mod OneAnswer

@@ -1,16 +1,16 @@
--- What selection promises: all that it writes is accepted; 16 exactly when there is no route; a built route without a failed link
--- stays in its slot; with no built route broken the answer is what building answers.
+-- What selection promises: all that it writes is accepted; 16 exactly when there is no route; with no built route broken the answer is
+-- what building answers.
 use Prim.Native.Nat.{ℕ, zero, suc, _+_, _-_, _*_, _≤_, _<_, suc-le-suc, zero-le}
 use mathlib.Core.Path.{_≡_, refl, sym, ap, ap₂, _∙_, subst}
 use mathlib.Core.Logic.{_↔_}
 use mathlib.Core.Bool.{Bool, true, false, not, _&&_}
-use mathlib.Core.List.{List, [], _∷_, _++_, map, append-nil, append-assoc}
+use mathlib.Core.List.{List, [], _∷_, _++_, map, append-nil, append-assoc, List·Memᴰ·head}
 use native.Mathlib.Omega.{arith}
 use native.Mathlib.Nat.{le-of-suc-le-suc}
 use native.Mathlib.Decide.{ℕ-discrete}
 use lib.Dec.{ltb, leb, eqb}
 use lib.ListN.{length, getD, replicate, length-append, length-map}
-use lib.Seq.{append-snoc, take-at, getD-append-seam}
+use lib.Seq.{append-snoc, take-at}
 use Rattle.lists.specs.Lists.{filled, downFrom}
 use Rattle.refusals.specs.Refusals.{none, _or-else_, _unless_}
 use Rattle.refusals.proofs.ChainLaws.{or-else-zero}
@@ -25,18 +25,16 @@ use Rattle.path.specs.Routes.{encode, RouteTo}
 use Rattle.verdict.specs.Checks.{checkAnswer}
 use Rattle.verdict.specs.Accepted.{encodeAll, Accepted}
 use Rattle.verdict.proofs.AcceptLaws.{encoded-long, of-accepted}
-use Rattle.build.specs.declared.RouteSet.{RouteSet}
 use Rattle.build.specs.declared.Building.{Building}
 use Rattle.build.specs.Built.{builtRoute, builtBytes, builtArrays}
-use Rattle.build.specs.Sets.{arrayAt, joined, setOf, held}
+use Rattle.build.specs.Sets.{joined, setOf, held}
 use Rattle.build.specs.Answers.{buildAnswer, noBuilding, aBuilding}
 use Rattle.build.proofs.BuiltLaws.{built-encode}
 use Rattle.select.specs.declared.Selection.{Selection}
-use Rattle.select.specs.Avoided.{avoided, Avoids}
-use Rattle.select.specs.Selection.{Unbroken, Slot, kept, replaced, nothing, Selects, selection, Chosen, Selecting}
+use Rattle.select.specs.Selection.{Unbroken, Slot, kept, replaced, nothing, SlotBySlot, selection, GivesRoutes, Selecting}
 use Rattle.select.specs.Inside.{Settled}
-use Rattle.select.proofs.SlotLaws.{settled-none, slots-settled, lower}
-use Rattle.select.proofs.LayLaws.{set-count, route-array}
+use Rattle.select.proofs.AvoidedLaws.{lower, none-avoided}
+use Rattle.select.proofs.SlotLaws.{member-at, all-settled}
 
 -- ---- where nothing is refused
 
@@ -55,10 +53,6 @@ select-ends-zero s t a d e = or-else-zero (endsRefusal s a d) (tableRefusal s t)
 select-room : (s : Shape) (t : List ℕ) (a d : ℕ) → roomRefusal s t a d ≡ 0 → roomRefusal s t a d ≡ 0
 unfolding roomRefusal
 select-room s t a d e = e
-
--- the routes that were chosen, every two parallel
-pub chosen-settled : {s : Shape} {t : List ℕ} {a d : ℕ} {r : Selection} → Ends s a d → (c : Chosen s t a d r) → Settled s t a d 0 (c .routes)
-chosen-settled {s} {t} {a} {d} ends c = slots-settled t ends (suc (s .k)) (settled-none s t a d) (c .slots)
 
 -- ---- what is written
 
@@ -82,9 +76,9 @@ pub record Gives (s : Shape) (t : List ℕ) (a d : ℕ) (r : Selection) : Type 0
   pub some : 1 ≤ length routes
   pub settled : Settled s t a d 0 routes
   pub written : r .routes ≡ setOf (map (encode s) routes)
-  pub slots : Selects s t a d (suc (s .k)) [] routes
+  pub slots : SlotBySlot s t a d (suc (s .k)) [] routes
 
-given-by : {s : Shape} {t : List ℕ} {a d : ℕ} {r : Selection} (routes : List (List ℕ)) → Selects s t a d (suc (s .k)) [] routes → r ≡ selection s routes → Settled s t a d 0 routes → r .refusal .number ≡ 0 → Gives s t a d r
+given-by : {s : Shape} {t : List ℕ} {a d : ℕ} {r : Selection} (routes : List (List ℕ)) → SlotBySlot s t a d (suc (s .k)) [] routes → r ≡ selection s routes → Settled s t a d 0 routes → r .refusal .number ≡ 0 → Gives s t a d r
 given-by [] c e h n = let z : _≡_ {A = ℕ} 16 0 = sym (ap (λ (x : Selection). x .refusal .number) e) ∙ n in let w : ⊥ = omega arith in absurd w
 given-by (vs ∷ vss) c e h n =
     record { routes = vs ∷ vss; some = suc-le-suc zero-le; settled = h; written = ap (λ (x : Selection). x .routes) e; slots = c }
@@ -100,7 +94,7 @@ pub gives : {s : Shape} {t : List ℕ} {a d : ℕ} {r : Selection} → Selecting
 gives {s} {t} {a} {d} {r} h n =
     let e = no-refusal h n in
     let c = h .given e in
-    given-by (c .routes) (c .slots) (c .answer) (chosen-settled (select-ends s t a d e) c) n
+    given-by (c .routes) (c .slots) (c .answer) (all-settled t (select-ends s t a d e) (c .slots)) n
 
 pub gives-accepted : {s : Shape} {t : List ℕ} {a d : ℕ} {r : Selection} → Gives s t a d r → Accepted s t a d (held (r .routes))
 gives-accepted {s} {t} {a} {d} {r} g =
@@ -108,8 +102,8 @@ gives-accepted {s} {t} {a} {d} {r} g =
       routes = g .routes;
       some = g .some;
       most = omega (arith, g .settled .few);
-      bytes = ap held (g .written) ∙ set-held s (g .routes) (λ i p. g .settled .each i p .route .few);
-      each = g .settled .each;
+      bytes = ap held (g .written) ∙ set-held s (g .routes) (λ i p. g .settled .each (getD (g .routes) i []) (member-at (g .routes) i p) .route .few);
+      each = λ i p. g .settled .each (getD (g .routes) i []) (member-at (g .routes) i p);
       apart = g .settled .apart;
     }
 
@@ -135,7 +129,7 @@ slot-few (kept u) = suc-le-suc zero-le
 slot-few (replaced b r) = suc-le-suc zero-le
 slot-few (nothing b r) = zero-le
 
-pub slots-after : (s : Shape) (t : List ℕ) (a d : ℕ) (m : ℕ) {settled routes : List (List ℕ)} → Selects s t a d m settled routes → After m settled routes
+pub slots-after : (s : Shape) (t : List ℕ) (a d : ℕ) (m : ℕ) {settled routes : List (List ℕ)} → SlotBySlot s t a d m settled routes → After m settled routes
 slots-after s t a d zero {settled} e = record { rest = []; whole = sym e ∙ sym (append-nil settled); few = zero-le }
 slots-after s t a d (suc i) {settled} c =
     let h = slots-after s t a d i (c .2) in
@@ -155,7 +149,7 @@ pub record At (s : Shape) (t : List ℕ) (a d m i : ℕ) (settled routes : List 
   pub few-higher : length higher + suc i ≤ m
   pub few-lower : length lowers ≤ i
 
-pub slots-at : (s : Shape) (t : List ℕ) (a d : ℕ) (m : ℕ) {settled routes : List (List ℕ)} (i : ℕ) → i < m → Selects s t a d m settled routes → At s t a d m i settled routes
+pub slots-at : (s : Shape) (t : List ℕ) (a d : ℕ) (m : ℕ) {settled routes : List (List ℕ)} (i : ℕ) → i < m → SlotBySlot s t a d m settled routes → At s t a d m i settled routes
 slots-at s t a d zero i p c = let z : ⊥ = omega arith in absurd z
 slots-at s t a d (suc m) {settled} {routes} i p c =
     elim (ℕ-discrete i m) [
@@ -188,17 +182,12 @@ slots-at s t a d (suc m) {settled} {routes} i p c =
           few-lower = omega (arith, h .few);
         }
 
--- slot 0 avoids nothing where nothing is settled
-none-avoided : (s : Shape) (a d : ℕ) (vs : List ℕ) → Avoids s (avoided s a d 0 []) vs
-unfolding avoided
-none-avoided s a d vs = record { each = λ i p. absurd (let z : ⊥ = omega arith in z) }
-
 -- where no route comes out, slot 0 found nothing
 first-none : (s : Shape) (t : List ℕ) (a d : ℕ) → At s t a d (suc (s .k)) 0 [] [] → (vs : List ℕ) → RouteTo s t a d vs → ⊥
 first-none s t a d h = go (h .higher) (h .given) (h .lowers) (h .slot) (h .whole)
   where
     go : (higher given lowers : List (List ℕ)) → Slot s t a d 0 ([] ++ higher) given → [] ≡ [] ++ higher ++ given ++ lowers → (vs : List ℕ) → RouteTo s t a d vs → ⊥
-    go [] [] lowers (nothing b r) e vs v = r vs v (none-avoided s a d vs)
+    go [] [] lowers (nothing b r) e vs v = r vs v (none-avoided s t a d vs)
     go [] (x ∷ given) lowers h e vs v = let z : ⊥ = omega (arith, ap length e) in absurd z
     go (x ∷ higher) given lowers h e vs v = let z : ⊥ = omega (arith, ap length e) in absurd z
 
@@ -248,88 +237,31 @@ none-sixteen s [] e = refl
 none-sixteen s (vs ∷ vss) e = let z : ⊥ = omega arith in absurd z
 
 -- where nothing else is refused: 16 exactly when no route at all, of eight hops or fewer, crosses only live links
-pub sixteen-exactly : (s : Shape) (t : List ℕ) (a d : ℕ) (r : Selection) → roomRefusal s t a d ≡ 0 → Selecting s t a d r → (r .refusal .number ≡ 16) ↔ ((vs : List ℕ) → RouteTo s t a d vs → ⊥)
-sixteen-exactly s t a d r e h = (there, back (c .routes) (c .answer) (chosen-settled (select-ends s t a d e) c))
+pub none-selected-exactly : (s : Shape) (t : List ℕ) (a d : ℕ) (r : Selection) → roomRefusal s t a d ≡ 0 → Selecting s t a d r → (r .refusal .number ≡ 16) ↔ ((vs : List ℕ) → RouteTo s t a d vs → ⊥)
+none-selected-exactly s t a d r e h = (there, back (c .routes) (c .answer) (all-settled t (select-ends s t a d e) (c .slots)))
   where
-    c : Chosen s t a d r
+    c : GivesRoutes s t a d r
     c = h .given e
 
     there : r .refusal .number ≡ 16 → (vs : List ℕ) → RouteTo s t a d vs → ⊥
     there n =
         let q : c .routes ≡ [] = none-sixteen s (c .routes) (sym (ap (λ (x : Selection). x .refusal .number) (c .answer)) ∙ n) in
-        first-none s t a d (slots-at s t a d (suc (s .k)) 0 (suc-le-suc zero-le) (subst (Selects s t a d (suc (s .k)) []) q (c .slots)))
+        first-none s t a d (slots-at s t a d (suc (s .k)) 0 (suc-le-suc zero-le) (subst (SlotBySlot s t a d (suc (s .k)) []) q (c .slots)))
 
     back : (routes : List (List ℕ)) → r ≡ selection s routes → Settled s t a d 0 routes → ((vs : List ℕ) → RouteTo s t a d vs → ⊥) → r .refusal .number ≡ 16
     back [] q k f = ap (λ (x : Selection). x .refusal .number) q
-    back (vs ∷ vss) q k f = absurd (f vs (k .each 0 (suc-le-suc zero-le)))
+    back (vs ∷ vss) q k f = absurd (f vs (k .each vs (List·Memᴰ·head refl)))
 
--- ---- a built route without a failed link stays in its slot
+-- ---- a slot whose built route has no failed link gives that
 
 unbroken-kept : {s : Shape} {t : List ℕ} {a d i : ℕ} {settled given : List (List ℕ)} → Unbroken s t (builtRoute s i a d) → Slot s t a d i settled given → given ≡ builtRoute s i a d ∷ []
 unbroken-kept u (kept v) = refl
 unbroken-kept u (replaced b r) = absurd (b u)
 unbroken-kept u (nothing b r) = absurd (b u)
 
--- it stands among the routes chosen, after those of higher slots alone and before those of lower slots alone
-pub record Stays (s : Shape) (a d i : ℕ) (routes : List (List ℕ)) : Type 0 where
-  pub higher : List (List ℕ)
-  pub lowers : List (List ℕ)
-  pub whole : routes ≡ higher ++ (builtRoute s i a d ∷ lowers)
-  pub few-higher : length higher + i ≤ s .k
-  pub few-lower : length lowers ≤ i
-
-pub built-stays : (s : Shape) (t : List ℕ) (a d : ℕ) (routes : List (List ℕ)) → Selects s t a d (suc (s .k)) [] routes → (i : ℕ) → i ≤ s .k → Unbroken s t (builtRoute s i a d) → Stays s a d i routes
-built-stays s t a d routes c i p u =
-    let h = slots-at s t a d (suc (s .k)) i (suc-le-suc p) c in
-    record {
-      higher = h .higher;
-      lowers = h .lowers;
-      whole = h .whole ∙ ap (λ (x : List (List ℕ)). h .higher ++ x ++ h .lowers) (unbroken-kept u (h .slot)) ∙ append-snoc (h .higher) (builtRoute s i a d) (h .lowers);
-      few-higher = omega (arith, h .few-higher);
-      few-lower = h .few-lower;
-    }
-
--- where its array stands in the answer: at most as many routes before it as there are higher slots, and after it as lower slots
-pub record KeptAt (s : Shape) (a d i : ℕ) (r : Selection) : Type 0 where
-  pub place : ℕ
-  pub inside : place < r .routes .count
-  pub few-higher : place + i ≤ s .k
-  pub few-lower : r .routes .count ≤ place + suc i
-  pub there : arrayAt place (r .routes) ≡ builtBytes s i a d
-
-pub built-kept : (s : Shape) (t : List ℕ) (a d : ℕ) (r : Selection) → roomRefusal s t a d ≡ 0 → Selecting s t a d r → (i : ℕ) → i ≤ s .k → Unbroken s t (builtRoute s i a d) → (r .refusal ≡ none) × KeptAt s a d i r
-built-kept s t a d r e h i p u = go (c .routes) (c .answer) (built-stays s t a d (c .routes) (c .slots) i p u) (chosen-settled ends c)
-  where
-    c : Chosen s t a d r
-    c = h .given e
-
-    ends : Ends s a d
-    ends = select-ends s t a d e
-
-    go : (routes : List (List ℕ)) → r ≡ selection s routes → Stays s a d i routes → Settled s t a d 0 routes → (r .refusal ≡ none) × KeptAt s a d i r
-    go [] q k f = let z : ⊥ = omega (arith, length-append (k .higher) (builtRoute s i a d ∷ k .lowers), ap length (k .whole)) in absurd z
-    go (vs ∷ vss) q k f =
-        let w : r .routes ≡ setOf (map (encode s) (vs ∷ vss)) = ap (λ (x : Selection). x .routes) q in
-        let n : r .routes .count ≡ length (vs ∷ vss) = ap (λ (x : RouteSet). x .count) w ∙ set-count s (vs ∷ vss) in
-        let m = length-append (k .higher) (builtRoute s i a d ∷ k .lowers) in
-        let l = ap length (k .whole) in (
-          ap (λ (x : Selection). x .refusal) q,
-          record {
-            place = length (k .higher);
-            inside = omega arith;
-            few-higher = k .few-higher;
-            few-lower = omega (arith, k .few-lower);
-            there =
-                ap (arrayAt (length (k .higher))) w
-                ∙ route-array s (vs ∷ vss) (λ j y. f .each j y .route .few) (length (k .higher)) (omega arith)
-                ∙ ap (encode s) (ap (λ (x : List (List ℕ)). getD x (length (k .higher)) []) (k .whole) ∙ getD-append-seam (k .higher) (builtRoute s i a d) (k .lowers) [])
-                ∙ built-encode s a d (ends .source) (ends .destination) (ends .differ) i p;
-          },
-        )
-
 -- ---- with no built route broken, selection answers what building answers
 
-all-unbroken : (s : Shape) (t : List ℕ) (a d : ℕ) (m : ℕ) (settled routes : List (List ℕ)) → ((i : ℕ) → i < m → Unbroken s t (builtRoute s i a d)) → Selects s t a d m settled routes → routes ≡ settled ++ lower s a d m
+all-unbroken : (s : Shape) (t : List ℕ) (a d : ℕ) (m : ℕ) (settled routes : List (List ℕ)) → ((i : ℕ) → i < m → Unbroken s t (builtRoute s i a d)) → SlotBySlot s t a d m settled routes → routes ≡ settled ++ lower s a d m
 all-unbroken s t a d zero settled routes u e = sym e ∙ sym (append-nil settled)
 all-unbroken s t a d (suc i) settled routes u c =
     all-unbroken s t a d i (settled ++ c .0) routes (λ j p. u j (omega arith)) (c .2)

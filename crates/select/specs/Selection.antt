@@ -11,9 +11,10 @@ use Rattle.links.specs.Table.{live, roomRefusal}
 use Rattle.path.specs.Routes.{levelTo, encode, RouteTo}
 use Rattle.build.specs.Built.{builtRoute}
 use Rattle.build.specs.Sets.{emptySet, setOf}
+use Rattle.laying.specs.Avoids.{Avoids}
 use Rattle.finder.specs.Alternates.{Before}
 use Rattle.select.specs.declared.Selection.{Selection}
-use Rattle.select.specs.Avoided.{avoided, Avoids}
+use Rattle.select.specs.Avoided.{avoided}
 
 -- a route without a failed link: each hop is live
 pub record Unbroken (s : Shape) (t vs : List ℕ) : Type 0 where
@@ -28,14 +29,14 @@ pub record Replaces (s : Shape) (t : List ℕ) (a d : ℕ) (routes : List (List 
 -- what slot i gives after the routes settled so far: its built route where that has no failed link; else the alternate; else nothing
 pub data Slot (s : Shape) (t : List ℕ) (a d i : ℕ) (settled : List (List ℕ)) : List (List ℕ) → Type 0 where
   kept : Unbroken s t (builtRoute s i a d) → Slot s t a d i settled (builtRoute s i a d ∷ [])
-  replaced : {vs : List ℕ} → (Unbroken s t (builtRoute s i a d) → ⊥) → Replaces s t a d (avoided s a d i settled) vs → Slot s t a d i settled (vs ∷ [])
-  nothing : (Unbroken s t (builtRoute s i a d) → ⊥) → ((vs : List ℕ) → RouteTo s t a d vs → Avoids s (avoided s a d i settled) vs → ⊥) → Slot s t a d i settled []
+  replaced : {vs : List ℕ} → (Unbroken s t (builtRoute s i a d) → ⊥) → Replaces s t a d (avoided s t a d i settled) vs → Slot s t a d i settled (vs ∷ [])
+  nothing : (Unbroken s t (builtRoute s i a d) → ⊥) → ((vs : List ℕ) → RouteTo s t a d vs → Avoids s (avoided s t a d i settled) vs → ⊥) → Slot s t a d i settled []
 
--- what slots m-1, .. , 0 come to after the routes settled so far
-abbrev pub Selects : Shape → List ℕ → ℕ → ℕ → ℕ → List (List ℕ) → List (List ℕ) → Type 0
-Selects s t a d zero settled routes = settled ≡ routes
-Selects s t a d (suc i) settled routes =
-    (given : List (List ℕ)) × Slot s t a d i settled given × Selects s t a d i (settled ++ given) routes
+-- what slots m-1, .. , 0, one after another, come to after the routes settled so far
+abbrev pub SlotBySlot : Shape → List ℕ → ℕ → ℕ → ℕ → List (List ℕ) → List (List ℕ) → Type 0
+SlotBySlot s t a d zero settled routes = settled ≡ routes
+SlotBySlot s t a d (suc i) settled routes =
+    (given : List (List ℕ)) × Slot s t a d i settled given × SlotBySlot s t a d i (settled ++ given) routes
 
 abbrev pub noSelection : ℕ → Selection
 noSelection r = record { refusal = plain r; routes = emptySet }
@@ -46,12 +47,12 @@ selection s [] = noSelection 16
 selection s (vs ∷ vss) = record { refusal = none; routes = setOf (map (encode s) (vs ∷ vss)) }
 
 -- the routes of slots k down to 0, and the answer that gives them
-pub record Chosen (s : Shape) (t : List ℕ) (a d : ℕ) (r : Selection) : Type 0 where
+pub record GivesRoutes (s : Shape) (t : List ℕ) (a d : ℕ) (r : Selection) : Type 0 where
   pub routes : List (List ℕ)
-  pub slots : Selects s t a d (suc (s .k)) [] routes
+  pub slots : SlotBySlot s t a d (suc (s .k)) [] routes
   pub answer : r ≡ selection s routes
 
 -- what selection answers
 pub record Selecting (s : Shape) (t : List ℕ) (a d : ℕ) (r : Selection) : Type 0 where
   pub refused : roomRefusal s t a d ≢ 0 → r ≡ noSelection (roomRefusal s t a d)
-  pub given : roomRefusal s t a d ≡ 0 → Chosen s t a d r
+  pub given : roomRefusal s t a d ≡ 0 → GivesRoutes s t a d r

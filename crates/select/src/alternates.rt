@@ -1,12 +1,13 @@
 // The alternate for a slot: the search over a copy of the table into which is laid what the slot
 // avoids.
 ghost use mathlib.Core.Path.{_≡_};
-ghost use mathlib.Core.List.{List};
-ghost use Prim.Native.Nat.{ℕ, suc};
+ghost use Prim.Native.Nat.{suc};
 ghost use lib.ListN.{length};
+ghost use Rattle.build.specs.Built.{builtArrays};
+ghost use Rattle.build.specs.Sets.{setOf};
 ghost use Rattle.select.specs.Avoided.{avoided};
-ghost use Rattle.select.specs.Inside.{Stands, Slotted, Around};
-use crate::laying::lay_arrays;
+ghost use Rattle.select.specs.Inside.{SoFar, Around};
+use crate::arrays::lay_arrays;
 use build::RouteSet;
 use finder::Found;
 use room::Shape;
@@ -25,7 +26,7 @@ fn copy_in(copy: &mut [u8], table: &[u8])
 
 // The alternate for a slot, searched in a lent copy of the table: around the settled routes, then
 // around the built routes of the lower slots, which stand behind the slot's own.
-fn find_around(
+fn find_in_copy(
     shape: Shape,
     table: &[u8],
     copy: &mut [u8],
@@ -35,8 +36,8 @@ fn find_around(
     settled: RouteSet,
     slot: usize,
 ) -> Found
-    requires { ⌜ Slotted shape (now table) source destination slot built settled × (length (now copy) ≡ length (now table)) ⌝ }
-    ensures { λ r. ⌜ ((routes : List (List ℕ)) → Stands shape (now (table .entry)) source destination (suc slot) settled routes → Around shape (now (table .entry)) source destination (avoided shape source destination slot routes) r) ⌝ }
+    requires { ⌜ (built ≡ setOf (builtArrays shape source destination)) × SoFar shape (now table) source destination (suc slot) settled × (length (now copy) ≡ length (now table)) ⌝ }
+    ensures { λ r. ⌜ ((p : SoFar shape (now (table .entry)) source destination (suc slot) settled) → Around shape (now (table .entry)) source destination (avoided shape (now (table .entry)) source destination slot (p .routes)) r) ⌝ }
 {
     copy_in(&mut *copy, table);
     lay_arrays(
@@ -71,12 +72,12 @@ pub(crate) fn alternate(
     settled: RouteSet,
     slot: usize,
 ) -> Found
-    requires { ⌜ Slotted shape (now table) source destination slot built settled ⌝ }
-    ensures { λ r. ⌜ ((routes : List (List ℕ)) → Stands shape (now (table .entry)) source destination (suc slot) settled routes → Around shape (now (table .entry)) source destination (avoided shape source destination slot routes) r) ⌝ }
+    requires { ⌜ (built ≡ setOf (builtArrays shape source destination)) × SoFar shape (now table) source destination (suc slot) settled ⌝ }
+    ensures { λ r. ⌜ ((p : SoFar shape (now (table .entry)) source destination (suc slot) settled) → Around shape (now (table .entry)) source destination (avoided shape (now (table .entry)) source destination slot (p .routes)) r) ⌝ }
 {
     let mut copy = [0u8; 4096];
     let servers = table.len();
-    find_around(
+    find_in_copy(
         shape,
         table,
         &mut copy[..servers],

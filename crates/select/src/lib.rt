@@ -3,10 +3,8 @@ use build::RouteSet;
 use refusals::Refusal;
 // alternates.rt: the alternate for a slot
 mod alternates;
-// laying.rt: the arrays of a route set, laid into a copy of the failed-link table
-mod laying;
-// marks.rt: links marked in a copy of the failed-link table
-mod marks;
+// arrays.rt: the arrays of a route set, and their routes laid into a copy of the failed-link table
+mod arrays;
 // selecting.rt: selection
 mod selecting;
 // slots.rt: the slots, one after another

@@ -1,13 +1,12 @@
 // The slots, one after another: a built route kept, an alternate, or nothing.
 ghost use mathlib.Core.Path.{_≡_};
-ghost use mathlib.Core.List.{List};
-ghost use Prim.Native.Nat.{ℕ, suc};
+ghost use Prim.Native.Nat.{suc};
 ghost use Rattle.links.specs.Table.{roomRefusal};
 ghost use Rattle.build.specs.Built.{builtArrays};
 ghost use Rattle.build.specs.Sets.{setOf};
-ghost use Rattle.select.specs.Inside.{Stands, Slotted, SlotDone, SlotsDone};
+ghost use Rattle.select.specs.Inside.{SoFar};
 use crate::alternates::alternate;
-use crate::laying::array_at;
+use crate::arrays::array_at;
 use build::RouteSet;
 use room::Shape;
 
@@ -21,8 +20,8 @@ fn settle_slot(
     settled: RouteSet,
     slot: usize,
 ) -> RouteSet
-    requires { ⌜ Slotted shape (now table) source destination slot built settled ⌝ }
-    ensures { λ r. ⌜ ((routes : List (List ℕ)) → Stands shape (now (table .entry)) source destination (suc slot) settled routes → SlotDone shape (now (table .entry)) source destination slot routes r) ⌝ }
+    requires { ⌜ (built ≡ setOf (builtArrays shape source destination)) × SoFar shape (now table) source destination (suc slot) settled ⌝ }
+    ensures { λ r. ⌜ SoFar shape (now (table .entry)) source destination slot r ⌝ }
 {
     let array = array_at(built, shape.k - slot);
     let walked = path::walk(shape, table, source, destination, &array);
@@ -45,8 +44,8 @@ pub(crate) fn settle_slots(
     destination: usize,
     built: RouteSet,
 ) -> RouteSet
-    requires { ⌜ (roomRefusal shape (now table) source destination ≡ 0) × (built ≡ setOf (builtArrays shape source destination)) ⌝ }
-    ensures { λ r. ⌜ SlotsDone shape (now (table .entry)) source destination r ⌝ }
+    requires { ⌜ (built ≡ setOf (builtArrays shape source destination)) × (roomRefusal shape (now table) source destination ≡ 0) ⌝ }
+    ensures { λ r. ⌜ SoFar shape (now (table .entry)) source destination 0 r ⌝ }
 {
     let mut settled = RouteSet::new();
     let mut left = shape.k + 1;

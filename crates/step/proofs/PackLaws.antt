@@ -22,12 +22,8 @@ use Rattle.path.specs.Walks.{hopTo, hopRefusal}
 use Rattle.path.proofs.HopLaws.{hop-server}
 use Rattle.step.specs.declared.Step.{Step}
 use Rattle.step.specs.Steps.{entry, macAt, portAt, flagAt, givenRefusal, byteRefusal, awayRefusal, stepRefusal, atHop, placed, stopped, noStep, delivery, forwarded, stepAnswer, nextAnswer}
-use Rattle.step.specs.Packed.{flagOf, packed, bytesNumber, macNumber, unpacked}
+use Rattle.step.specs.Packed.{flagOf, packed, bytesNumber, macNumber, unpacked, Bytes}
 use Rattle.step.proofs.StepLaws.{chain-plain, given-plain, placed-plain, placed-number, goes-of, step-refused, step-here, step-facts, step-goes, step-next}
-
--- a list of bytes
-pub record Bytes (xs : List ℕ) : Type 0 where
-  pub at : (j : ℕ) → getD xs j 0 < 256
 
 -- ---- how large a step's numbers are
 

@@ -1,8 +1,9 @@
 -- The step as a driver in C sees it: one number that holds all but the MAC, and the MAC as one number.
-use Prim.Native.Nat.{ℕ, _+_, _*_, _/_, _%_}
+use Prim.Native.Nat.{ℕ, _+_, _*_, _/_, _%_, _<_}
 use mathlib.Core.List.{List, [], _∷_}
 use mathlib.Core.Bool.{Bool, cond}
 use lib.Dec.{eqb}
+use lib.ListN.{getD}
 use Rattle.step.specs.declared.Step.{Step}
 
 abbrev pub flagOf : Bool → ℕ
@@ -32,3 +33,7 @@ unpacked p m =
       mac = m / 1099511627776 % 256 ∷ m / 4294967296 % 256 ∷ m / 16777216 % 256 ∷ m / 65536 % 256 ∷ m / 256 % 256 ∷ m % 256 ∷ [];
       port = p / 281474976710656 % 256;
     }
+
+-- a list of bytes
+pub record Bytes (xs : List ℕ) : Type 0 where
+  pub at : (j : ℕ) → getD xs j 0 < 256

@@ -34,7 +34,7 @@ abbrev μ-scan : tie.MeasureT-scan
 
 -- how the scan ends
 ended : (c : tie.Left-scan Inv-loop2 μ-loop2 Inv-loop μ-loop Inv-scan μ-scan)
-    → Ended (c .before .before .before .before .before .before .before .args .shape) (now (c .before .before .before .before .before .before .before .args .table)) (c .before .before .before .before .before .before .before .args .source) (c .scan-test .back) (c .scan-test .queue) (c .scan-test .tail) (c .before .before .before .before .before .before .before .args .destination)
+    → (let a = c .before .before .before .before .before .before .before .args in let z = c .scan-test in Ended (a .shape) (now (a .table)) (a .source) (z .back) (z .queue) (z .tail) (a .destination))
 ended c =
     ⊎-elim
     (λ w. rw (w .1, w .2, w .3) (ended-all (c .before .scan .inv) (omega arith)))
@@ -51,29 +51,37 @@ search-spec =
     μ-loop
     Inv-scan
     μ-scan
+    -- begin-requires, weights-requires, scan-holds: the tables with the source alone in them
     (λ c κs. let r = ready _ _ _ _ (c .before .before .before .pre) in (omega (arith, r .source .below, r .source .valid .small), blank 4096 refl, refl))
     (λ c κs. ready _ _ _ _ (c .before .before .before .before .pre) .source .valid .ports)
-    (λ c. scan-starts _ _ _ _ (c .before .before .before .before .before .pre) _ _ (c .before .begin .ensures) 16384 refl)
+    (λ c. search scan-starts)
+    -- mul-here, array-read-here, cast-here: the next server of the queue
     (λ c. omega arith)
     (λ c. omega arith)
     (λ c. omega (arith, here-small (c .before .scan .inv) (c .scan-test .taken)))
+    -- add-level, loop-holds, sub-level: its levels
     (λ c. omega arith)
-    (λ c. levels-start (c .before .before .scan .inv) (c .before .scan-test .taken))
+    (λ c. search levels-start)
+    (λ c. omega arith)
+    -- mul-side-of, array-read-side-of, side-of-requires, loop2-holds: the servers at its switch of a level
     (λ c. omega arith)
     (λ c. omega arith)
+    (λ c κs. let ws = c .before .before .before .before .before .before .weights in side-needs (c .before .before .loop .inv) (c .before .loop-test .taken) (ws .result) (ws .ensures))
+    (λ c. search values-start)
+    -- loop-less, loop-again: the level is done
     (λ c. omega arith)
-    (λ c κs. side-needs (c .before .before .loop .inv) (c .before .loop-test .taken) (c .before .before .before .before .before .before .weights .result) (c .before .before .before .before .before .before .weights .ensures))
-    (λ c. values-start (c .before .before .before .loop .inv) (c .before .before .loop-test .taken) (c .side-of .result) (c .side-of .ensures))
-    (λ c. omega arith)
-    (λ c. level-ends (c .before .loop2 .inv) (c .loop2-test .left))
+    (λ c. search level-ends)
+    -- mul-marks, add-marks, array-write-marks, mul-if1, array-read-if1: one server at the switch
     (λ c. let h = near (c .before .loop2 .inv) (c .loop2-test .taken) in omega (arith, h .0, h .2))
     (λ c. let h = near (c .before .loop2 .inv) (c .loop2-test .taken) in omega (arith, h .0, h .2))
     (λ c. let h = near (c .before .loop2 .inv) (c .loop2-test .taken) in omega (arith, h .3))
     (λ c. let h = near (c .before .loop2 .inv) (c .loop2-test .taken) in omega (arith, h .2))
     (λ c. let h = near (c .before .loop2 .inv) (c .loop2-test .taken) in omega (arith, h .2))
+    -- visit-requires, mul-if2, array-read-if2: where it is not found yet
     (λ c κs. to-try (c .before .before .before .before .loop2 .inv) (c .before .before .before .loop2-test .taken) (c .before .before .if1 .taken))
     (λ c. omega arith)
     (λ c. omega arith)
+    -- add-w, add-v, loop2-less, loop2-again: the next one
     (λ c. let h = near (c .before .before .before .loop2 .inv) (c .before .before .loop2-test .taken) in omega (arith, h .2, h .4))
     (λ c. omega arith)
     (λ c. omega arith)
@@ -82,12 +90,15 @@ search-spec =
     (λ w. rw (w .5, w .6, w .7) (value-tried (c .before .before .before .loop2 .inv) (c .before .before .loop2-test .taken) (w .3 .ensures)))
     (λ w. rw (w .1, w .2, w .3) (value-seen (c .before .before .before .loop2 .inv) (c .before .before .loop2-test .taken) (w .0 .left)))
     (c .before .if1 .came))
+    -- add-head, scan-less, scan-again: the next server of the queue
     (λ c. omega arith)
     (λ c. omega arith)
     (λ c. levels-end (c .before .loop .inv) (omega arith))
+    -- mul-if3, array-read-if3, no-route-requires, returns: the destination is not found
     (λ c. omega arith)
     (λ c. omega arith)
     (λ c κs. search needs)
-    (λ c. none-found (c .before .before .before .before .before .before .before .before .before .pre) (ended (c .before .before)) (c .before .if3 .taken) _ (c .no-route .ensures))
-    (λ c κs. reached (c .before .before .before .before .before .before .before .before .before .before .pre) (ended (c .before .before .before)) (c .before .before .if3 .left))
-    (λ c. found-answer (c .before .before .before .before .before .before .before .before .before .before .before .pre) (ended (c .before .before .before .before)) (c .before .before .before .if3 .left) (c .retrace .result) (c .retrace .ensures .0) (c .retrace .ensures .1)))
+    (λ c. let e = ended (c .before .before) in search none-found)
+    -- retrace-requires, returns-2: it is found
+    (λ c κs. let e = ended (c .before .before .before) in search reached)
+    (λ c. let e = ended (c .before .before .before .before) in search found-answer))

@@ -9,7 +9,9 @@ pub visit-spec : {M : Type 1} → statement M
 visit-spec =
     tie.close
     (tie.spec
+    -- is-live-requires
     (λ c κs. search needs)
+    -- mul-back, sub-back, mul-back-2, add-back, add-back-2, cast-back, mul-back-3, element-write-back: the key
     (λ c. search needs)
     (λ c. search needs)
     (λ c. search needs)
@@ -18,9 +20,11 @@ visit-spec =
     (λ c. search needs)
     (λ c. search needs)
     (λ c. search needs)
+    -- cast-queue, mul-queue, element-write-queue, add-result: the queue has room
     (λ c. search needs)
     (λ c. search needs)
-    (λ c. vacant (c .before .before .before .before .pre .kept) (c .before .before .before .before .args .w) (c .before .before .before .before .pre .inside) (c .before .before .before .before .pre .new))
+    (λ c. search vacant)
     (λ c. search needs)
-    (λ c. tried-new (c .before .before .before .before .pre) (c .before .before .is-live .result) (c .before .before .is-live .ensures) (c .before .if1 .taken))
-    (λ c. tried-shut (c .before .before .before .pre) (c .before .is-live .result) (c .before .is-live .ensures) (c .if1 .left)))
+    -- returns: one server more; returns-2: the link is failed
+    (λ c. search tried-new)
+    (λ c. search tried-shut))

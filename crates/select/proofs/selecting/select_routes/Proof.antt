@@ -9,12 +9,16 @@ pub select-routes-spec : {M : Type 1} → statement M
 select-routes-spec =
     tie.close
     (tie.spec
+    -- select-refusal-requires, no-selection-requires, returns: 1 to 6
     (λ c κs. search needs)
     (λ c κs. search needs)
-    (λ c. selecting-refused _ (c .before .before .room-refusal .ensures) (c .before .if1 .taken) _ (c .no-selection .ensures))
+    (λ c. search selecting-refused)
+    -- build-routes-requires, settle-slots-requires
     (λ c κs. search needs)
-    (λ c κs. (sym (c .before .before .before .room-refusal .ensures) ∙ c .before .before .if1 .left, built-answered _ _ _ _ _ _ (c .before .before .before .room-refusal .ensures) (c .before .before .if1 .left) (c .before .build-routes .ensures)))
+    (λ c κs. (search built-answered, sym (c .before .before .before .room-refusal .ensures) ∙ c .before .before .if1 .left))
+    -- no-selection-requires-2, returns-2: 16
     (λ c κs. search needs)
-    (λ c. selecting-none _ (c .before .before .before .before .before .before .before .room-refusal .ensures) (c .before .before .before .before .before .before .if1 .left) _ (c .before .before .before .settle-slots .ensures) (c .before .if2 .taken) _ (c .no-selection2 .ensures))
+    (λ c. search selecting-none)
+    -- none-requires, returns-3
     (λ c κs. search needs)
-    (λ c. selecting-given _ (c .before .before .before .before .before .before .before .room-refusal .ensures) (c .before .before .before .before .before .before .if1 .left) _ (c .before .before .before .settle-slots .ensures) (c .before .if2 .left) _ (c .none .ensures)))
+    (λ c. search selecting-given))

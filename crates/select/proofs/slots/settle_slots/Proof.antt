@@ -1,13 +1,14 @@
 -- `select::slots::settle_slots` meets its contract. Assumes nothing.
 use borrow.Author.Needs.{needs}
 use native.Mathlib.Omega.{arith}
-use Rattle.select.proofs.SlotCode.{GoingOn, going-start, going-slotted, going-more, going-done}
+use Rattle.select.specs.Inside.{SoFar}
 use Rattle.select.proofs.SelectLaws.{select-ends}
+use Rattle.select.proofs.SlotCode.{so-starts, so-at, so-ends-at}
 use Rattle.select.proofs.slots.settle_slots.Statement.{statement}
 use Rattle.select.proofs.slots.settle_slots.Tie as tie
 
 abbrev Inv-loop : tie.InvT-loop
-Inv-loop shape table source destination built settled₀ left₀ settled left = GoingOn shape table source destination left settled
+Inv-loop shape table source destination built settled₀ left₀ settled left = SoFar shape table source destination left settled
 
 abbrev μ-loop : tie.MeasureT-loop
 μ-loop shape table source destination built settled₀ left₀ settled left = left
@@ -18,11 +19,14 @@ settle-slots-spec =
     (tie.spec
     Inv-loop
     μ-loop
+    -- new-requires, add-left, loop-holds
     (λ c κs. search needs)
-    (λ c. let h = select-ends _ _ _ _ (c .before .before .before .pre .0) in omega arith)
-    (λ c. going-start _ _ _ _ _ (c .before .new .ensures))
+    (λ c. let h = select-ends _ _ _ _ (c .before .before .before .pre .1) in omega arith)
+    (λ c. search so-starts)
+    -- sub-left, settle-slot-requires, loop-less, loop-again: one slot
     (λ c. omega arith)
-    (λ c κs. going-slotted _ (c .before .before .before .before .before .pre .0) (c .before .before .before .before .before .pre .1) (c .loop-test .taken) (c .before .loop .inv))
+    (λ c κs. (search needs, search so-at))
     (λ c. omega arith)
-    (λ c. going-more (c .before .before .before .before .before .before .pre .0) (c .before .loop-test .taken) (c .before .before .loop .inv) (c .settle-slot .ensures))
-    (λ c. going-done (omega arith) (c .before .loop .inv)))
+    (λ c. c .settle-slot .ensures)
+    -- returns
+    (λ c. so-ends-at (c .before .loop .inv) (omega arith)))

@@ -1,0 +1,112 @@
+-- What the lines of `RefusedExactly` say of some numbers, proved.
+use Prim.Native.Nat.{ℕ, suc, _+_, _≤_, _<_}
+use mathlib.Core.Path.{_≡_, refl, sym, ap, _∙_, subst}
+use mathlib.Core.Logic.{_≢_, _↔_, inl, inr}
+use mathlib.Core.Bool.{true, not}
+use mathlib.Core.List.{List, [], _∷_}
+use native.Mathlib.Omega.{arith}
+use lib.Dec.{eqb}
+use lib.ListN.{length, getD}
+use borrow.Author.Tests.{eqb-false, not-true}
+use Rattle.lists.proofs.ListLaws.{both-held}
+use Rattle.refusals.specs.declared.Refusal.{Refusal}
+use Rattle.refusals.specs.Refusals.{none, plain, refusedAt}
+use Rattle.room.specs.declared.Shape.{Shape}
+use Rattle.room.specs.Shapes.{bound}
+use Rattle.room.specs.Addresses.{digit}
+use Rattle.path.specs.Routes.{levelOf, valueOf}
+use Rattle.path.specs.Walks.{walk}
+use Rattle.path.specs.Answers.{walkAnswer}
+use Rattle.verdict.specs.Checks.{checkAnswer}
+use Rattle.step.specs.Steps.{flagAt, stepAnswer}
+use Rattle.demands.specs.Tests.{Tests, Refused, Hold, Others}
+use Rattle.demands.specs.Refusals.{roomTests, arrayTests, Arrays, readTests, FirstAfterArrival, Stops, hop-fails, never-arrives, goes-on, Reads, checkTests, FirstPair, Checks, givenTests, stepTests, Steps, SpelledOut}
+use Rattle.demands.proofs.Chains.{all, others, chain-means, numbersOf}
+use Rattle.demands.proofs.Places.{check-list}
+use Rattle.demands.proofs.Exactly.{refused-exactly}
+
+-- a refusal with a number that no test has is none of theirs
+other-numbers : (refused : ℕ → Refusal) (A : Tests) (r : Refusal) → ((n : ℕ) → refused n .number ≡ n) → all (λ n. not (eqb n (r .number))) (numbersOf A) ≡ true → Others refused A r
+other-numbers refused [] r f u = tt
+other-numbers refused (t ∷ A) r f u =
+    let w = both-held (not (eqb (t .0) (r .number))) (all (λ n. not (eqb n (r .number))) (numbersOf A)) u in
+    (λ e. eqb-false (t .0) (r .number) (not-true _ (w .0)) (sym (f (t .0)) ∙ ap (λ (x : Refusal). x .number) e), other-numbers refused A r f (w .1))
+
+seven : (s : Shape) (t : List ℕ) (a d : ℕ) (bs : List ℕ) → (checkAnswer s t a d bs ≡ plain 7) ↔ (Hold (roomTests s t a d) × ((Arrays s bs × (1 ≤ length bs)) → ⊥))
+seven s t a d bs =
+    chain-means .number plain (roomTests s t a d) [] 7 (Arrays s bs × (1 ≤ length bs)) (Checks s t a d bs) (checkAnswer s t a d bs) (refused-exactly .check-list s t a d bs)
+    (other-numbers plain (roomTests s t a d) (plain 7) (λ n. refl) refl) tt not-whole
+  where
+    not-whole : Checks s t a d bs (plain 7) → ⊥
+    not-whole (inl h) = let z = ap (λ (r : Refusal). r .number) (h .1) in omega arith
+    not-whole (inr (inl h)) = let z = ap (λ (r : Refusal). r .route) (h .here) in omega arith
+    not-whole (inr (inr h)) = let z = ap (λ (r : Refusal). r .number) (h .here) in omega arith
+
+module _ (s : Shape) (a d i : ℕ) (bs e : List ℕ) where
+  abbrev eightHere : Refusal
+  eightHere = refusedAt 8 1 (i + 1)
+
+  abbrev above : Type 0
+  above = s .k < levelOf (getD bs i 0)
+
+  eight-byte : Refused (λ n. refusedAt n 1 (i + 1)) (stepTests s a e (getD bs i 0)) (λ r. r ≡ none) eightHere → above
+  eight-byte (inl h) =
+      let later : Tests = (9, valueOf (getD bs i 0) < bound s (levelOf (getD bs i 0))) ∷ (10, digit s (levelOf (getD bs i 0)) a ≢ valueOf (getD bs i 0)) ∷ (19, flagAt e (getD bs i 0) ≡ 1) ∷ [] in
+      let w = others (λ n. refusedAt n 1 (i + 1)) (λ r. r ≡ none) later eightHere (other-numbers (λ n. refusedAt n 1 (i + 1)) later eightHere (λ n. refl) refl) (h .1) in
+      let z = ap (λ (r : Refusal). r .number) (w .1) in let n : ⊥ = omega arith in absurd n
+  eight-byte (inr h) = omega (arith, h .0)
+
+  eight-away : Steps s a d i bs e eightHere → (a ≢ d) × (i < 8) × above
+  eight-away (inl h) = let z = ap (λ (r : Refusal). r .number) (h .1) in let n : ⊥ = omega arith in absurd n
+  eight-away (inr h) = go (h .1)
+    where
+      go : Refused plain ((18, i < 8) ∷ []) (Refused (λ n. refusedAt n 1 (i + 1)) (stepTests s a e (getD bs i 0)) (λ r. r ≡ none)) eightHere → (a ≢ d) × (i < 8) × above
+      go (inl k) = (h .0, k .0, eight-byte (k .1))
+      go (inr k) = let z = ap (λ (r : Refusal). r .number) (k .1) in let n : ⊥ = omega arith in absurd n
+
+  eight : (stepAnswer s a d i bs e .refusal ≡ eightHere) ↔ (Hold (givenTests s a d bs e) × (a ≢ d) × (i < 8) × above)
+  eight = (λ q. let w = means .0 q in let v = eight-away (w .1) in (w .0, v .0, v .1, v .2), λ p. means .1 (p .0, inr (p .1, inl (p .2, inr (λ h. omega (arith, p .3), refl)))))
+    where
+      means : (stepAnswer s a d i bs e .refusal ≡ eightHere) ↔ (Hold (givenTests s a d bs e) × Steps s a d i bs e eightHere)
+      means = chain-means .otherwise plain (givenTests s a d bs e) (Steps s a d i bs e) (stepAnswer s a d i bs e .refusal) eightHere (refused-exactly .step-once s a d i bs e) (other-numbers plain (givenTests s a d bs e) eightHere (λ n. refl) refl)
+
+-- a hop fails with one of its tests' numbers
+hop-among : (s : Shape) (t vs : List ℕ) (b : ℕ) (r : Refusal) (h n : ℕ) → Refused (λ x. refusedAt x 1 h) (readTests s t vs b) (λ x. ⊥) r → all (λ x. not (eqb x n)) (8 ∷ 9 ∷ 10 ∷ 11 ∷ 12 ∷ []) ≡ true → r .number ≢ n
+hop-among s t vs b r h n k u e =
+    others (λ x. refusedAt x 1 h) (λ x. ⊥) (readTests s t vs b) r (other-numbers (λ x. refusedAt x 1 h) (readTests s t vs b) r (λ x. refl) (subst (λ (x : ℕ). all (λ y. not (eqb y x)) (8 ∷ 9 ∷ 10 ∷ 11 ∷ 12 ∷ []) ≡ true) (sym e) u)) k .1
+
+-- an array stops with 14 for a byte after its arrival, and never with 15
+stops-fourteen : {s : Shape} {t : List ℕ} {a d : ℕ} {bs : List ℕ} {r : Refusal} (p : ℕ) → Stops s t a d bs r → r ≡ refusedAt 14 1 (suc p) → FirstAfterArrival s t a d bs p
+stops-fourteen {s} {t} p (hop-fails {vs} {b} h k) e =
+    absurd (hop-among s t vs b _ (length vs) 14 k refl (ap (λ (x : Refusal). x .number) e))
+stops-fourteen p (never-arrives h) e = let z = ap (λ (x : Refusal). x .number) e in let n : ⊥ = omega arith in absurd n
+stops-fourteen {s} {t} {a} {d} {bs} p (goes-on {p = q} h) e = let z = ap (λ (x : Refusal). x .hop) e in let y : q ≡ p = omega arith in subst (FirstAfterArrival s t a d bs) y h
+
+stops-fifteen : {s : Shape} {t : List ℕ} {a d : ℕ} {bs : List ℕ} {r : Refusal} → Stops s t a d bs r → r .number ≢ 15
+stops-fifteen {s} {t} (hop-fails {vs} {b} h k) e = hop-among s t vs b _ (length vs) 15 k refl e
+stops-fifteen (never-arrives h) e = omega arith
+stops-fifteen (goes-on h) e = omega arith
+
+fourteen : (s : Shape) (t : List ℕ) (a d : ℕ) (bs : List ℕ) (p : ℕ) → (walkAnswer s t a d bs .refusal ≡ refusedAt 14 1 (suc p)) ↔ (Hold (arrayTests s a d bs) × FirstAfterArrival s t a d bs p)
+fourteen s t a d bs p = (λ q. let w = means .0 q in (w .0, go (w .1)), λ h. means .1 (h .0, inr (goes-on (h .1))))
+  where
+    means : (walkAnswer s t a d bs .refusal ≡ refusedAt 14 1 (suc p)) ↔ (Hold (arrayTests s a d bs) × Reads s t a d bs (refusedAt 14 1 (suc p)))
+    means = chain-means .otherwise plain (arrayTests s a d bs) (Reads s t a d bs) (walkAnswer s t a d bs .refusal) (refusedAt 14 1 (suc p)) (refused-exactly .walk s t a d bs) (other-numbers plain (arrayTests s a d bs) (refusedAt 14 1 (suc p)) (λ n. refl) refl)
+
+    go : Reads s t a d bs (refusedAt 14 1 (suc p)) → FirstAfterArrival s t a d bs p
+    go (inl h) = let z = ap (λ (x : Refusal). x .number) (h .1) in let n : ⊥ = omega arith in absurd n
+    go (inr h) = stops-fourteen p h refl
+
+fifteen : (s : Shape) (t : List ℕ) (a d : ℕ) (bs : List ℕ) (j : ℕ) → (checkAnswer s t a d bs ≡ refusedAt 15 j 0) ↔ (Hold (checkTests s t a d bs) × FirstPair s t a d bs (refusedAt 15 j 0))
+fifteen s t a d bs j = (λ q. let w = means .0 q in (w .0, go (w .1)), λ h. means .1 (h .0, inr (inr (h .1))))
+  where
+    means : (checkAnswer s t a d bs ≡ refusedAt 15 j 0) ↔ (Hold (checkTests s t a d bs) × Checks s t a d bs (refusedAt 15 j 0))
+    means = chain-means .otherwise plain (checkTests s t a d bs) (Checks s t a d bs) (checkAnswer s t a d bs) (refusedAt 15 j 0) (refused-exactly .check-list s t a d bs) (other-numbers plain (checkTests s t a d bs) (refusedAt 15 j 0) (λ n. refl) refl)
+
+    go : Checks s t a d bs (refusedAt 15 j 0) → FirstPair s t a d bs (refusedAt 15 j 0)
+    go (inl h) = let z = ap (λ (x : Refusal). x .number) (h .1) in let n : ⊥ = omega arith in absurd n
+    go (inr (inl h)) = absurd (stops-fifteen (h .stops) (ap (λ (x : Refusal). x .number) (sym (h .here))))
+    go (inr (inr h)) = h
+
+pub spelled-out : SpelledOut
+spelled-out = record { seven = seven; eight = eight; fourteen = fourteen; fifteen = fifteen }

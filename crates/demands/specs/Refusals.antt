@@ -1,0 +1,292 @@
+-- Demand 1: a number only where it applies, and at its place. For each call, exactly which refusal it gives: that of the first test that
+-- fails, in document 01's order. What a chain of tests means is in Tests.
+use Prim.Native.Nat.{ℕ, suc, _+_, _-_, _*_, _/_, _%_, _≤_, _<_}
+use mathlib.Core.Path.{_≡_}
+use mathlib.Core.Logic.{_≢_, _↔_, _⊎_}
+use mathlib.Core.Bool.{false}
+use mathlib.Core.List.{List, [], _∷_, _++_}
+use lib.ListN.{length, getD}
+use Rattle.lists.specs.Lists.{inTurn}
+use Rattle.refusals.specs.declared.Refusal.{Refusal}
+use Rattle.refusals.specs.Refusals.{none, plain, refusedAt}
+use Rattle.room.specs.declared.Shape.{Shape}
+use Rattle.room.specs.Shapes.{serversOf, bound}
+use Rattle.room.specs.Addresses.{digit, Neighbours}
+use Rattle.room.specs.Refusals.{shapeRefusal, serverRefusal, linkRefusal, endsRefusal}
+use Rattle.room.specs.Answers.{serversAnswer, boundAnswer, digitsAnswer, digitAnswer, addressAnswer, switchAnswer, neighbourAnswer, betweenAnswer}
+use Rattle.links.specs.Table.{failed, roomTableRefusal, TableOf}
+use Rattle.links.specs.Answers.{failedAnswer, linkAnswer}
+use Rattle.path.specs.Routes.{byteTo, switchAt, switchTo, switchesOf, Route, Prefix, RouteTo, Parallel, Encodes, levelOf, valueOf}
+use Rattle.path.specs.Walks.{hopTo}
+use Rattle.path.specs.Answers.{hopAnswer, walkAnswer, readAnswer, writeAnswer, reverseAnswer}
+use Rattle.verdict.specs.Checks.{checkAnswer}
+use Rattle.verdict.specs.Accepted.{Accepted}
+use Rattle.build.specs.Answers.{buildAnswer}
+use Rattle.finder.specs.declared.Found.{Found}
+use Rattle.finder.specs.Answers.{Finding}
+use Rattle.select.specs.declared.Selection.{Selection}
+use Rattle.select.specs.Selection.{Selecting}
+use Rattle.pick.specs.Picks.{pickAnswer, arrayAt}
+use Rattle.pick.specs.Places.{placeAnswer}
+use Rattle.step.specs.Steps.{flagAt, stepAnswer}
+use Rattle.demands.specs.Tests.{Tests, _then_, Refused, Number, Whole, Exactly, Hold}
+
+-- ---- shapes, servers, links, values, digits
+
+abbrev pub shapeTests : Shape → Tests
+shapeTests s = (1, (2 ≤ s .n) × (s .n ≤ 64)) ∷ (2, s .k ≤ 3) ∷ (3, serversOf s ≤ 4096) ∷ []
+
+abbrev pub levelTests : Shape → ℕ → Tests
+levelTests s l = shapeTests s then (20, l ≤ s .k)
+
+abbrev pub serverTests : Shape → ℕ → Tests
+serverTests s a = shapeTests s then (4, a < serversOf s)
+
+abbrev pub pairTests : Shape → ℕ → ℕ → Tests
+pairTests s a b = shapeTests s then (4, (a < serversOf s) × (b < serversOf s))
+
+abbrev pub linkTests : Shape → ℕ → ℕ → Tests
+linkTests s a l = serverTests s a then (20, l ≤ s .k)
+
+abbrev pub valueTests : Shape → ℕ → ℕ → ℕ → Tests
+valueTests s a l v = linkTests s a l then (21, v < bound s l)
+
+-- places that write an address: each digit below its bound, zeros above k
+pub record Fits (s : Shape) (ds : List ℕ) : Type 0 where
+  pub digits : (i : ℕ) → i < length ds → i ≤ s .k → getD ds i 0 < bound s i
+  pub above : (i : ℕ) → i < length ds → s .k < i → getD ds i 0 ≡ 0
+
+abbrev pub placesTests : Shape → List ℕ → Tests
+placesTests s ds = shapeTests s then (21, Fits s ds)
+
+-- ---- tables, ends, lists
+
+abbrev pub tableTests : Shape → List ℕ → Tests
+tableTests s t = shapeTests s then (6, TableOf s t)
+
+abbrev pub tableLinkTests : Shape → List ℕ → ℕ → ℕ → Tests
+tableLinkTests s t a l = linkTests s a l then (6, TableOf s t)
+
+-- source and destination
+abbrev pub endsTests : Shape → ℕ → ℕ → Tests
+endsTests s a d = pairTests s a d then (5, a ≢ d)
+
+-- and a table
+abbrev pub roomTests : Shape → List ℕ → ℕ → ℕ → Tests
+roomTests s t a d = endsTests s a d then (6, TableOf s t)
+
+-- and one array
+abbrev pub arrayTests : Shape → ℕ → ℕ → List ℕ → Tests
+arrayTests s a d bs = endsTests s a d then (7, length bs ≡ 8)
+
+-- a list is whole arrays, at most k + 1 of them
+abbrev pub Arrays : Shape → List ℕ → Type 0
+Arrays s bs = (length bs % 8 ≡ 0) × (length bs ≤ 8 * (s .k + 1))
+
+abbrev pub checkTests : Shape → List ℕ → ℕ → ℕ → List ℕ → Tests
+checkTests s t a d bs = roomTests s t a d then (7, Arrays s bs × (1 ≤ length bs))
+
+-- some route of eight hops or fewer crosses only live links
+abbrev pub Joined : Shape → List ℕ → ℕ → ℕ → Type 0
+Joined s t a d = (vs : List ℕ) × RouteTo s t a d vs
+
+abbrev pub selectTests : Shape → List ℕ → ℕ → ℕ → Tests
+selectTests s t a d = roomTests s t a d then (16, Joined s t a d)
+
+-- the array at place i of a list is that of a route from source to destination over live links
+abbrev pub IsRead : Shape → List ℕ → ℕ → ℕ → List ℕ → ℕ → Type 0
+IsRead s t a d bs i = (vs : List ℕ) × Encodes s t a d (arrayAt i bs) vs
+
+-- some array of a list is
+abbrev pub SomeRead : Shape → List ℕ → ℕ → ℕ → List ℕ → Type 0
+SomeRead s t a d bs = (i : ℕ) × (i < length bs / 8) × IsRead s t a d bs i
+
+abbrev pub pickTests : Shape → List ℕ → ℕ → ℕ → List ℕ → List ℕ → Tests
+pickTests s t a d fs ks =
+    roomTests s t a d then (7, Arrays s fs × Arrays s ks) then (16, SomeRead s t a d fs ⊎ SomeRead s t a d ks)
+
+-- ---- one hop
+
+-- x is not in a list
+abbrev pub NotIn : ℕ → List ℕ → Type 0
+NotIn x xs = (i : ℕ) → i < length xs → getD xs i 0 ≢ x
+
+-- the last server of a way
+abbrev pub endOf : List ℕ → ℕ
+endOf vs = getD vs (length vs - 1) 0
+
+-- byte b from server a: its level and its value are the room's, and the value is not a's own
+abbrev pub hopTests : Shape → ℕ → ℕ → Tests
+hopTests s a b = (8, levelOf b ≤ s .k) ∷ (9, valueOf b < bound s (levelOf b)) ∷ (10, digit s (levelOf b) a ≢ valueOf b) ∷ []
+
+-- byte b after the way vs, when an array is read: neither link of the hop is failed; its server is not met yet, nor its switch used
+abbrev pub readTests : Shape → List ℕ → List ℕ → ℕ → Tests
+readTests s t vs b =
+    let a = endOf vs in
+    let next = hopTo s a b in
+    hopTests s a b
+    then (11, (failed t a (levelOf b) ≡ false) × (failed t next (levelOf b) ≡ false))
+    then (12, NotIn next vs × NotIn (switchAt s (levelOf b) a) (switchesOf s vs))
+
+-- server b after the way vs, when servers are written: it differs from the last in exactly one digit
+abbrev pub writeTests : Shape → List ℕ → ℕ → Tests
+writeTests s vs b =
+    let a = endOf vs in
+    (23, (l : ℕ) × Neighbours s l a b) ∷ (12, NotIn b vs × NotIn (switchTo s a b) (switchesOf s vs)) ∷ []
+
+-- ---- reading an array
+
+-- the first bytes of an array are the hops of the way vs, the beginning of a route from a over live links that has not met d; `left` are
+-- the bytes after them
+pub record Along (s : Shape) (t : List ℕ) (a d : ℕ) (bs vs left : List ℕ) : Type 0 where
+  pub way : Prefix s t vs
+  pub source : getD vs 0 0 ≡ a
+  pub away : (i : ℕ) → i < length vs → getD vs i 0 ≢ d
+  pub bytes : bs ≡ inTurn (byteTo s) vs ++ left
+
+-- the first bytes of an array are the hops of a route from a to d; the byte at place p, counted from 0, comes after them and is the first
+-- after them that is not zero
+pub record FirstAfterArrival (s : Shape) (t : List ℕ) (a d : ℕ) (bs : List ℕ) (p : ℕ) : Type 0 where
+  pub servers : List ℕ
+  pub left : List ℕ
+  pub route : RouteTo s t a d servers
+  pub bytes : bs ≡ inTurn (byteTo s) servers ++ left
+  pub arrived : length servers - 1 ≤ p
+  pub zeros : (j : ℕ) → length servers - 1 ≤ j → j < p → getD bs j 0 ≡ 0
+  pub here : getD bs p 0 ≢ 0
+
+-- why and where reading an array stops
+pub data Stops (s : Shape) (t : List ℕ) (a d : ℕ) (bs : List ℕ) : Refusal → Type 0 where
+  -- a test of the next byte fails: the hop is the number of servers met
+  hop-fails : {vs : List ℕ} {b : ℕ} {left : List ℕ} {r : Refusal} → Along s t a d bs vs (b ∷ left) → Refused (λ n. refusedAt n 1 (length vs)) (readTests s t vs b) (λ x. ⊥) r → Stops s t a d bs r
+  -- all eight bytes are hops, and it has not arrived
+  never-arrives : {vs : List ℕ} → Along s t a d bs vs [] → Stops s t a d bs (refusedAt 13 1 8)
+  -- a byte after arrival is not zero: the hop is its place
+  goes-on : {p : ℕ} → FirstAfterArrival s t a d bs p → Stops s t a d bs (refusedAt 14 1 (suc p))
+
+-- an array of eight bytes is that of a route, or it stops
+abbrev pub Reads : Shape → List ℕ → ℕ → ℕ → List ℕ → Refusal → Type 0
+Reads s t a d bs r = (((vs : List ℕ) × Encodes s t a d bs vs) × (r ≡ none)) ⊎ Stops s t a d bs r
+
+-- ---- writing servers
+
+abbrev pub serversTests : Shape → List ℕ → Tests
+serversTests s vs =
+    shapeTests s
+    then (22, (2 ≤ length vs) × (length vs ≤ 9))
+    then (4, (i : ℕ) → i < length vs → getD vs i 0 < serversOf s)
+    then (5, getD vs 0 0 ≢ endOf vs)
+
+-- the first server that is no hop from those before it, which are the beginning of a route: the hop is their number
+pub record WriteStops (s : Shape) (vs : List ℕ) (r : Refusal) : Type 0 where
+  pub before : List ℕ
+  pub next : ℕ
+  pub rest : List ℕ
+  pub servers : vs ≡ before ++ (next ∷ rest)
+  pub way : Prefix s [] before
+  pub refused : Refused (λ n. refusedAt n 1 (length before)) (writeTests s before next) (λ x. ⊥) r
+
+-- servers are a route, or writing them stops
+abbrev pub Writes : Shape → List ℕ → Refusal → Type 0
+Writes s vs r = (Route s [] vs × (r ≡ none)) ⊎ WriteStops s vs r
+
+-- ---- checking a list
+
+-- the first array that is not read, with its own number and hop; routes count from 1
+pub record FirstRefused (s : Shape) (t : List ℕ) (a d : ℕ) (bs : List ℕ) (r : Refusal) : Type 0 where
+  pub place : ℕ
+  pub number : ℕ
+  pub hop : ℕ
+  pub within : place < length bs / 8
+  pub before : (i : ℕ) → i < place → IsRead s t a d bs i
+  pub stops : Stops s t a d (arrayAt place bs) (refusedAt number 1 hop)
+  pub here : r ≡ refusedAt number (suc place) hop
+
+-- all are read; of the pairs, by first, then second route, the first that is not parallel: the route is the later of the two
+pub record FirstPair (s : Shape) (t : List ℕ) (a d : ℕ) (bs : List ℕ) (r : Refusal) : Type 0 where
+  pub routes : ℕ → List ℕ
+  pub read : (i : ℕ) → i < length bs / 8 → Encodes s t a d (arrayAt i bs) (routes i)
+  pub first : ℕ
+  pub second : ℕ
+  pub order : first < second
+  pub within : second < length bs / 8
+  pub before : (i j : ℕ) → i < j → j < length bs / 8 → (i < first) ⊎ ((i ≡ first) × (j < second)) → Parallel s (routes i) (routes j)
+  pub meet : Parallel s (routes first) (routes second) → ⊥
+  pub here : r ≡ refusedAt 15 (suc second) 0
+
+-- a list is accepted; or an array of it is not read; or all are, and two are not parallel
+abbrev pub Checks : Shape → List ℕ → ℕ → ℕ → List ℕ → Refusal → Type 0
+Checks s t a d bs r =
+    (Accepted s t a d bs × (r ≡ none)) ⊎ FirstRefused s t a d bs r ⊎ FirstPair s t a d bs r
+
+-- ---- one step
+
+abbrev pub givenTests : Shape → ℕ → ℕ → List ℕ → List ℕ → Tests
+givenTests s a d bs e = pairTests s a d then (17, length e ≡ 2048) then (7, length bs ≡ 8)
+
+-- byte b from server a, by a's neighbour table
+abbrev pub stepTests : Shape → ℕ → List ℕ → ℕ → Tests
+stepTests s a e b = hopTests s a b then (19, flagAt e b ≡ 1)
+
+-- at the destination any index is delivered; elsewhere 18 comes first, then the byte that the index names, at the hop index + 1
+abbrev pub Steps : Shape → ℕ → ℕ → ℕ → List ℕ → List ℕ → Refusal → Type 0
+Steps s a d i bs e r =
+    ((a ≡ d) × (r ≡ none))
+    ⊎ ((a ≢ d) × Refused plain ((18, i < 8) ∷ []) (Refused (λ n. refusedAt n 1 (i + 1)) (stepTests s a e (getD bs i 0)) (λ x. x ≡ none)) r)
+
+-- ---- every call
+
+-- a line for each call: exactly which refusal it gives
+pub record RefusedExactly : Type 0 where
+  -- room
+  pub shape-refusal : (s : Shape) → Exactly (shapeRefusal s) (Number (shapeTests s))
+  pub server-refusal : (s : Shape) (a : ℕ) → Exactly (serverRefusal s a) (Number (serverTests s a))
+  pub link-refusal : (s : Shape) (a l : ℕ) → Exactly (linkRefusal s a l) (Number (linkTests s a l))
+  pub servers-of : (s : Shape) → Exactly (serversAnswer s .refusal) (Whole (shapeTests s))
+  pub bound-of : (s : Shape) (l : ℕ) → Exactly (boundAnswer s l .refusal) (Whole (levelTests s l))
+  pub digits-of : (s : Shape) (a : ℕ) → Exactly (digitsAnswer s a .refusal) (Whole (serverTests s a))
+  pub digit-of : (s : Shape) (a l : ℕ) → Exactly (digitAnswer s a l .refusal) (Whole (linkTests s a l))
+  pub address-of : (s : Shape) (ds : List ℕ) → Exactly (addressAnswer s ds .refusal) (Whole (placesTests s ds))
+  pub switch-of : (s : Shape) (a l : ℕ) → Exactly (switchAnswer s a l .refusal) (Whole (linkTests s a l))
+  pub neighbour-of : (s : Shape) (a l v : ℕ) → Exactly (neighbourAnswer s a l v .refusal) (Whole (valueTests s a l v))
+  pub level-between : (s : Shape) (a b : ℕ) → Exactly (betweenAnswer s a b .refusal) (Whole (pairTests s a b))
+  -- links
+  pub table-refusal : (s : Shape) (t : List ℕ) → Exactly (roomTableRefusal s t) (Number (tableTests s t))
+  pub failed-link : (s : Shape) (t : List ℕ) (a l : ℕ) → Exactly (failedAnswer s t a l .refusal) (Whole (tableLinkTests s t a l))
+  pub mark-or-clear : (s : Shape) (t : List ℕ) (a l : ℕ) → Exactly (linkAnswer s t a l) (Whole (tableLinkTests s t a l))
+  -- path: plain reading and reversal are over the table with no bytes, in which no link is failed
+  pub ends-refusal : (s : Shape) (a d : ℕ) → Exactly (endsRefusal s a d) (Number (endsTests s a d))
+  pub hop-of : (s : Shape) (a b : ℕ) → Exactly (hopAnswer s a b .number) (Number (serverTests s a ++ hopTests s a b))
+  pub walk : (s : Shape) (t : List ℕ) (a d : ℕ) (bs : List ℕ) → Exactly (walkAnswer s t a d bs .refusal) (Refused plain (arrayTests s a d bs) (Reads s t a d bs))
+  pub read-path : (s : Shape) (a d : ℕ) (bs : List ℕ) → Exactly (readAnswer s a d bs .refusal) (Refused plain (arrayTests s a d bs) (Reads s [] a d bs))
+  pub reverse-path : (s : Shape) (a d : ℕ) (bs : List ℕ) → Exactly (reverseAnswer s a d bs .refusal) (Refused plain (arrayTests s a d bs) (Reads s [] a d bs))
+  pub write-path : (s : Shape) (vs : List ℕ) → Exactly (writeAnswer s vs .refusal) (Refused plain (serversTests s vs) (Writes s vs))
+  -- verdict
+  pub check-list : (s : Shape) (t : List ℕ) (a d : ℕ) (bs : List ℕ) → Exactly (checkAnswer s t a d bs) (Refused plain (checkTests s t a d bs) (Checks s t a d bs))
+  -- build, finder, select
+  pub build-routes : (s : Shape) (a d : ℕ) → Exactly (buildAnswer s a d .refusal) (Whole (endsTests s a d))
+  pub find-route : (s : Shape) (t : List ℕ) (a d : ℕ) (x : Found) → Finding s t a d x → Exactly (x .refusal) (Whole (roomTests s t a d))
+  pub select-routes : (s : Shape) (t : List ℕ) (a d : ℕ) (x : Selection) → Selecting s t a d x → Exactly (x .refusal) (Whole (selectTests s t a d))
+  -- pick
+  pub pick-refusal : (s : Shape) (t : List ℕ) (a d : ℕ) (fs ks : List ℕ) → Exactly (pickAnswer s t a d fs ks) (Whole (pickTests s t a d fs ks))
+  pub pick-place : (s : Shape) (t : List ℕ) (a d : ℕ) (fs ks : List ℕ) → Exactly (placeAnswer s t a d fs ks .refusal) (Whole (pickTests s t a d fs ks))
+  -- step
+  pub step-once : (s : Shape) (a d i : ℕ) (bs e : List ℕ) → Exactly (stepAnswer s a d i bs e .refusal) (Refused plain (givenTests s a d bs e) (Steps s a d i bs e))
+
+-- ---- some numbers spelled out
+
+-- what lines of `RefusedExactly` say of a number, by `ChainMeans`
+pub record SpelledOut : Type 0 where
+  -- a check says 7 exactly when the tests of the room hold and the length of the list is not as it must be
+  pub seven : (s : Shape) (t : List ℕ) (a d : ℕ) (bs : List ℕ)
+      → (checkAnswer s t a d bs ≡ plain 7) ↔ (Hold (roomTests s t a d) × ((Arrays s bs × (1 ≤ length bs)) → ⊥))
+  -- a step says 8, at the hop index + 1, exactly when what it is given is right, it is away from the destination, its index names a byte, and
+  -- the level of that byte is above k
+  pub eight : (s : Shape) (a d i : ℕ) (bs e : List ℕ)
+      → (stepAnswer s a d i bs e .refusal ≡ refusedAt 8 1 (i + 1)) ↔ (Hold (givenTests s a d bs e) × (a ≢ d) × (i < 8) × (s .k < levelOf (getD bs i 0)))
+  -- 14 at hop p + 1, exactly when the byte at place p, counted from 0, is the first after arrival that is not zero
+  pub fourteen : (s : Shape) (t : List ℕ) (a d : ℕ) (bs : List ℕ) (p : ℕ)
+      → (walkAnswer s t a d bs .refusal ≡ refusedAt 14 1 (suc p)) ↔ (Hold (arrayTests s a d bs) × FirstAfterArrival s t a d bs p)
+  -- 15 at route j, exactly when that is the later of the first pair that is not parallel
+  pub fifteen : (s : Shape) (t : List ℕ) (a d : ℕ) (bs : List ℕ) (j : ℕ)
+      → (checkAnswer s t a d bs ≡ refusedAt 15 j 0) ↔ (Hold (checkTests s t a d bs) × FirstPair s t a d bs (refusedAt 15 j 0))

@@ -1,0 +1,3 @@
+pub mod Avoids
+pub mod Laid
+pub mod Answers

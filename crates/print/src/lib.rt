@@ -1,0 +1,94 @@
+// Lines of text and numbers on standard output.
+use refusals::Refusal;
+use room::Number;
+use room::Shape;
+
+pub fn text(t: &[u8]) {
+    io::write_all(1, t);
+}
+
+pub fn number(n: usize) {
+    io::print_decimal(1, n as u64);
+}
+
+// A number with a space before it.
+pub fn item(n: usize) {
+    text(b" ");
+    number(n);
+}
+
+// "NAME (n,k)"
+pub fn question(name: &[u8], shape: Shape) {
+    text(name);
+    text(b" (");
+    number(shape.n);
+    text(b",");
+    number(shape.k);
+    text(b")");
+}
+
+// "= refused NUMBER", with route and hop where they are not zero.
+pub fn refused(refusal: Refusal) {
+    text(b" = refused");
+    item(refusal.number);
+    if refusal.route != 0 {
+        text(b" route");
+        item(refusal.route);
+        text(b" hop");
+        item(refusal.hop);
+    }
+    text(b"\n");
+}
+
+// "= VALUE", or the refusal.
+pub fn answer(x: Number) {
+    let refusal = x.refusal;
+    if refusal.number != 0 {
+        refused(refusal);
+        return;
+    }
+    text(b" =");
+    item(x.value);
+    text(b"\n");
+}
+
+fn wide(x: u8) -> u64 {
+    x as u64
+}
+
+// The bytes of a slice as hex, with a space before them; "-" where there are none.
+pub fn bytes(b: &[u8]) {
+    text(b" ");
+    if b.len() == 0 {
+        text(b"-");
+    }
+    let mut i: usize = 0;
+    while i < b.len() {
+        io::print_hex(1, wide(b[i]), 2);
+        i += 1;
+    }
+}
+
+pub fn end() {
+    text(b"\n");
+}
+
+// The first numbers of nine, each with a space before it.
+pub fn items(numbers: [usize; 9], count: usize) {
+    let mut i: usize = 0;
+    while i < 9 {
+        if i < count {
+            item(numbers[i]);
+        }
+        i += 1;
+    }
+}
+
+// Every number of a slice, with a space before it.
+pub fn all(numbers: &[usize]) {
+    let mut i: usize = 0;
+    while i < numbers.len() {
+        item(numbers[i]);
+        i += 1;
+    }
+}

@@ -1,0 +1,156 @@
+// Lists of arrays: checked.
+use room::Shape;
+
+fn check_row(shape: Shape, table: &[u8], source: usize, destination: usize, list: &[u8]) {
+    print::question(b"check", shape);
+    print::bytes(table);
+    print::item(source);
+    print::item(destination);
+    print::bytes(list);
+    let refusal = verdict::check_list(shape, table, source, destination, list);
+    if refusal.number != 0 {
+        print::refused(refusal);
+        return;
+    }
+    print::text(b" = accepted\n");
+}
+
+// Lists in a room of sixteen servers with no failed link.
+pub(crate) fn checks() {
+    let shape = Shape::full(4, 1);
+    let table = [0u8; 16];
+    check_row(
+        shape,
+        &table,
+        0,
+        7,
+        b"\x41\x03\0\0\0\0\0\0\x03\x41\0\0\0\0\0\0",
+    );
+    check_row(shape, &table, 0, 3, b"\x03\0\0\0\0\0\0\0\x03\0\0\0\0\0\0\0");
+    check_row(
+        shape,
+        &table,
+        0,
+        3,
+        b"\x03\0\0\0\0\0\0\0\x41\x03\x40\0\0\0\0\0",
+    );
+    check_row(
+        shape,
+        &table,
+        0,
+        7,
+        b"\x41\x03\0\0\0\0\0\0\x01\x42\x03\x41\0\0\0\0",
+    );
+    check_row(
+        shape,
+        &table,
+        0,
+        7,
+        b"\x41\x03\0\0\0\0\0\0\x01\x41\x03\0\0\0\0\0",
+    );
+    check_row(shape, &table, 0, 7, b"");
+    check_row(
+        shape,
+        &table,
+        0,
+        7,
+        b"\x41\x03\0\0\0\0\0\0\x03\x41\0\0\0\0\0",
+    );
+    check_row(
+        shape,
+        &table,
+        0,
+        7,
+        b"\x41\x03\0\0\0\0\0\0\x03\x41\0\0\0\0\0\0\x41\x03\0\0\0\0\0\0",
+    );
+    check_row(
+        shape,
+        &table,
+        0,
+        7,
+        b"\x41\x43\0\0\0\0\0\0\x84\x41\0\0\0\0\0\0",
+    );
+    check_row(
+        shape,
+        &table,
+        0,
+        7,
+        b"\x84\x41\0\0\0\0\0\0\x41\x43\0\0\0\0\0\0",
+    );
+    check_row(
+        shape,
+        &table,
+        0,
+        7,
+        b"\x41\x03\0\0\0\0\0\0\x84\x41\0\0\0\0\0\0",
+    );
+    check_row(shape, &table, 0, 0, b"");
+    check_row(shape, &table, 16, 0, b"");
+    check_row(Shape::full(4, 0), &table, 0, 1, b"");
+}
+
+// A server between the ends that is shared while no switch is, and the other way round.
+pub(crate) fn shared() {
+    let shape = Shape::full(2, 3);
+    let table = [0u8; 16];
+    check_row(
+        shape,
+        &table,
+        0,
+        15,
+        b"\x01\x41\x81\xc1\0\0\0\0\x41\x01\xc1\x81\0\0\0\0",
+    );
+    check_row(
+        shape,
+        &table,
+        0,
+        15,
+        b"\x01\x41\x81\xc1\0\0\0\0\x41\x81\xc1\x01\0\0\0\0",
+    );
+    check_row(
+        shape,
+        &table,
+        0,
+        3,
+        b"\x01\x41\0\0\0\0\0\0\x41\x01\0\0\0\0\0\0\x81\x01\x41\x80\0\0\0\0",
+    );
+    check_row(
+        shape,
+        &table,
+        0,
+        3,
+        b"\x01\x41\0\0\0\0\0\0\x41\x01\0\0\0\0\0\0\x41\x01\0\0\0\0\0\0\x01\x41\0\0\0\0\0\0",
+    );
+    let wide = Shape::full(3, 1);
+    let healthy = [0u8; 9];
+    check_row(
+        wide,
+        &healthy,
+        0,
+        8,
+        b"\x01\x41\x02\x42\0\0\0\0\x42\x02\0\0\0\0\0\0",
+    );
+    check_row(
+        wide,
+        &healthy,
+        0,
+        8,
+        b"\x42\x02\0\0\0\0\0\0\x02\x42\0\0\0\0\0\0",
+    );
+}
+
+// Failed links: the sender's, the receiver's, a link beside the route; and tables that are refused.
+pub(crate) fn failed() {
+    let shape = Shape::full(4, 1);
+    let sender = [2u8, 0, 0, 0, 0, 0, 0, 0, 0, 0, 0, 0, 0, 0, 0, 0];
+    check_row(shape, &sender, 0, 7, b"\x41\x03\0\0\0\0\0\0");
+    check_row(shape, &sender, 0, 7, b"\x03\x41\0\0\0\0\0\0");
+    let receiver = [0u8, 0, 0, 0, 2, 0, 0, 0, 0, 0, 0, 0, 0, 0, 0, 0];
+    check_row(shape, &receiver, 0, 7, b"\x41\x03\0\0\0\0\0\0");
+    let beside = [0u8, 3, 3, 2, 0, 3, 3, 0, 3, 3, 3, 3, 3, 3, 3, 3];
+    check_row(shape, &beside, 0, 7, b"\x41\x03\0\0\0\0\0\0");
+    let high = [0u8, 0, 0, 0, 0, 0, 0, 0, 0, 0, 0, 0, 0, 0, 0, 4];
+    check_row(shape, &high, 0, 7, b"\x41");
+    let short = [0u8; 15];
+    check_row(shape, &short, 0, 7, b"\x41\x03\0\0\0\0\0\0");
+}

@@ -1,0 +1,12 @@
+// The worked numbers of built and selected routes, and every refusal's edge, one line a question.
+// routes.rt: built routes
+mod routes;
+// selections.rt: selection
+mod selections;
+
+fn main() {
+    routes::built();
+    routes::pairs();
+    selections::sixteen();
+    selections::far();
+}

@@ -1,0 +1,106 @@
+// Selection around failed links.
+use crate::routes;
+use room::Shape;
+
+fn select_row(shape: Shape, table: &[u8], source: usize, destination: usize) {
+    print::question(b"select", shape);
+    print::bytes(table);
+    print::item(source);
+    print::item(destination);
+    let answer = select::select_routes(shape, table, source, destination);
+    let refusal = answer.refusal;
+    if refusal.number != 0 {
+        print::refused(refusal);
+        return;
+    }
+    let set = answer.routes;
+    print::text(b" =");
+    routes::arrays(set);
+}
+
+// A healthy room, a dead server, a dead switch, a dead end, and the refusals, in a room of sixteen servers.
+pub(crate) fn sixteen() {
+    let shape = Shape::full(4, 1);
+    let healthy = [0u8; 16];
+    select_row(shape, &healthy, 0, 7);
+    select_row(shape, &healthy, 0, 3);
+    let server = [0u8, 0, 0, 3, 0, 0, 0, 0, 0, 0, 0, 0, 0, 0, 0, 0];
+    select_row(shape, &server, 0, 7);
+    select_row(shape, &server, 0, 3);
+    let switch = [1u8, 1, 1, 1, 0, 0, 0, 0, 0, 0, 0, 0, 0, 0, 0, 0];
+    select_row(shape, &switch, 0, 7);
+    select_row(shape, &switch, 0, 3);
+    let end = [0u8, 0, 0, 0, 0, 0, 0, 3, 0, 0, 0, 0, 0, 0, 0, 0];
+    select_row(shape, &end, 0, 7);
+    select_row(shape, &end, 7, 0);
+    select_row(shape, &end, 7, 7);
+    select_row(shape, &end, 0, 16);
+    let high = [0u8, 0, 0, 0, 0, 0, 0, 4, 0, 0, 0, 0, 0, 0, 0, 0];
+    select_row(shape, &high, 0, 7);
+    select_row(Shape::full(4, 0), &healthy, 0, 1);
+    select_row(Shape::full(9, 3), &healthy, 0, 0);
+}
+
+// A room whose live links are one line: eight hops are found, nine are not; and a room cut in two.
+pub(crate) fn far() {
+    let shape = Shape::full(2, 3);
+    let line = [
+        14u8,
+        12,
+        10,
+        12,
+        6,
+        12,
+        10,
+        12,
+        15,
+        15,
+        15,
+        15,
+        6,
+        14,
+        15,
+        15,
+    ];
+    select_row(shape, &line, 0, 12);
+    select_row(shape, &line, 0, 13);
+    select_row(shape, &line, 1, 13);
+    select_row(shape, &line, 0, 8);
+    let cut = Shape::full(2, 1);
+    let halves = [2u8, 2, 2, 2];
+    select_row(cut, &halves, 0, 1);
+    select_row(cut, &halves, 0, 2);
+    let wide = Shape::full(3, 2);
+    let some = [
+        0u8,
+        1,
+        0,
+        0,
+        2,
+        0,
+        4,
+        0,
+        0,
+        7,
+        0,
+        0,
+        1,
+        0,
+        0,
+        0,
+        3,
+        0,
+        0,
+        0,
+        5,
+        0,
+        0,
+        0,
+        2,
+        0,
+        0,
+    ];
+    select_row(wide, &some, 0, 26);
+    select_row(wide, &some, 1, 25);
+    select_row(wide, &some, 9, 17);
+}

@@ -1,0 +1,34 @@
+-- Wrong answers of `step`, refuted.
+use mathlib.Core.Path.{refl}
+use Rattle.lists.specs.Lists.{filled}
+use Rattle.refusals.specs.Refusals.{_or-else_}
+use Rattle.room.specs.Shapes.{serversOf, bound}
+use Rattle.room.specs.Digits.{digitsOf, addressOf}
+use Rattle.room.specs.Addresses.{digits, digit, withDigit}
+use Rattle.room.specs.Refusals.{shapeRefusal, serverRefusal, pairRefusal}
+use Rattle.path.specs.Walks.{hopTo, hopRefusal}
+use Rattle.step.specs.declared.Step as declared
+use Rattle.step.specs.Steps.{entry, macAt, portAt, flagAt, givenRefusal, byteRefusal, awayRefusal, stepRefusal, atHop, placed, stepAnswer}
+use Rattle.step.specs.Packed.{packed, bytesNumber, macNumber}
+use Rattle.wrong.specs.Never.{Loan}
+use Rattle.wrong.specs.Step.{Step}
+use Rattle.wrong.proofs.Clash.{clash}
+
+pub wrong-step : (q e : Loan) → Step q e
+unfolding serversOf bound digitsOf addressOf digits digit withDigit _or-else_ shapeRefusal serverRefusal pairRefusal filled hopTo hopRefusal entry macAt portAt flagAt givenRefusal byteRefusal awayRefusal stepRefusal atHop placed stepAnswer packed bytesNumber macNumber
+wrong-step q e =
+    record {
+      index-before-arrival = clash (λ (y : declared.Step). y .refusal .number) refl;
+      delivered-with-index = clash (λ (y : declared.Step). y .index) refl;
+      index-not-raised = clash (λ (y : declared.Step). y .index) refl;
+      flag-2-taken = clash (λ (y : declared.Step). y .refusal .number) refl;
+      hop-is-the-index = clash (λ (y : declared.Step). y .refusal .hop) refl;
+      index-told-as-hop = clash (λ (y : declared.Step). y .refusal .hop) refl;
+      flag-before-no-change = clash (λ (y : declared.Step). y .refusal .number) refl;
+      index-before-arrival-c = clash (λ y. y) refl;
+      delivery-not-told = clash (λ y. y) refl;
+      server-and-port-exchanged = clash (λ y. y) refl;
+      first-byte-lowest = clash (λ y. y) refl;
+      mac-on-refusal = clash (λ y. y) refl;
+      mac-at-delivery = clash (λ y. y) refl;
+    }

@@ -1,0 +1,56 @@
+-- What the wrong answers are given to: tables, path bytes, texts.
+use Prim.Native.Nat.{ℕ, _*_, _-_}
+use Prim.Native.Char.{code}
+use Prim.Native.String.{String, [] as empty, _∷_ as _then_}
+use mathlib.Core.List.{List, [], _∷_, _++_}
+use lib.ListN.{replicate, set}
+use Rattle.lists.specs.Lists.{filled}
+
+-- an array: path bytes, with zeros past them
+abbrev pub array : List ℕ → List ℕ
+array bs = filled 8 bs
+
+-- the failed-link table of the (4,1) room, its 16 servers all live
+abbrev pub healthy : List ℕ
+healthy = replicate 16 0
+
+-- the same with the byte b for server a: 1 where its level-0 link is failed, 2 where its level-1 link is, 3 where it is dead
+abbrev pub failing : ℕ → ℕ → List ℕ
+failing a b = set healthy a b
+
+-- eight hops of the (4,1) room from 00, by 01, 11, 12, 22, 23, 33 and 30 to 20, over all its eight switches
+abbrev pub eightHops : List ℕ
+eightHops = 0x01 ∷ 0x41 ∷ 0x02 ∷ 0x42 ∷ 0x03 ∷ 0x43 ∷ 0x00 ∷ 0x42 ∷ []
+
+-- the built routes from 00 to 13 in the (4,1) room: of slot 1, by server 10, and of slot 0, by server 03
+abbrev pub direct : List ℕ
+direct = array (0x41 ∷ 0x03 ∷ [])
+
+abbrev pub other : List ℕ
+other = array (0x03 ∷ 0x41 ∷ [])
+
+-- a MAC, and the neighbour table whose one entry, of path byte b, has it, OutPort 7 and this StatusFlag
+abbrev pub mac : List ℕ
+mac = 0x02 ∷ 0x00 ∷ 0x5e ∷ 0x10 ∷ 0x00 ∷ 0x04 ∷ []
+
+abbrev pub neighbour : ℕ → ℕ → List ℕ
+neighbour b flag = replicate (8 * b) 0 ++ mac ++ (7 ∷ flag ∷ []) ++ replicate (8 * (255 - b)) 0
+
+-- a text by its characters' numbers, which are its bytes in ASCII
+abbrev pub ascii : String → List ℕ
+ascii empty = []
+ascii (c then cs) = code c ∷ ascii cs
+
+-- the table of the (2,2) room in which the level-1 link of server 001 is failed: of the routes of three hops from 000 to 111, first is
+-- 81 41 01 by the rule, 01 81 41 with the lower level first, and 41 01 81 by the last hop first
+abbrev pub tied : List ℕ
+tied = 0 ∷ 2 ∷ 0 ∷ 0 ∷ 0 ∷ 0 ∷ 0 ∷ 0 ∷ []
+
+-- what m places of a lent buffer hold before the call
+abbrev pub stale : ℕ → List ℕ
+stale m = replicate m 0xee
+
+-- a table of the (4,1) room in which both built routes from 00 to 13 are broken, and each slot has an alternate: 42 01 41 03, then
+-- 02 43 03 41
+abbrev pub bothBroken : List ℕ
+bothBroken = 0 ∷ 2 ∷ 0 ∷ 2 ∷ 1 ∷ 0 ∷ 1 ∷ 0 ∷ 0 ∷ 0 ∷ 0 ∷ 1 ∷ 1 ∷ 0 ∷ 0 ∷ 0 ∷ []

@@ -1,0 +1,14 @@
+pub mod Never
+pub mod Examples
+pub mod Helpers
+pub mod Room
+pub mod Links
+pub mod Path
+pub mod Verdict
+pub mod Build
+pub mod Finder
+pub mod Select
+pub mod Pick
+pub mod Step
+pub mod DeskLine
+pub mod Driver

@@ -1,0 +1,63 @@
+-- Wrong answers of `links`, wherever the table lies.
+use mathlib.Core.Bool.{true, false}
+use mathlib.Core.List.{[]}
+use lib.ListN.{replicate}
+use Rattle.refusals.specs.Refusals.{none, plain}
+use Rattle.room.specs.Shapes.{fullRoom}
+use Rattle.links.specs.Answers.{asked}
+use Rattle.links.proofs.failed_link.Reads as failed-link
+use Rattle.links.proofs.mark_link.Reads as mark-link
+use Rattle.links.proofs.clear_link.Reads as clear-link
+use Rattle.links.proofs.is_live.Reads as is-live
+use Rattle.links.proofs.table_refusal.Reads as table-refusal
+use Rattle.wrong.specs.Never.{Never, NeverLeaves, Loan, second, _&_, _lends_}
+use Rattle.wrong.specs.Examples.{healthy, failing}
+
+pub record Links (o : Loan) : Type 0 where
+  -- ---- failed_link
+  -- another link of the server told for this one: level 1 is failed, level 0 asked
+  pub another-link-told : Never failed-link.Post (fullRoom 4 1 & o lends failing 3 2 & 3 & 0 & tt) (asked true)
+  -- the byte compared, and not its bit: the links of a dead server told live
+  pub byte-for-bit : Never failed-link.Post (fullRoom 4 1 & o lends failing 3 3 & 3 & 0 & tt) (asked false)
+  -- 6 not tested: a link past the end of a table of 15 bytes told live
+  pub short-table-asked : Never failed-link.Post (fullRoom 4 1 & o lends replicate 15 0 & 15 & 0 & tt) (asked false)
+  -- ---- mark_link
+  -- level k + 1 marked
+  pub marked-above-k : Never mark-link.Post (fullRoom 4 1 & o lends healthy & 3 & 2 & tt) none
+  -- 6 tested before 4: server 16, a table of 15 bytes
+  pub table-before-address : Never mark-link.Post (fullRoom 4 1 & o lends replicate 15 0 & 16 & 0 & tt) (plain 6)
+  -- nothing marked
+  pub marks-nothing : NeverLeaves mark-link.Post (fullRoom 4 1 & o lends failing 3 1 & 3 & 1 & tt) second (failing 3 1)
+  -- the byte set, and not its bit: the mark of level 0 lost
+  pub other-mark-lost : NeverLeaves mark-link.Post (fullRoom 4 1 & o lends failing 3 1 & 3 & 1 & tt) second (failing 3 2)
+  -- marked again, the bit added again
+  pub marked-twice : NeverLeaves mark-link.Post (fullRoom 4 1 & o lends failing 3 2 & 3 & 1 & tt) second (failing 3 4)
+  -- the table touched on refusal 20
+  pub marked-on-refusal : NeverLeaves mark-link.Post (fullRoom 4 1 & o lends healthy & 3 & 2 & tt) second (failing 3 4)
+  -- ---- clear_link
+  -- level k + 1 cleared
+  pub cleared-above-k : Never clear-link.Post (fullRoom 4 1 & o lends healthy & 3 & 2 & tt) none
+  -- 20 tested before 4: level 2 of server 16
+  pub level-before-address : Never clear-link.Post (fullRoom 4 1 & o lends healthy & 16 & 2 & tt) (plain 20)
+  -- nothing cleared
+  pub clears-nothing : NeverLeaves clear-link.Post (fullRoom 4 1 & o lends failing 3 3 & 3 & 0 & tt) second (failing 3 3)
+  -- all links of the server cleared
+  pub clears-all : NeverLeaves clear-link.Post (fullRoom 4 1 & o lends failing 3 3 & 3 & 0 & tt) second healthy
+  -- cleared again, the bit taken away again
+  pub cleared-twice : NeverLeaves clear-link.Post (fullRoom 4 1 & o lends failing 3 2 & 3 & 0 & tt) second (failing 3 1)
+  -- the table touched on refusal 6, which its bit above k is
+  pub cleared-on-refusal : NeverLeaves clear-link.Post (fullRoom 4 1 & o lends failing 3 5 & 3 & 0 & tt) second (failing 3 4)
+  -- ---- is_live
+  -- the receiver's link forgotten
+  pub receiver-forgotten : Never is-live.Post (o lends failing 3 1 & 0 & 0 & 3 & tt) true
+  -- the sender's link forgotten
+  pub sender-forgotten : Never is-live.Post (o lends failing 3 1 & 0 & 3 & 0 & tt) true
+  -- a failed link of another level counted
+  pub another-level : Never is-live.Post (o lends failing 3 2 & 0 & 0 & 3 & tt) false
+  -- ---- table_refusal
+  -- a bit above k taken
+  pub bit-above-k-taken : Never table-refusal.Post (fullRoom 4 1 & o lends failing 3 4 & tt) 0
+  -- a table of one byte too many taken
+  pub long-table-taken : Never table-refusal.Post (fullRoom 4 1 & o lends replicate 17 0 & tt) 0
+  -- 6 tested before 3: no bytes for (9,3)
+  pub table-before-shape : Never table-refusal.Post (fullRoom 9 3 & o lends [] & tt) 6
