@@ -11,7 +11,7 @@ use lib.ListN.{length, getD, replicate, length-append, List·getD-eq-default}
 use Rattle.lists.specs.Lists.{isIn, inTurn}
 use Rattle.lists.proofs.ListLaws.{length-turn}
 use Rattle.refusals.specs.declared.Refusal.{Refusal}
-use Rattle.refusals.specs.Refusals.{none, plain, refusedAt, _or-else_, answer}
+use Rattle.refusals.specs.Refusals.{none, plain, refusedAt, _or-else_, answer, OneOf, listed}
 use Rattle.room.specs.declared.Shape.{Shape}
 use Rattle.room.specs.Refusals.{shapeRefusal, levelRefusal, serverRefusal, pairRefusal, linkRefusal, valueRefusal, placesRefusal, endsRefusal}
 use Rattle.room.specs.Addresses.{differing}
@@ -38,7 +38,7 @@ use Rattle.pick.proofs.Promises.{empty-exactly}
 use Rattle.step.specs.declared.Step.{Step}
 use Rattle.step.specs.Steps.{stepRefusal, placed, noStep, delivery, forwarded, stepAnswer}
 use Rattle.demands.specs.Tests.{Refused, Exactly}
-use Rattle.demands.specs.Demand1.{ofAHop, at-hop, no-arrival, later, OneOf, listed, PartsOf, WalkedOf, ReadingOf, WritingOf, FoundOf, SelectionOf, PlaceOf, StepOf, RefusalOf, HopOf, EveryCall}
+use Rattle.demands.specs.Demand1.{ofAHop, at-hop, no-arrival, later, PartsOf, WalkedOf, ReadingOf, WritingOf, FoundOf, SelectionOf, PlaceOf, StepOf, RefusalOf, HopOf, EveryCall}
 use Rattle.demands.specs.Refusals.{shapeTests, levelTests, serverTests, pairTests, linkTests, valueTests, portTests, madeTests, partsTests, placesTests, tableTests, tableLinkTests, tableServerTests, endsTests, roomTests, arrayTests, layTests, checkTests, selectTests, pickTests, endOf, hopTests, readTests, writeTests, serversTests, givenTests, stepTests, Stops, hop-fails, never-arrives, goes-on, Reads, Writes, Checks, Steps}
 use Rattle.demands.proofs.Chains.{all, one-listed, fails}
 use Rattle.demands.proofs.Refusing.{Of, none-of, some-of, hop-of, chain-of, whole-of, bare-none, bare-is, bare-answer, refuses, answer-refuses}
@@ -255,6 +255,8 @@ every-call =
     record {
       shape-refusal = λ s. one-listed (shapeTests s) _ (meets (refused-exactly .shape-refusal s));
       server-refusal = λ s a. one-listed (serverTests s a) _ (meets (refused-exactly .server-refusal s a));
+      pair-refusal = λ s a b. one-listed (pairTests s a b) _ (meets (refused-exactly .pair-refusal s a b));
+      ends-refusal = λ s a d. one-listed (endsTests s a d) _ (meets (refused-exactly .ends-refusal s a d));
       link-refusal = λ s a l. one-listed (linkTests s a l) _ (meets (refused-exactly .link-refusal s a l));
       servers-of = λ s. answer-refuses _ _ (λ r. refl) 0 _ (shapeTests s) (shapeRefusal s) _ refl refl (meets (refused-exactly .servers-of s)) refl;
       bound-of = λ s l. answer-refuses _ _ (λ r. refl) 0 _ (levelTests s l) (levelRefusal s l) _ refl refl (meets (refused-exactly .bound-of s l)) refl;
@@ -267,12 +269,12 @@ every-call =
       switches-of = λ s l. answer-refuses _ _ (λ r. refl) 0 _ (levelTests s l) (levelRefusal s l) _ refl refl (meets (refused-exactly .switches-of s l)) refl;
       server-at = λ s l w v. answer-refuses _ _ (λ r. refl) 0 _ (portTests s l w v) (portRefusal s l w v) _ refl refl (meets (refused-exactly .server-at s l w v)) refl;
       table-refusal = λ s t. one-listed (tableTests s t) _ (meets (refused-exactly .table-refusal s t));
+      room-refusal = λ s t a d. one-listed (roomTests s t a d) _ (meets (refused-exactly .room-refusal s t a d));
       failed-link = λ s t a l. answer-refuses _ _ (λ r. refl) 0 _ (tableLinkTests s t a l) (tableLinkRefusal s t a l) _ refl refl (meets (refused-exactly .failed-link s t a l)) refl;
       mark-or-clear = λ s t a l. alone _ _ _ (whole-of 0 _ (tableLinkTests s t a l) (λ r. r ≡ none) _ refl refl (λ k. none-of) (meets (refused-exactly .mark-or-clear s t a l)));
       mark-or-clear-server = λ s t a. alone _ _ _ (whole-of 0 _ (tableServerTests s t a) (λ r. r ≡ none) _ refl refl (λ k. none-of) (meets (refused-exactly .mark-or-clear-server s t a)));
       byte-of = λ s l v. answer-refuses _ _ (λ r. refl) 0 _ (madeTests s l v) (madeRefusal s l v) _ refl refl (meets (refused-exactly .byte-of s l v)) refl;
       parts-of = parts-of;
-      ends-refusal = λ s a d. one-listed (endsTests s a d) _ (meets (refused-exactly .ends-refusal s a d));
       hop-of = hop-one;
       walk = walk-of;
       read-path = read-path;

@@ -19,3 +19,4 @@ pub mod ProvedTable
 pub mod TieRows
 pub mod Uniqueness
 pub mod Calls
+pub mod Helpers

@@ -12,7 +12,7 @@ use lib.ListN.{length, getD}
 use borrow.Author.Tests.{le-leb, lt-leb, not-true}
 use Rattle.lists.proofs.ListLaws.{both-held, in-missing, missing-in}
 use Rattle.lists.specs.Lists.{isIn}
-use Rattle.refusals.specs.Refusals.{_or-else_, _unless_}
+use Rattle.refusals.specs.Refusals.{_or-else_, _unless_, OneOf}
 use Rattle.refusals.proofs.ChainLaws.{or-else-zero, chain-goes, test-held}
 use Rattle.room.specs.declared.Shape.{Shape}
 use Rattle.room.specs.Shapes.{serversOf, bound, Valid, Server, Ends}
@@ -32,7 +32,6 @@ use Rattle.verdict.specs.Checks.{listRefusal}
 use Rattle.pick.specs.Picks.{fits, listsRefusal}
 use Rattle.step.specs.Steps.{flagAt, givenRefusal, byteRefusal}
 use Rattle.demands.specs.Tests.{Number, Hold}
-use Rattle.demands.specs.Demand1.{OneOf}
 use Rattle.demands.specs.Refusals.{shapeTests, levelTests, serverTests, pairTests, linkTests, valueTests, portTests, madeTests, partsTests, tableServerTests, Fits, placesTests, tableTests, tableLinkTests, endsTests, roomTests, arrayTests, Arrays, checkTests, NotIn, endOf, hopTests, readTests, writeTests, serversTests, givenTests, stepTests}
 use Rattle.demands.proofs.Chains.{front, test, chain, after, under, merge, reword, idle, zero-of, one-listed, le, lt, eq, ne, both}
 
@@ -175,7 +174,8 @@ module _ (s : Shape) where
   unfolding arrayRefusal
   array-number a d bs = chain (endsTests s a d) ((7, length bs ≡ 8) ∷ []) _ _ refl (ends-number a d) (λ h. test 7 (eqb (length bs) 8) (eq (length bs) 8))
 
-  pub room-number : (t : List ℕ) (a d : ℕ) → Number (roomTests s t a d) (endsRefusal s a d or-else tableRefusal s t)
+  pub room-number : (t : List ℕ) (a d : ℕ) → Number (roomTests s t a d) (roomRefusal s t a d)
+  unfolding roomRefusal
   room-number t a d = chain (endsTests s a d) ((6, TableOf s t) ∷ []) _ _ refl (ends-number a d) (λ h. table-alone t)
 
   pub list-number : (t : List ℕ) (a d : ℕ) (bs : List ℕ) → Number (checkTests s t a d bs) (listRefusal s t a d bs)

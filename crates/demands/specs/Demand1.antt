@@ -8,20 +8,19 @@ use mathlib.Core.List.{List, [], _∷_}
 use mathlib.Core.Bool.{Bool, true, false, _&&_, _||_}
 use lib.Dec.{leb, eqb}
 use lib.ListN.{length, replicate}
-use Rattle.lists.specs.Lists.{isIn}
 use Rattle.refusals.specs.declared.Refusal.{Refusal}
-use Rattle.refusals.specs.Refusals.{plain, refusedAt}
+use Rattle.refusals.specs.Refusals.{plain, refusedAt, OneOf}
 use Rattle.room.specs.declared.Shape.{Shape}
 use Rattle.room.specs.declared.Number.{Number}
 use Rattle.room.specs.declared.Digits.{Digits}
 use Rattle.room.specs.declared.Switch.{Switch}
 use Rattle.room.specs.declared.Between.{Between}
-use Rattle.room.specs.Refusals.{shapeRefusal, serverRefusal, linkRefusal, endsRefusal}
+use Rattle.room.specs.Refusals.{shapeRefusal, serverRefusal, pairRefusal, endsRefusal, linkRefusal}
 use Rattle.room.specs.Answers.{serversAnswer, boundAnswer, digitsAnswer, digitAnswer, addressAnswer, switchAnswer, neighbourAnswer, betweenAnswer}
 use Rattle.room.specs.Wiring.{switchesAnswer, serverAtAnswer}
 use Rattle.links.specs.declared.Asked.{Asked}
 use Rattle.links.specs.Servers.{serverAnswer}
-use Rattle.links.specs.Table.{roomTableRefusal}
+use Rattle.links.specs.Table.{roomTableRefusal, roomRefusal}
 use Rattle.links.specs.Answers.{failedAnswer, linkAnswer}
 use Rattle.path.specs.declared.Hop.{Hop}
 use Rattle.path.specs.declared.Parts.{Parts}
@@ -64,11 +63,6 @@ pub data Place (m : ℕ) : Refusal → Type 0 where
   later : {i : ℕ} → 2 ≤ i → i ≤ m → Place m (refusedAt 15 i 0)
 
 -- ---- an answer, or a refusal and nothing else
-
--- no refusal, or one of these numbers
-pub data OneOf (numbers : List ℕ) (r : ℕ) : Type 0 where
-  nought : r ≡ 0 → OneOf numbers r
-  listed : isIn r numbers ≡ true → OneOf numbers r
 
 -- an answer over m routes, which holds a refusal: its number is one of these, its place has document 01's form, and where it is not 0
 -- all the rest of the answer is zero; `bare` is the answer that holds a refusal and zeros
@@ -135,6 +129,8 @@ pub record EveryCall : Type 0 where
   -- room
   pub shape-refusal : (s : Shape) → OneOf (1 ∷ 2 ∷ 3 ∷ []) (shapeRefusal s)
   pub server-refusal : (s : Shape) (a : ℕ) → OneOf (1 ∷ 2 ∷ 3 ∷ 4 ∷ []) (serverRefusal s a)
+  pub pair-refusal : (s : Shape) (a b : ℕ) → OneOf (1 ∷ 2 ∷ 3 ∷ 4 ∷ []) (pairRefusal s a b)
+  pub ends-refusal : (s : Shape) (a d : ℕ) → OneOf (1 ∷ 2 ∷ 3 ∷ 4 ∷ 5 ∷ []) (endsRefusal s a d)
   pub link-refusal : (s : Shape) (a l : ℕ) → OneOf (1 ∷ 2 ∷ 3 ∷ 4 ∷ 20 ∷ []) (linkRefusal s a l)
   pub servers-of : (s : Shape) → NumberOf (1 ∷ 2 ∷ 3 ∷ []) (serversAnswer s)
   pub bound-of : (s : Shape) (l : ℕ) → NumberOf (1 ∷ 2 ∷ 3 ∷ 20 ∷ []) (boundAnswer s l)
@@ -148,13 +144,13 @@ pub record EveryCall : Type 0 where
   pub server-at : (s : Shape) (l w v : ℕ) → NumberOf (1 ∷ 2 ∷ 3 ∷ 20 ∷ 21 ∷ []) (serverAtAnswer s l w v)
   -- links
   pub table-refusal : (s : Shape) (t : List ℕ) → OneOf (1 ∷ 2 ∷ 3 ∷ 6 ∷ []) (roomTableRefusal s t)
+  pub room-refusal : (s : Shape) (t : List ℕ) (a d : ℕ) → OneOf (1 ∷ 2 ∷ 3 ∷ 4 ∷ 5 ∷ 6 ∷ []) (roomRefusal s t a d)
   pub failed-link : (s : Shape) (t : List ℕ) (a l : ℕ) → AskedOf (1 ∷ 2 ∷ 3 ∷ 4 ∷ 20 ∷ 6 ∷ []) (failedAnswer s t a l)
   pub mark-or-clear : (s : Shape) (t : List ℕ) (a l : ℕ) → RefusalOf 0 (1 ∷ 2 ∷ 3 ∷ 4 ∷ 20 ∷ 6 ∷ []) (linkAnswer s t a l)
   pub mark-or-clear-server : (s : Shape) (t : List ℕ) (a : ℕ) → RefusalOf 0 (1 ∷ 2 ∷ 3 ∷ 4 ∷ 6 ∷ []) (serverAnswer s t a)
   -- path
   pub byte-of : (s : Shape) (l v : ℕ) → NumberOf (1 ∷ 2 ∷ 3 ∷ 20 ∷ 21 ∷ []) (byteAnswer s l v)
   pub parts-of : (s : Shape) (b : ℕ) → PartsOf (1 ∷ 2 ∷ 3 ∷ 8 ∷ 9 ∷ []) (partsAnswer s b)
-  pub ends-refusal : (s : Shape) (a d : ℕ) → OneOf (1 ∷ 2 ∷ 3 ∷ 4 ∷ 5 ∷ []) (endsRefusal s a d)
   pub hop-of : (s : Shape) (a b : ℕ) → HopOf (1 ∷ 2 ∷ 3 ∷ 4 ∷ 8 ∷ 9 ∷ 10 ∷ []) (hopAnswer s a b)
   pub walk : (s : Shape) (t : List ℕ) (a d : ℕ) (bs : List ℕ) → WalkedOf (1 ∷ 2 ∷ 3 ∷ 4 ∷ 5 ∷ 7 ∷ 8 ∷ 9 ∷ 10 ∷ 11 ∷ 12 ∷ 13 ∷ 14 ∷ []) (walkAnswer s t a d bs)
   pub read-path : (s : Shape) (a d : ℕ) (bs : List ℕ) → ReadingOf (1 ∷ 2 ∷ 3 ∷ 4 ∷ 5 ∷ 7 ∷ 8 ∷ 9 ∷ 10 ∷ 12 ∷ 13 ∷ 14 ∷ []) (readAnswer s a d bs)

@@ -12,11 +12,11 @@ use Rattle.refusals.specs.Refusals.{none, plain, refusedAt}
 use Rattle.room.specs.declared.Shape.{Shape}
 use Rattle.room.specs.Shapes.{serversOf, bound}
 use Rattle.room.specs.Addresses.{digit, switchesAt, Neighbours}
-use Rattle.room.specs.Refusals.{shapeRefusal, serverRefusal, linkRefusal, endsRefusal}
+use Rattle.room.specs.Refusals.{shapeRefusal, serverRefusal, pairRefusal, endsRefusal, linkRefusal}
 use Rattle.room.specs.Answers.{serversAnswer, boundAnswer, digitsAnswer, digitAnswer, addressAnswer, switchAnswer, neighbourAnswer, betweenAnswer}
 use Rattle.room.specs.Wiring.{switchesAnswer, serverAtAnswer}
 use Rattle.links.specs.Servers.{serverAnswer}
-use Rattle.links.specs.Table.{failed, roomTableRefusal, TableOf}
+use Rattle.links.specs.Table.{failed, roomTableRefusal, TableOf, roomRefusal}
 use Rattle.links.specs.Answers.{failedAnswer, linkAnswer}
 use Rattle.path.specs.Bytes.{byteAnswer, partsAnswer}
 use Rattle.path.specs.Routes.{byteTo, switchAt, switchTo, switchesOf, Route, Prefix, RouteTo, Parallel, Encodes, levelOf, valueOf}
@@ -264,6 +264,8 @@ pub record RefusedExactly : Type 0 where
   -- room
   pub shape-refusal : (s : Shape) → Exactly (shapeRefusal s) (Number (shapeTests s))
   pub server-refusal : (s : Shape) (a : ℕ) → Exactly (serverRefusal s a) (Number (serverTests s a))
+  pub pair-refusal : (s : Shape) (a b : ℕ) → Exactly (pairRefusal s a b) (Number (pairTests s a b))
+  pub ends-refusal : (s : Shape) (a d : ℕ) → Exactly (endsRefusal s a d) (Number (endsTests s a d))
   pub link-refusal : (s : Shape) (a l : ℕ) → Exactly (linkRefusal s a l) (Number (linkTests s a l))
   pub servers-of : (s : Shape) → Exactly (serversAnswer s .refusal) (Whole (shapeTests s))
   pub bound-of : (s : Shape) (l : ℕ) → Exactly (boundAnswer s l .refusal) (Whole (levelTests s l))
@@ -277,13 +279,13 @@ pub record RefusedExactly : Type 0 where
   pub server-at : (s : Shape) (l w v : ℕ) → Exactly (serverAtAnswer s l w v .refusal) (Whole (portTests s l w v))
   -- links
   pub table-refusal : (s : Shape) (t : List ℕ) → Exactly (roomTableRefusal s t) (Number (tableTests s t))
+  pub room-refusal : (s : Shape) (t : List ℕ) (a d : ℕ) → Exactly (roomRefusal s t a d) (Number (roomTests s t a d))
   pub failed-link : (s : Shape) (t : List ℕ) (a l : ℕ) → Exactly (failedAnswer s t a l .refusal) (Whole (tableLinkTests s t a l))
   pub mark-or-clear : (s : Shape) (t : List ℕ) (a l : ℕ) → Exactly (linkAnswer s t a l) (Whole (tableLinkTests s t a l))
   pub mark-or-clear-server : (s : Shape) (t : List ℕ) (a : ℕ) → Exactly (serverAnswer s t a) (Whole (tableServerTests s t a))
   -- path: a byte alone is hop 1 of route 1; plain reading and reversal are over the table with no bytes, in which no link is failed
   pub byte-of : (s : Shape) (l v : ℕ) → Exactly (byteAnswer s l v .refusal) (Whole (madeTests s l v))
   pub parts-of : (s : Shape) (b : ℕ) → Exactly (partsAnswer s b .refusal) (Refused plain (shapeTests s) (Refused (λ n. refusedAt n 1 1) (partsTests s b) (λ r. r ≡ none)))
-  pub ends-refusal : (s : Shape) (a d : ℕ) → Exactly (endsRefusal s a d) (Number (endsTests s a d))
   pub hop-of : (s : Shape) (a b : ℕ) → Exactly (hopAnswer s a b .number) (Number (serverTests s a ++ hopTests s a b))
   pub walk : (s : Shape) (t : List ℕ) (a d : ℕ) (bs : List ℕ) → Exactly (walkAnswer s t a d bs .refusal) (Refused plain (arrayTests s a d bs) (Reads s t a d bs))
   pub read-path : (s : Shape) (a d : ℕ) (bs : List ℕ) → Exactly (readAnswer s a d bs .refusal) (Refused plain (arrayTests s a d bs) (Reads s [] a d bs))
