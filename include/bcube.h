@@ -57,7 +57,8 @@
  *
  * COST. Each call says what it costs: a constant few instructions; the table, which is a pass over the N
  * bytes of the failed-link table; or a search, which may visit every server. It says too how many bytes of
- * stack it takes, beside its return address, as tests/c/stack measured it. docs/PERFORMANCE.md has the instructions.
+ * stack it takes at most, beside its return address: tests/c/stack measures that, and it is written here rounded up to
+ * 64. docs/PERFORMANCE.md has the instructions.
  *
  * WHERE IT RUNS. In user space, on x86-64. For a kernel the library would have to be compiled again, without
  * SSE registers and without a red zone, and with a stack for the searches. bcube_step uses neither of the
@@ -423,7 +424,7 @@ static inline uint32_t bcube_step_next(bcube_stepped step) { return (uint32_t)(s
 static inline uint8_t bcube_step_port(bcube_stepped step) { return (uint8_t)(step.word >> 48 & 255); }
 
 /* Byte i of a MAC, 0 to 5, in the order in which the table stores it; 0 where i is above 5. */
-static inline uint8_t bcube_mac_byte(uint64_t mac, unsigned i) {
+static inline uint8_t bcube_mac_byte(uint64_t mac, uint64_t i) {
     return (uint8_t)(i > 5 ? 0 : mac >> (40 - 8 * i) & 255);
 }
 
