@@ -2,51 +2,19 @@
 use Prim.Native.Nat.{ℕ, zero, suc, _+_, _-_, _≤_, _<_}
 use mathlib.Core.Path.{_≡_, refl, sym, ap, ap₂, _∙_, subst}
 use mathlib.Core.Logic.{_≢_}
-use mathlib.Core.Bool.{Bool, true, false, not}
 use mathlib.Core.List.{List, [], _∷_, map}
 use native.Mathlib.Omega.{arith}
-use borrow.Author.Tests.{eq-eqb, ne-eqb}
-use lib.Dec.{eqb}
-use lib.ListN.{length, getD, replicate, length-append, length-replicate}
+use lib.ListN.{length, getD, replicate, length-append, length-replicate, length-map}
+use Rattle.lists.specs.Lists.{filled, downFrom}
+use Rattle.lists.proofs.ListLaws.{All, map-at, down-long, down-at}
 use Rattle.room.specs.declared.Shape.{Shape}
-use Rattle.room.specs.Shapes.{Server}
-use Rattle.room.specs.Refusals.{pairRefusal, _unless_}
-use Rattle.room.proofs.RefusalLaws.{or-else-zero, test-held, pair-of}
-use Rattle.path.specs.Lists.{filled}
+use Rattle.room.specs.Shapes.{Ends}
 use Rattle.path.specs.Routes.{encode, RouteTo, Parallel}
-use Rattle.path.specs.Answers.{endsRefusal}
 use Rattle.build.specs.declared.RouteSet.{RouteSet}
-use Rattle.build.specs.Built.{downFrom, builtHops, bytesOf, builtRoute, builtBytes, builtRoutes, builtArrays}
+use Rattle.build.specs.Built.{builtHops, bytesOf, builtRoute, builtBytes, builtRoutes, builtArrays}
 use Rattle.build.specs.Sets.{emptySet, added, setOf}
-use Rattle.build.proofs.ListLaws.{All}
 use Rattle.build.proofs.BuiltLaws.{built-short, built-encode, built-route, built-parallel}
 use Rattle.build.proofs.SetLaws.{gathered, gathered-set}
-
--- ---- the two ends
-
-pub same-ends : (a d : ℕ) → a ≡ d → 5 ≡ 5 unless not (eqb a d)
-same-ends a d e = rw (eq-eqb a d e)
-
-pub other-ends : (a d : ℕ) → a ≢ d → 0 ≡ 5 unless not (eqb a d)
-other-ends a d e = rw (ne-eqb a d e)
-
--- what no refusal of two ends tells
-pub record Ends (s : Shape) (a d : ℕ) : Type 0 where
-  pub source : Server s a
-  pub destination : Server s d
-  pub differ : a ≢ d
-
-pub ends-of : (s : Shape) (a d : ℕ) → endsRefusal s a d ≡ 0 → Ends s a d
-unfolding endsRefusal
-ends-of s a d e =
-    let z = or-else-zero (pairRefusal s a d) _ e in
-    let p = pair-of s a d (z .0) in
-    let t : not (eqb a d) ≡ true = test-held (not (eqb a d)) 4 (z .1) in
-    record {
-      source = p .0;
-      destination = p .1;
-      differ = λ q. let w : _≡_ {A = Bool} false true = ap not (sym (eq-eqb a d q)) ∙ t in let n : _≡_ {A = ℕ} 0 1 = cc in omega arith;
-    }
 
 -- ---- the arrays
 
@@ -59,15 +27,12 @@ down-all : {X : Type 0} (P : X → Type 0) (f : ℕ → X) (m : ℕ) → ((i : �
 down-all P f zero h = tt
 down-all P f (suc m) h = (h m (omega arith), down-all P f m (λ i p. h i (omega arith)))
 
-down-long : {X : Type 0} (f : ℕ → X) (m : ℕ) → length (map f (downFrom m)) ≡ m
-down-long f zero = refl
-down-long f (suc m) = ap suc (down-long f m)
+map-long : {X : Type 0} (f : ℕ → X) (m : ℕ) → length (map f (downFrom m)) ≡ m
+map-long f m = length-map (downFrom m) f ∙ down-long m
 
 -- slot j from the front is slot k - j
-down-at : {X : Type 0} (f : ℕ → X) (m j : ℕ) (o : X) → j < m → getD (map f (downFrom m)) j o ≡ f (m - suc j)
-down-at f zero j o h = let z : ⊥ = omega arith in absurd z
-down-at f (suc m) zero o h = let e : m ≡ suc m - 1 = omega arith in ap f e
-down-at f (suc m) (suc j) o h = let e : m - suc j ≡ suc m - suc (suc j) = omega arith in down-at f m j o (omega arith) ∙ ap f e
+map-slot : {X : Type 0} (f : ℕ → X) (m j : ℕ) (o : X) → j < m → getD (map f (downFrom m)) j o ≡ f (m - suc j)
+map-slot f m j o h = map-at f 0 o (downFrom m) j (omega (arith, down-long m)) ∙ ap f (down-at m j h)
 
 map-down : {X : Type 0} (f g : ℕ → X) (m : ℕ) → ((i : ℕ) → i < m → f i ≡ g i) → map f (downFrom m) ≡ map g (downFrom m)
 map-down f g zero h = refl
@@ -101,23 +66,23 @@ module _ {s : Shape} {a d : ℕ} (e : Ends s a d) where
 -- there are k + 1, and the one at place j is that of slot k - j
 pub arrays-count : (s : Shape) (a d : ℕ) → length (builtArrays s a d) ≡ suc (s .k)
 unfolding builtArrays
-arrays-count s a d = down-long (λ i. builtBytes s i a d) (suc (s .k))
+arrays-count s a d = map-long (λ i. builtBytes s i a d) (suc (s .k))
 
 pub routes-count : (s : Shape) (a d : ℕ) → length (builtRoutes s a d) ≡ suc (s .k)
 unfolding builtRoutes
-routes-count s a d = down-long (λ i. builtRoute s i a d) (suc (s .k))
+routes-count s a d = map-long (λ i. builtRoute s i a d) (suc (s .k))
 
 pub arrays-at : (s : Shape) (a d j : ℕ) → j ≤ s .k → getD (builtArrays s a d) j [] ≡ builtBytes s (s .k - j) a d
 unfolding builtArrays
 arrays-at s a d j h =
     let e : suc (s .k) - suc j ≡ s .k - j = omega arith in
-    down-at (λ i. builtBytes s i a d) (suc (s .k)) j [] (omega arith) ∙ ap (λ (i : ℕ). builtBytes s i a d) e
+    map-slot (λ i. builtBytes s i a d) (suc (s .k)) j [] (omega arith) ∙ ap (λ (i : ℕ). builtBytes s i a d) e
 
 pub routes-at : (s : Shape) (a d j : ℕ) → j ≤ s .k → getD (builtRoutes s a d) j [] ≡ builtRoute s (s .k - j) a d
 unfolding builtRoutes
 routes-at s a d j h =
     let e : suc (s .k) - suc j ≡ s .k - j = omega arith in
-    down-at (λ i. builtRoute s i a d) (suc (s .k)) j [] (omega arith) ∙ ap (λ (i : ℕ). builtRoute s i a d) e
+    map-slot (λ i. builtRoute s i a d) (suc (s .k)) j [] (omega arith) ∙ ap (λ (i : ℕ). builtRoute s i a d) e
 
 -- ---- the theorem of the built routes, by their places in the list
 
@@ -146,7 +111,7 @@ gather-start {s} {a} {d} e r p =
     let q : suc (s .k) - 0 ≡ suc (s .k) = omega arith in
     ap₂ (λ (x : RouteSet) (m : ℕ). gathered x (map (λ i. builtBytes s i a d) (downFrom m))) p q
     ∙ gathered-set (map (λ i. builtBytes s i a d) (downFrom (suc (s .k)))) (arrays-eight e)
-    (omega (arith, down-long (λ i. builtBytes s i a d) (suc (s .k)), e .source .valid .levels))
+    (omega (arith, map-long (λ i. builtBytes s i a d) (suc (s .k)), e .source .valid .levels))
 
 gather-down : (s : Shape) (a d : ℕ) (r : RouteSet) (m : ℕ) (x : List ℕ) → x ≡ builtBytes s m a d → (y : RouteSet) → y ≡ added r x → gathered y (map (λ i. builtBytes s i a d) (downFrom m)) ≡ gathered r (map (λ i. builtBytes s i a d) (downFrom (suc m)))
 unfolding gathered

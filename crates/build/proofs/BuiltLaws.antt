@@ -9,13 +9,14 @@ use native.Mathlib.Decide.{ℕ-discrete}
 use borrow.Author.Tests.{eq-eqb, ne-eqb, eqb-true, leb-true}
 use lib.Dec.{T, eqb, leb}
 use lib.ListN.{length, getD, drop, length-map}
+use Rattle.lists.specs.Lists.{Once, middle, filled}
+use Rattle.lists.proofs.ListLaws.{All, all-drop, all-take}
 use Rattle.room.specs.declared.Shape.{Shape}
 use Rattle.room.specs.Shapes.{Server}
 use Rattle.room.specs.Addresses.{digit, differing, Neighbours}
-use Rattle.path.specs.Lists.{Once, middle, filled}
 use Rattle.path.specs.Routes.{levelTo, switchesOf, encode, Route, RouteTo, Parallel}
 use Rattle.build.specs.Built.{builtHops, metBy, builtRoute, builtBytes}
-use Rattle.build.proofs.ListLaws.{and-left, and-right, or-right, T-true, All, all-drop, all-take, once, apart, once-map, apart-map, inner, middle-map}
+use Rattle.build.proofs.ListLaws.{and-left, and-right, or-right, T-true, once, apart, once-map, apart-map, inner, middle-map}
 use Rattle.build.proofs.Symbolic.{Word, zerosB, hopsB, metB, leftB, lastB, fitsB, sameWord, sameSwitch, count, route-holds, count-holds, pair-holds}
 use Rattle.build.proofs.Lift.{liftHop}
 use Rattle.build.proofs.HopLaws.{all-live, Fits, usedBy, met-long, met-first, met-servers, met-next, switches-met, bytes-met}

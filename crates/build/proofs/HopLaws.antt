@@ -8,12 +8,12 @@ use native.Mathlib.Omega.{arith}
 use native.Mathlib.Nat.{le-of-suc-le-suc, zero-div, zero-mod, div-le-self}
 use lib.Dec.{eqb}
 use lib.ListN.{length, getD}
+use Rattle.lists.specs.Lists.{inTurn}
 use Rattle.room.specs.declared.Shape.{Shape}
 use Rattle.room.specs.Shapes.{serversOf, bound, Server, Link, Value}
 use Rattle.room.specs.Addresses.{digit, withDigit, switchOf, switchesAt, Neighbours, Beside}
 use Rattle.room.proofs.RoomLaws.{with-server, with-same, with-beside, neighbours-exactly, switch-lt, switch-same}
 use Rattle.links.specs.Table.{bit, failed, live}
-use Rattle.path.specs.Lists.{inTurn}
 use Rattle.path.specs.Routes.{byteOf, switchAt, levelTo, switchTo, byteTo, switchesOf}
 use Rattle.build.specs.Built.{metBy, bytesOf}
 

@@ -1,16 +1,15 @@
 -- Small laws of lists: tests that hold of all elements, nothing twice, nothing in both.
-use Prim.Native.Nat.{ℕ, zero, suc, _+_, _-_, _≤_, _<_}
-use mathlib.Core.Path.{_≡_, refl, sym, ap, _∙_, subst}
+use Prim.Native.Nat.{ℕ, zero, suc, _-_, _<_}
+use mathlib.Core.Path.{_≡_, refl, sym, ap, subst}
 use mathlib.Core.Logic.{_≢_}
 use mathlib.Core.Bool.{Bool, true, false, not, _&&_, _||_}
-use mathlib.Core.List.{List, [], _∷_, _++_, map}
+use mathlib.Core.List.{List, [], _∷_, map}
 use native.Mathlib.Omega.{arith}
 use native.Mathlib.Nat.{le-of-suc-le-suc}
 use lib.Dec.{T, T-not}
-use native.Mathlib.Numerals.{add-one}
-use lib.ListN.{length, getD, take, drop, set, replicate, length-map, take-append-drop}
-use lib.Seq.{length-take-le, drop-set-lt, drop-drop, take-suc-set}
-use Rattle.path.specs.Lists.{Once, Apart, middle, filled}
+use lib.ListN.{length, getD, take, drop, length-map}
+use Rattle.lists.specs.Lists.{Once, Apart, middle}
+use Rattle.lists.proofs.ListLaws.{All}
 
 -- ---- tests
 pub and-left : (a b : Bool) → T (a && b) → T a
@@ -40,27 +39,7 @@ or-none : (a b : Bool) → T (not (a || b)) → T (not a) × T (not b)
 or-none true b h = (h, absurd h)
 or-none false b h = (tt, h)
 
--- ---- what holds of each element
 module _ {X : Type 0} where
-  abbrev pub All : (X → Type 0) → List X → Type 0
-  All P [] = Unit {0}
-  All P (x ∷ xs) = P x × All P xs
-
-  -- a test that each element passes
-  abbrev pub every : (X → Bool) → List X → Bool
-  every f [] = true
-  every f (x ∷ xs) = f x && every f xs
-
-  pub all-drop : (P : X → Type 0) (n : ℕ) (xs : List X) → All P xs → All P (drop n xs)
-  all-drop P zero xs a = a
-  all-drop P (suc n) [] a = a
-  all-drop P (suc n) (x ∷ xs) a = all-drop P n xs (a .1)
-
-  pub all-take : (P : X → Type 0) (n : ℕ) (xs : List X) → All P xs → All P (take n xs)
-  all-take P zero xs a = tt
-  all-take P (suc n) [] a = tt
-  all-take P (suc n) (x ∷ xs) a = (a .0, all-take P n xs (a .1))
-
   -- ---- nothing twice, nothing in both, by a test `same`
   module _ (same : X → X → Bool) where
     abbrev pub among : X → List X → Bool
@@ -124,29 +103,3 @@ pub middle-map : {X : Type 0} (f : X → ℕ) (xs : List X) → middle (map f xs
 unfolding middle
 middle-map f xs =
     rw (length-map xs f, drop-map f 1 xs) (take-map f (length xs - 2) (drop 1 xs))
-
--- ---- lists in more places than they fill
-pub drop-zeros : (n m : ℕ) → drop {A = ℕ} n (replicate m 0) ≡ replicate (m - n) 0
-drop-zeros zero m = let e : m ≡ m - 0 = omega arith in ap (λ (x : ℕ). replicate {A = ℕ} x 0) e
-drop-zeros (suc n) zero = let e : 0 ≡ 0 - suc n = omega arith in ap (λ (x : ℕ). replicate {A = ℕ} x 0) e
-drop-zeros (suc n) (suc m) = let e : m - n ≡ suc m - suc n = omega arith in drop-zeros n m ∙ ap (λ (x : ℕ). replicate {A = ℕ} x 0) e
-
--- n places that hold zeros after the first m
-pub filled-is : (n : ℕ) (l : List ℕ) (m : ℕ) → m ≤ n → length l ≡ n → drop m l ≡ replicate (n - m) 0 → filled n (take m l) ≡ l
-unfolding filled
-filled-is n l m h e r =
-    let q : m ≤ length l = omega arith in
-    rw (length-take-le m l q, ← r) (take-append-drop m l)
-
--- one more of them filled
-pub rest-on : (n : ℕ) (l : List ℕ) (m x : ℕ) → drop m l ≡ replicate (n - m) 0 → drop (m + 1) (set l m x) ≡ replicate (n - (m + 1)) 0
-rest-on n l m x r =
-    let e : n - m - 1 ≡ n - (m + 1) = omega arith in
-    drop-set-lt (m + 1) l m x (omega arith)
-    ∙ sym (drop-drop 1 m l)
-    ∙ ap (drop 1) r
-    ∙ drop-zeros 1 (n - m)
-    ∙ ap (λ (x : ℕ). replicate {A = ℕ} x 0) e
-
-pub taken-on : (l : List ℕ) (m x : ℕ) → m < length l → take (m + 1) (set l m x) ≡ take m l ++ (x ∷ [])
-taken-on l m x h = rw (add-one m, take-suc-set l m x h)

@@ -11,6 +11,8 @@ use borrow.Author.Tests.{eq-eqb, ne-eqb, eqb-true, leb-true}
 use lib.Dec.{T, eqb, leb}
 use lib.ListN.{length, getD, set, length-set, length-replicate}
 use lib.Seq.{ext-getD}
+use Rattle.lists.proofs.ListLaws.{All}
+use Rattle.lists.proofs.ListLaws.{same-at}
 use Rattle.room.specs.declared.Shape.{Shape}
 use Rattle.room.specs.Shapes.{bound, Valid, Server, Link}
 use Rattle.room.specs.Digits.{addressOf}
@@ -18,11 +20,11 @@ use Rattle.room.specs.Addresses.{digits, digit, withDigit, differing, Written}
 use Rattle.room.proofs.RoomLaws.{bound-two, digits-long, digit-lt, digit-past, read-back, write-back, written-server, same-digits}
 use Rattle.path.specs.Routes.{switchAt}
 use Rattle.build.specs.Built.{plusOne, routeOver, builtHops, metBy}
-use Rattle.build.proofs.ListLaws.{and-left, and-right, T-true, T-false, true-T, All}
+use Rattle.build.proofs.ListLaws.{and-left, and-right, T-true, T-false, true-T}
 use Rattle.build.proofs.Symbolic.{Word, zerosB, hopsB, metB, leftB, lastB, fitsB, sameWord, sameBut, sameSwitch, count}
 use Rattle.build.proofs.Lift.{lift, liftHop, length-lift, set-lift, getD-lift, route-lift}
 use Rattle.build.proofs.HopLaws.{switch-at-level, switch-at-same, Fits, usedBy}
-use Rattle.build.proofs.Words.{beq-true, beq-same, both, word-same, word-but, pattern, pattern-long, pattern-at, pattern-count, count-none, not-false, zeros-at}
+use Rattle.build.proofs.Words.{beq-true, beq-same, both, word-same, word-but, pattern, pattern-long, pattern-at, pattern-count, count-none, not-false}
 
 -- ---- a digit + 1 is another value of its level
 
@@ -102,7 +104,7 @@ module _ (s : Shape) (a d : ℕ) (ha : Server s a) (hd : Server s d) where
   source =
       ext-getD 0 (lift (val s a d) (zerosB (s .k))) (digits s a)
       (length-lift (val s a d) (zerosB (s .k)) ∙ zeros-long ∙ sym (digits-long s a))
-      (λ l p. lift-at (zerosB (s .k)) zeros-long l ∙ ap (val s a d l) (zeros-at (suc (s .k)) l))
+      (λ l p. lift-at (zerosB (s .k)) zeros-long l ∙ ap (val s a d l) (same-at false (suc (s .k)) l))
 
   target-at : (l : ℕ) (b : Bool) → b ≡ not (eqb (digit s l a) (digit s l d)) → val s a d l b ≡ digit s l d
   target-at l b e =
@@ -129,7 +131,7 @@ module _ (s : Shape) (a d : ℕ) (ha : Server s a) (hd : Server s d) where
 
   detour-at : (i : ℕ) → Bool·beq (getD (zerosB (s .k)) i false) (getD (ends s a d) i false) ≡ true → plusOne s i (val s a d i (getD (zerosB (s .k)) i false)) ≡ val s a d i (not (getD (zerosB (s .k)) i false))
   detour-at i e =
-      let z = zeros-at (suc (s .k)) i in
+      let z = same-at false (suc (s .k)) i in
       let f : not (eqb (digit s i a) (digit s i d)) ≡ false =
       sym (ends-at i) ∙ sym (beq-true (getD (zerosB (s .k)) i false) (getD (ends s a d) i false) e) ∙ z in
       rw (z, not-false (eqb (digit s i a) (digit s i d)) f)

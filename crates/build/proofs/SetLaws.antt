@@ -10,10 +10,10 @@ use borrow.Author.Tests.{lt-ltb, le-ltb}
 use native.Mathlib.Decide.{decLt}
 use lib.ListN.{length, getD, set, take, drop, replicate, length-append, length-drop, List·getD-append}
 use lib.Seq.{take-at, drop-at, drop-append-add, take-all, length-take-le, getD-take, getD-drop, getD-append-add, ext-getD, paste, paste-suc}
-use Rattle.path.specs.Lists.{filled}
+use Rattle.lists.specs.Lists.{filled}
+use Rattle.lists.proofs.ListLaws.{All, all-snoc, length-snoc, drop-zeros}
 use Rattle.build.specs.declared.RouteSet.{RouteSet}
 use Rattle.build.specs.Sets.{emptySet, placed, added, arrayAt, joined, setOf}
-use Rattle.build.proofs.ListLaws.{All, drop-zeros}
 
 abbrev pub setFrom : List ℕ → ℕ → RouteSet
 setFrom bytes count = record { bytes = bytes; count = count }
@@ -132,14 +132,6 @@ unfolding joined
 joined-snoc [] x = append-nil x
 joined-snoc (y ∷ xs) x = ap (λ (r : List ℕ). y ++ r) (joined-snoc xs x) ∙ sym (append-assoc y (joined xs) x)
 
-all-snoc : {X : Type 0} (P : X → Type 0) (xs : List X) (x : X) → All P xs → P x → All P (xs ++ (x ∷ []))
-all-snoc P [] x a p = (p, tt)
-all-snoc P (y ∷ xs) x a p = (a .0, all-snoc P xs x (a .1) p)
-
-length-snoc : {X : Type 0} (xs : List X) (x : X) → length (xs ++ (x ∷ [])) ≡ length xs + 1
-length-snoc [] x = refl
-length-snoc (y ∷ xs) x = omega (arith, length-snoc xs x)
-
 -- eight bytes put right after the first bytes of a list that holds zeros from there on
 placed-filled : (js x : List ℕ) → length x ≡ 8 → length js + 8 ≤ 32 → placed (length js) x (filled 32 js) ≡ filled 32 (js ++ x)
 unfolding placed filled
@@ -155,7 +147,7 @@ added-set xs x a e h =
     let p : placed (8 * length xs) x (filled 32 (joined xs)) ≡ filled 32 (joined (xs ++ (x ∷ []))) =
     ap (λ (m : ℕ). placed m x (filled 32 (joined xs))) (sym j) ∙ placed-filled (joined xs) x e (omega arith) ∙ ap (filled 32) (sym (joined-snoc xs x)) in
     sym (added-more (setFrom (filled 32 (joined xs)) (length xs)) x _ h refl)
-    ∙ ap₂ setFrom p (sym (length-snoc xs x))
+    ∙ ap₂ setFrom p (omega (arith, length-snoc xs x))
 
 gather-on : (xs ys : List (List ℕ)) → All (λ y. length y ≡ 8) xs → All (λ y. length y ≡ 8) ys → length xs + length ys ≤ 4 → gathered (setOf xs) ys ≡ setOf (xs ++ ys)
 unfolding gathered

@@ -9,15 +9,15 @@ use borrow.Author.Tests.{eq-eqb, ne-eqb}
 use lib.Dec.{eqb}
 use lib.ListN.{length, getD, set, take, drop, replicate, length-set}
 use lib.Seq.{set-append-left}
+use Rattle.lists.specs.Lists.{filled}
+use Rattle.lists.proofs.ListLaws.{filled-at, pad-at, filled-is, rest-on, taken-on}
 use Rattle.room.specs.declared.Shape.{Shape}
 use Rattle.room.specs.Shapes.{Server}
-use Rattle.room.specs.Digits.{padded, Below}
+use Rattle.room.specs.Digits.{Below}
 use Rattle.room.specs.Addresses.{digits}
-use Rattle.room.proofs.RoomLaws.{digits-long, written-digits, padded-below, padded-at, pad-at}
-use Rattle.path.specs.Lists.{filled}
+use Rattle.room.proofs.RoomLaws.{digits-long, written-digits, padded-below}
 use Rattle.path.specs.Routes.{byteOf}
 use Rattle.build.specs.Built.{next, round, firstIn, lastIn, correct, routeOver, plusOne, builtHops, bytesOf, builtBytes}
-use Rattle.build.proofs.ListLaws.{filled-is, rest-on, taken-on}
 
 -- ---- the order
 
@@ -121,24 +121,24 @@ route-as s i x x' y y' p q t =
     (correct-as (firstIn (s .k) i) x x' y y' p q)
     ∙ ap₂ (λ (u w : ℕ). cond (eqb u w) ((i, plusOne s i u) ∷ correct eqb 0 (lastIn (s .k) i) (set x' i (plusOne s i u)) y') (correct eqb 0 (firstIn (s .k) i) x' y')) (p i) (q i)
 
-set-padded : (ds : List ℕ) (i v : ℕ) → i < length ds → (l : ℕ) → getD (set (padded ds) i v) l 0 ≡ getD (set ds i v) l 0
-unfolding padded
+set-padded : (ds : List ℕ) (i v : ℕ) → i < length ds → (l : ℕ) → getD (set (filled 4 ds) i v) l 0 ≡ getD (set ds i v) l 0
+unfolding filled
 set-padded ds i v h l =
     ap (λ (z : List ℕ). getD z l 0) (set-append-left ds (replicate (4 - length ds) 0) i v h)
     ∙ pad-at (set ds i v) (4 - length ds) l
 
 -- the route between digits in four places is the built route
-pub laid-built : (s : Shape) (i a d : ℕ) → i ≤ s .k → (x y : List ℕ) → x ≡ padded (digits s a) → y ≡ padded (digits s d) → (r : List ℕ) → r ≡ laid s i x y → r ≡ builtBytes s i a d
+pub laid-built : (s : Shape) (i a d : ℕ) → i ≤ s .k → (x y : List ℕ) → x ≡ filled 4 (digits s a) → y ≡ filled 4 (digits s d) → (r : List ℕ) → r ≡ laid s i x y → r ≡ builtBytes s i a d
 unfolding builtBytes builtHops
 laid-built s i a d h x y ex ey r e =
     let q : i < length (digits s a) = omega (arith, digits-long s a) in
     e
     ∙ ap₂ (laid s i) ex ey
     ∙ ap (λ (z : List (ℕ × ℕ)). filled 8 (bytesOf z))
-    (route-as s i (padded (digits s a)) (digits s a) (padded (digits s d)) (digits s d) (padded-at (digits s a)) (padded-at (digits s d)) (λ v. set-padded (digits s a) i v q))
+    (route-as s i (filled 4 (digits s a)) (digits s a) (filled 4 (digits s d)) (digits s d) (filled-at 4 (digits s a)) (filled-at 4 (digits s d)) (λ v. set-padded (digits s a) i v q))
 
 -- each of the four is below 64
-pub places-small : {s : Shape} {a : ℕ} → Server s a → (x : List ℕ) → x ≡ padded (digits s a) → Below 64 x
+pub places-small : {s : Shape} {a : ℕ} → Server s a → (x : List ℕ) → x ≡ filled 4 (digits s a) → Below 64 x
 places-small {s} {a} h x e =
     let b = padded-below (h .valid) (written-digits h) in
     record { at = λ i p. rw e (omega (arith, b .at i (rw (← e) p), h .valid .ports)) }

@@ -10,8 +10,10 @@ use native.Mathlib.Decide.{ℕ-discrete}
 use borrow.Author.Tests.{ne-eqb}
 use lib.Dec.{T, eqb, leb}
 use lib.ListN.{length, getD, set, replicate}
-use Rattle.build.specs.Built.{downFrom, routeOver}
-use Rattle.build.proofs.ListLaws.{and-left, and-right, or-right, every, once, apart, inner}
+use Rattle.lists.specs.Lists.{downFrom}
+use Rattle.lists.proofs.ListLaws.{every}
+use Rattle.build.specs.Built.{routeOver}
+use Rattle.build.proofs.ListLaws.{and-left, and-right, or-right, once, apart, inner}
 
 abbrev pub Word : Type 0
 Word = List Bool

@@ -1,6 +1,6 @@
 -- Each public function's contract determines its answer: whatever meets it on some arguments is the one answer to them.
 use mathlib.Core.Path.{_∙_, sym}
-use Rattle.room.specs.Determined.{Determined}
+use Rattle.refusals.specs.Determined.{Determined}
 use Rattle.build.proofs.RouteSet.new.Reads as new
 use Rattle.build.proofs.RouteSet.new.Kinds as new-kinds
 use Rattle.build.proofs.RouteSet.with_route.Reads as with-route

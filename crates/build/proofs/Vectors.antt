@@ -3,44 +3,44 @@ use Prim.Native.Nat.{ℕ, suc, _-_}
 use mathlib.Core.Path.{_≡_, refl}
 use mathlib.Core.List.{List, [], _∷_, _++_}
 use lib.ListN.{take}
-use Rattle.room.specs.Shapes.{shapeOf, serversOf, bound}
+use Rattle.lists.specs.Lists.{filled, downFrom}
+use Rattle.refusals.specs.Refusals.{_or-else_}
+use Rattle.room.specs.Shapes.{serversOf, bound, fullRoom}
 use Rattle.room.specs.Digits.{digitsOf, addressOf}
 use Rattle.room.specs.Addresses.{digits, withDigit}
-use Rattle.room.specs.Refusals.{shapeRefusal, serverRefusal, pairRefusal, _or-else_}
-use Rattle.path.specs.Lists.{filled}
+use Rattle.room.specs.Refusals.{shapeRefusal, serverRefusal, pairRefusal, endsRefusal}
 use Rattle.path.specs.Routes.{byteOf}
-use Rattle.path.specs.Answers.{endsRefusal}
 use Rattle.build.specs.Answers.{noBuilding, buildAnswer}
-use Rattle.build.specs.Built.{downFrom, firstIn, lastIn, plusOne, builtHops, metBy, bytesOf, builtRoute, builtBytes, builtRoutes, builtArrays}
+use Rattle.build.specs.Built.{firstIn, lastIn, plusOne, builtHops, metBy, bytesOf, builtRoute, builtBytes, builtRoutes, builtArrays}
 
 -- Figure 4: (8,3), 1 to 521
-pub figure-4 : builtArrays (shapeOf 8 3) 1 521 ≡
+pub figure-4 : builtArrays (fullRoom 8 3) 1 521 ≡
     (193 ∷ 65 ∷ 0 ∷ 0 ∷ 0 ∷ 0 ∷ 0 ∷ 0 ∷ []) ∷ (129 ∷ 65 ∷ 193 ∷ 128 ∷ 0 ∷ 0 ∷ 0 ∷ 0 ∷ []) ∷ (65 ∷ 193 ∷ 0 ∷ 0 ∷ 0 ∷ 0 ∷ 0 ∷ 0 ∷ []) ∷ (2 ∷ 193 ∷ 65 ∷ 1 ∷ 0 ∷ 0 ∷ 0 ∷ 0 ∷ []) ∷ []
 unfolding builtArrays builtBytes builtHops bytesOf byteOf filled plusOne bound digits digitsOf
 figure-4 = refl
 
 -- the servers that they meet: 0001, 1001, 1011, and so on
-pub figure-4-servers : builtRoutes (shapeOf 8 3) 1 521 ≡
+pub figure-4-servers : builtRoutes (fullRoom 8 3) 1 521 ≡
     (1 ∷ 513 ∷ 521 ∷ []) ∷ (1 ∷ 65 ∷ 73 ∷ 585 ∷ 521 ∷ []) ∷ (1 ∷ 9 ∷ 521 ∷ []) ∷ (1 ∷ 2 ∷ 514 ∷ 522 ∷ 521 ∷ []) ∷ []
 unfolding builtRoutes builtRoute builtHops metBy plusOne bound withDigit digits digitsOf addressOf
 figure-4-servers = refl
 
 -- (4,1), 00 to 13
-pub testbed : builtArrays (shapeOf 4 1) 0 7 ≡ (65 ∷ 3 ∷ 0 ∷ 0 ∷ 0 ∷ 0 ∷ 0 ∷ 0 ∷ []) ∷ (3 ∷ 65 ∷ 0 ∷ 0 ∷ 0 ∷ 0 ∷ 0 ∷ 0 ∷ []) ∷ []
+pub testbed : builtArrays (fullRoom 4 1) 0 7 ≡ (65 ∷ 3 ∷ 0 ∷ 0 ∷ 0 ∷ 0 ∷ 0 ∷ 0 ∷ []) ∷ (3 ∷ 65 ∷ 0 ∷ 0 ∷ 0 ∷ 0 ∷ 0 ∷ 0 ∷ []) ∷ []
 unfolding builtArrays builtBytes builtHops bytesOf byteOf filled plusOne bound digits digitsOf
 testbed = refl
 
 -- (2,0), 1 to 0: eight zero bytes, and one hop
-pub smallest : builtArrays (shapeOf 2 0) 1 0 ≡ (0 ∷ 0 ∷ 0 ∷ 0 ∷ 0 ∷ 0 ∷ 0 ∷ 0 ∷ []) ∷ []
+pub smallest : builtArrays (fullRoom 2 0) 1 0 ≡ (0 ∷ 0 ∷ 0 ∷ 0 ∷ 0 ∷ 0 ∷ 0 ∷ 0 ∷ []) ∷ []
 unfolding builtArrays builtBytes builtHops bytesOf byteOf filled plusOne bound digits digitsOf
 smallest = refl
 
-pub one-hop : builtHops (shapeOf 2 0) 0 1 0 ≡ (0, 0) ∷ []
+pub one-hop : builtHops (fullRoom 2 0) 0 1 0 ≡ (0, 0) ∷ []
 unfolding builtHops plusOne bound digits digitsOf
 one-hop = refl
 
 -- (2,0), 0 to 0: refusal 5
-pub same-ends : buildAnswer (shapeOf 2 0) 0 0 ≡ noBuilding 5
+pub same-ends : buildAnswer (fullRoom 2 0) 0 0 ≡ noBuilding 5
 unfolding buildAnswer endsRefusal pairRefusal serverRefusal shapeRefusal serversOf _or-else_
 same-ends = refl
 

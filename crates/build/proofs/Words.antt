@@ -8,7 +8,7 @@ use native.Mathlib.Omega.{arith}
 use native.Mathlib.Decide.{ℕ-discrete}
 use borrow.Author.Tests.{eq-eqb, ne-eqb}
 use lib.Dec.{T, eqb}
-use lib.ListN.{length, getD, replicate}
+use lib.ListN.{length, getD}
 use Rattle.room.specs.Digits.{differFrom}
 use Rattle.build.proofs.ListLaws.{and-left, and-right, T-true}
 use Rattle.build.proofs.Symbolic.{Word, sameWord, sameBut, count}
@@ -91,8 +91,3 @@ count-none (false ∷ p) e (suc l) = count-none p e l
 pub not-false : (b : Bool) → not b ≡ false → b ≡ true
 not-false true e = refl
 not-false false e = sym e
-
-pub zeros-at : (m l : ℕ) → getD (replicate m false) l false ≡ false
-zeros-at zero l = refl
-zeros-at (suc m) zero = refl
-zeros-at (suc m) (suc l) = zeros-at m l

@@ -1,9 +1,8 @@
 -- What building answers. On a refusal all but the refusal is zero.
 use Prim.Native.Nat.{ℕ}
+use Rattle.refusals.specs.Refusals.{none, plain, answer}
 use Rattle.room.specs.declared.Shape.{Shape}
-use Rattle.room.specs.Refusals.{none, plain}
-use Rattle.room.specs.Answers.{answer}
-use Rattle.path.specs.Answers.{endsRefusal}
+use Rattle.room.specs.Refusals.{endsRefusal}
 use Rattle.build.specs.declared.Building.{Building}
 use Rattle.build.specs.declared.RouteSet.{RouteSet}
 use Rattle.build.specs.Built.{builtArrays}

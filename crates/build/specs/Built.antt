@@ -4,10 +4,10 @@ use mathlib.Core.List.{List, [], _∷_, map}
 use mathlib.Core.Bool.{Bool, cond}
 use lib.Dec.{eqb}
 use lib.ListN.{getD, set}
+use Rattle.lists.specs.Lists.{filled}
 use Rattle.room.specs.declared.Shape.{Shape}
 use Rattle.room.specs.Shapes.{bound}
 use Rattle.room.specs.Addresses.{digits, withDigit}
-use Rattle.path.specs.Lists.{filled}
 use Rattle.path.specs.Routes.{byteOf}
 
 -- m-1, .. , 0

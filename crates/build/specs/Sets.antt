@@ -4,7 +4,7 @@ use mathlib.Core.List.{List, [], _∷_, _++_}
 use mathlib.Core.Bool.{cond}
 use lib.Dec.{ltb}
 use lib.ListN.{length, take, drop, replicate}
-use Rattle.path.specs.Lists.{filled}
+use Rattle.lists.specs.Lists.{filled}
 use Rattle.build.specs.declared.RouteSet.{RouteSet}
 
 -- the set that holds no array

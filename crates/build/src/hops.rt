@@ -1,8 +1,8 @@
 // Digits, bounds and hops of a room that has been tested.
 ghost use mathlib.Core.Path.{_≡_};
 ghost use Prim.Native.Nat.{_≤_, _<_};
+ghost use Rattle.lists.specs.Lists.{filled};
 ghost use Rattle.room.specs.Shapes.{Valid, Server};
-ghost use Rattle.room.specs.Digits.{padded};
 ghost use Rattle.room.specs.Addresses.{digits};
 ghost use Rattle.path.specs.Routes.{byteOf};
 ghost use Rattle.build.specs.Built.{next, plusOne};
@@ -13,7 +13,7 @@ use room::digits_of;
 // The digits of a server in four places, digit 0 at place 0.
 pub(crate) fn places_of(shape: Shape, server: usize) -> [usize; 4]
     requires { ⌜ Server shape server ⌝ }
-    ensures { λ r. ⌜ r ≡ padded (digits shape server) ⌝ }
+    ensures { λ r. ⌜ r ≡ filled 4 (digits shape server) ⌝ }
 {
     digits_of(shape, server).places
 }

@@ -2,7 +2,7 @@
 ghost use mathlib.Core.Path.{_≡_};
 ghost use Rattle.build.specs.Sets.{emptySet, added};
 use crate::places::placed_at;
-use room::Refusal;
+use refusals::Refusal;
 // routes.rt: all the built routes of two servers
 mod routes;
 // hops.rt: digits, bounds and hops of a room that has been tested

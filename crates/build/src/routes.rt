@@ -1,6 +1,6 @@
 // All the built routes of two servers.
 ghost use mathlib.Core.Path.{_≡_};
-ghost use Rattle.path.specs.Answers.{endsRefusal};
+ghost use Rattle.room.specs.Refusals.{endsRefusal};
 ghost use Rattle.build.specs.Built.{builtArrays};
 ghost use Rattle.build.specs.Sets.{setOf};
 ghost use Rattle.build.specs.Answers.{noBuilding, buildAnswer};
@@ -8,9 +8,9 @@ use crate::Building;
 use crate::RouteSet;
 use crate::hops::places_of;
 use crate::slots::route_bytes;
-use path::ends_refusal;
-use room::Refusal;
+use refusals::Refusal;
 use room::Shape;
+use room::ends_refusal;
 
 // The answer that carries a refusal and zeros.
 fn no_building(refusal: usize) -> Building

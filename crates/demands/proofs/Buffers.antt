@@ -5,15 +5,16 @@ use mathlib.Core.Bool.{Bool, true, false, cond}
 use mathlib.Core.List.{List, [], _∷_}
 use native.Mathlib.Omega.{arith}
 use lib.Dec.{lit<}
-use Rattle.room.specs.declared.Refusal.{Refusal}
+use Rattle.refusals.specs.declared.Refusal.{Refusal}
+use Rattle.refusals.specs.Refusals.{answer}
 use Rattle.room.specs.Refusals.{shapeRefusal}
-use Rattle.room.specs.Answers.{answer, betweenAnswer}
+use Rattle.room.specs.Answers.{betweenAnswer}
 use Rattle.links.specs.Servers.{serverAnswer, markedServer, clearedServer}
-use Rattle.links.specs.Answers.{failedAnswer, linkAnswer, markedTable, clearedTable}
+use Rattle.links.specs.Answers.{failedAnswer, linkAnswer, changedTable}
 use Rattle.step.specs.declared.Step.{Step}
 use Rattle.step.specs.Steps.{stepAnswer}
 use Rattle.driver.specs.declared.Answer.{Answer}
-use Rattle.driver.specs.Words.{word, refusalIn, valueIn, Small, left, betweenWord, askedWord}
+use Rattle.driver.specs.Words.{word, refusalIn, Small, left, betweenWord, askedWord}
 use Rattle.driver.proofs.WordLaws.{refusal-back, value-back, plain-small, left-given, left-lent}
 use Rattle.driver.proofs.BoundLaws.{shape-le}
 use Rattle.driver.proofs.RoomSmall.{servers-small, bound-small, switches-small, server-at-small, server-fits, digit-small, address-small, neighbour-small, switch-small, between-level, between-fits, digits-fits, asked-fits, link-fits}
@@ -128,7 +129,7 @@ changed zero t u = record { written = λ e. refl; kept = λ n. absurd (n refl) }
 changed (suc q) t u = record { written = λ e. let z : ⊥ = omega arith in absurd z; kept = λ n. refl }
 
 pub every-buffer : EveryBuffer
-unfolding linkAnswer markedTable clearedTable serverAnswer markedServer clearedServer
+unfolding linkAnswer changedTable serverAnswer markedServer clearedServer
 every-buffer =
     record {
       marked = λ s t a l. changed _ t _;

@@ -1,32 +1,33 @@
 -- Demand 2, proved: the route set, and what building answers.
 use Prim.Native.Nat.{ℕ, zero, suc, _+_, _-_, _*_, _%_, _≤_, _<_}
-use mathlib.Core.Path.{_≡_, refl, sym, ap, ap₂, subst, _∙_}
+use mathlib.Core.Path.{_≡_, refl, sym, ap, subst, _∙_}
 use mathlib.Core.Logic.{_≢_}
 use mathlib.Core.Bool.{Bool, true, false, cond, _||_}
-use mathlib.Core.List.{List, [], _∷_, _++_, map}
+use mathlib.Core.List.{List, [], _∷_, _++_}
 use native.Mathlib.Omega.{arith}
 use native.Mathlib.Numerals.{add-one}
 use native.Mathlib.Nat.{mod-self, mod-eq-of-lt}
 use native.Mathlib.Decide.{decLt}
 use borrow.Author.Tests.{eq-eqb, ne-eqb, eqb-false}
 use lib.Dec.{eqb}
-use lib.ListN.{length, getD, set, drop, replicate}
+use lib.ListN.{length, getD, set}
 use lib.Seq.{getD-set-same, getD-set-other}
+use Rattle.lists.specs.Lists.{isIn, filled, downFrom}
+use Rattle.refusals.proofs.AnswerLaws.{answered}
 use Rattle.room.specs.declared.Shape.{Shape}
-use Rattle.room.specs.Shapes.{bound, Server}
+use Rattle.room.specs.Shapes.{bound, Ends}
 use Rattle.room.specs.Addresses.{digits, digit}
-use Rattle.room.proofs.RefusalLaws.{answered}
-use Rattle.room.proofs.RoomLaws.{digits-long, digit-lt, bound-two}
-use Rattle.path.specs.Lists.{isIn, filled}
+use Rattle.room.proofs.RoomLaws.{digits-long, digit-lt}
+use Rattle.room.specs.Refusals.{endsRefusal}
+use Rattle.room.proofs.RefusalLaws.{ends-of}
 use Rattle.path.specs.Routes.{byteOf}
-use Rattle.path.specs.Answers.{endsRefusal}
 use Rattle.build.specs.declared.RouteSet.{RouteSet}
 use Rattle.build.specs.declared.Building.{Building}
-use Rattle.build.specs.Built.{downFrom, firstIn, lastIn, correct, routeOver, plusOne, builtHops, bytesOf, builtRoute, builtBytes, builtArrays}
-use Rattle.build.specs.Sets.{added, arrayAt, setOf}
+use Rattle.build.specs.Built.{firstIn, lastIn, correct, plusOne, builtHops, bytesOf, builtRoute, builtBytes, builtArrays}
+use Rattle.build.specs.Sets.{arrayAt, setOf}
 use Rattle.build.specs.Answers.{noBuilding, aBuilding, buildAnswer}
 use Rattle.build.proofs.SetLaws.{added-full, added-is, added-array, added-others, placed-long, set-array, set-rest}
-use Rattle.build.proofs.ArrayLaws.{Ends, ends-of, arrays-eight, arrays-count, arrays-at}
+use Rattle.build.proofs.ArrayLaws.{arrays-eight, arrays-count, arrays-at}
 use Rattle.build.proofs.BuiltLaws.{built-route, built-encode, built-direct, built-detour, built-short, route-long}
 use Rattle.demands.specs.Demand2.{AddingExactly, above, wrong, corrections, BuiltArray, BuiltSet, BuiltExactly}
 

@@ -3,34 +3,34 @@ use Prim.Native.Nat.{ℕ, suc, _-_, _≤_, _<_}
 use mathlib.Core.Path.{_≡_, refl, sym, ap, _∙_, subst}
 use mathlib.Core.Logic.{_↔_, _⊎_, inl, inr}
 use mathlib.Core.Bool.{Bool, true, false, _||_}
-use mathlib.Core.List.{List, [], _∷_, List·Memᴰ as In, List·Memᴰ·head, List·Memᴰ·eq-of-singleton}
+use mathlib.Core.List.{List, [], _∷_, List·Memᴰ·head, List·Memᴰ·eq-of-singleton}
 use native.Mathlib.Omega.{arith}
 use lib.ListN.{length, getD, set}
 use lib.Seq.{set-set}
+use Rattle.lists.specs.Lists.{isIn, middle}
+use Rattle.lists.proofs.ListLaws.{in-exactly, at-in, turn-at, length-turn, length-middle, middle-at}
+use Rattle.refusals.specs.declared.Refusal.{Refusal}
+use Rattle.refusals.proofs.AnswerLaws.{answer-none}
 use Rattle.room.specs.declared.Shape.{Shape}
-use Rattle.room.specs.declared.Refusal.{Refusal}
 use Rattle.room.specs.Shapes.{bound, Valid, Server, Link}
-use Rattle.room.specs.Addresses.{digit, switchOf, switchesAt, Beside, Neighbours}
+use Rattle.room.specs.Addresses.{switchOf, switchesAt, Beside, Neighbours}
 use Rattle.room.specs.Answers.{aNumber}
 use Rattle.room.specs.Wiring.{serverAt, Port, switchesAnswer, serverAtAnswer}
-use Rattle.room.proofs.RefusalLaws.{level-none, answer-none}
+use Rattle.room.proofs.RefusalLaws.{level-none}
 use Rattle.room.proofs.RoomLaws.{switches-power, switch-same, same-switch}
 use Rattle.room.proofs.WiringLaws.{port-none, port-server, port-switch, port-digit, port-back}
 use Rattle.links.specs.Table.{failed, TableOf}
 use Rattle.links.specs.Servers.{markedServer, clearedServer, allBits}
 use Rattle.links.proofs.ServerLaws.{table-server-none, mark-server-dead, clear-server-live, mark-server-other, clear-server-other, mark-server-table, clear-server-table}
-use Rattle.path.specs.Lists.{isIn, middle}
 use Rattle.path.specs.Routes.{byteOf, switchAt, levelTo, switchTo, switchesOf, Route, RouteTo, Parallel}
 use Rattle.path.specs.Bytes.{Made}
-use Rattle.path.proofs.ListLaws.{in-exactly, at-in, turn-at, length-turn, length-middle, middle-at}
 use Rattle.path.proofs.HopLaws.{switch-id, level-only}
 use Rattle.path.proofs.ByteLaws.{made-parts, parts-made}
 use Rattle.laying.specs.Avoids.{Avoids}
 use Rattle.laying.specs.Laid.{takes, taken, Laid}
-use Rattle.laying.specs.Answers.{Lays}
 use Rattle.laying.proofs.LayLaws.{lay-exactly}
 use Rattle.laying.proofs.LaidLaws.{laid-exactly}
-use Rattle.demands.specs.Calls.{EveryPort, WholeServer, EveryByte, TakesUp, LaidInto, LaysExactly}
+use Rattle.demands.specs.Calls.{EveryPort, WholeServer, EveryByte, TakesUp, LaysExactly}
 
 -- ---- switches and their ports
 

@@ -7,10 +7,9 @@ use mathlib.Core.List.{List, [], _∷_, _++_}
 use native.Mathlib.Omega.{arith}
 use lib.Dec.{ltb, leb, eqb}
 use borrow.Author.Tests.{lt-ltb, ltb-true, le-leb, leb-true, eq-eqb, ne-eqb, eqb-true, eqb-false, not-true}
-use Rattle.room.specs.Refusals.{_or-else_, _unless_}
-use Rattle.room.specs.Answers.{answer}
-use Rattle.room.proofs.RefusalLaws.{both-held}
-use Rattle.path.specs.Lists.{isIn}
+use Rattle.lists.proofs.ListLaws.{both-held}
+use Rattle.lists.specs.Lists.{isIn}
+use Rattle.refusals.specs.Refusals.{_or-else_, _unless_, answer}
 use Rattle.demands.specs.Demand1.{OneOf, nought, listed}
 use Rattle.demands.specs.Tests.{Tests, Refused, Number, Exactly, Hold, Others, ChainMeans}
 

@@ -1,5 +1,5 @@
 -- Demand 1, proved: what each call can refuse with, from what it refuses exactly.
-use Prim.Native.Nat.{ℕ, zero, suc, _+_, _-_, _/_, _%_, _≤_, _<_}
+use Prim.Native.Nat.{ℕ, zero, suc, _+_, _-_, _/_, _≤_, _<_}
 use mathlib.Core.Path.{_≡_, refl, sym, ap, _∙_, subst}
 use mathlib.Core.Logic.{_≢_, inl, inr}
 use mathlib.Core.Bool.{Bool, true, false, cond}
@@ -8,28 +8,29 @@ use native.Mathlib.Omega.{arith}
 use native.Mathlib.Decide.{decLt, ℕ-discrete}
 use lib.Dec.{eqb}
 use lib.ListN.{length, getD, replicate, length-append, List·getD-eq-default}
+use Rattle.lists.specs.Lists.{isIn, inTurn}
+use Rattle.lists.proofs.ListLaws.{length-turn}
+use Rattle.refusals.specs.declared.Refusal.{Refusal}
+use Rattle.refusals.specs.Refusals.{none, plain, refusedAt, _or-else_, answer}
 use Rattle.room.specs.declared.Shape.{Shape}
-use Rattle.room.specs.declared.Refusal.{Refusal}
-use Rattle.room.specs.Refusals.{none, plain, refusedAt, shapeRefusal, levelRefusal, serverRefusal, pairRefusal, linkRefusal, valueRefusal, placesRefusal, _or-else_}
+use Rattle.room.specs.Refusals.{shapeRefusal, levelRefusal, serverRefusal, pairRefusal, linkRefusal, valueRefusal, placesRefusal, endsRefusal}
 use Rattle.room.specs.Addresses.{differing}
-use Rattle.room.specs.Answers.{answer, onlyLevel, serversAnswer, boundAnswer, digitsAnswer, digitAnswer, addressAnswer, switchAnswer, neighbourAnswer, betweenAnswer}
+use Rattle.room.specs.Answers.{onlyLevel, serversAnswer, boundAnswer, digitsAnswer, digitAnswer, addressAnswer, switchAnswer, neighbourAnswer, betweenAnswer}
 use Rattle.room.specs.Wiring.{portRefusal, switchesAnswer, serverAtAnswer}
-use Rattle.links.specs.Table.{tableLinkRefusal}
+use Rattle.links.specs.Table.{tableLinkRefusal, roomRefusal}
 use Rattle.links.specs.Answers.{failedAnswer}
 use Rattle.path.specs.Bytes.{madeRefusal, byteAnswer, partsRefusal, noParts, someParts, partsAnswer}
-use Rattle.path.specs.Lists.{isIn, inTurn}
-use Rattle.path.specs.Routes.{byteTo, switchesOf, encode}
+use Rattle.path.specs.Routes.{byteTo, switchesOf, encode, levelOf, valueOf}
 use Rattle.path.specs.Walks.{Walk, stopped, arrived, walk, hopTo, hopRefusal, fault}
-use Rattle.path.specs.Answers.{noHop, aHop, hopAnswer, endsRefusal, arrayRefusal, noWalk, walked, walkAnswer, reading, readAnswer, noWriting, aWriting, reversed, reverseAnswer, writeRefusal, written, onTheWay, writeAnswer}
-use Rattle.path.proofs.ListLaws.{length-turn}
+use Rattle.path.specs.Answers.{noHop, aHop, hopAnswer, arrayRefusal, noWalk, walked, walkAnswer, reading, readAnswer, noWriting, aWriting, reversed, reverseAnswer, writeRefusal, written, onTheWay, writeAnswer}
 use Rattle.verdict.specs.Checks.{checkAnswer}
 use Rattle.build.specs.Sets.{emptySet}
 use Rattle.build.specs.Answers.{buildAnswer}
 use Rattle.laying.specs.Answers.{Lays}
 use Rattle.finder.specs.declared.Found.{Found}
-use Rattle.finder.specs.Answers.{findRefusal, Finding}
+use Rattle.finder.specs.Answers.{Finding}
 use Rattle.select.specs.declared.Selection.{Selection}
-use Rattle.select.specs.Selection.{selectRefusal, selection, Selecting}
+use Rattle.select.specs.Selection.{selection, Selecting}
 use Rattle.pick.specs.Picks.{Source, inFresh, inKept, nowhere, pickSource, pickRefusal, pickAnswer}
 use Rattle.pick.specs.Places.{placeOf, placeAnswer}
 use Rattle.pick.proofs.UsableLaws.{array-long}
@@ -93,7 +94,7 @@ module _ (s : Shape) where
       (λ n e. hop-of (8 ∷ 9 ∷ []) (1 ∷ 2 ∷ 3 ∷ 8 ∷ 9 ∷ []) n 1 1 refl refl e (omega arith) (omega arith) (omega arith) (omega arith)) (λ h. none-of))
       (meets (refused-exactly .parts-of s b)))
       (bare-answer (λ x. x .refusal) noParts (λ r. refl) plain (shapeRefusal s) _
-      (bare-answer (λ x. x .refusal) noParts (λ r. refl) (λ r. refusedAt r 1 1) (partsRefusal s b) (someParts (b / 64) (b % 64)) (bare-none (λ x. x .refusal) noParts (λ r. refl) (someParts (b / 64) (b % 64)) refl)))
+      (bare-answer (λ x. x .refusal) noParts (λ r. refl) (λ r. refusedAt r 1 1) (partsRefusal s b) (someParts (levelOf b) (valueOf b)) (bare-none (λ x. x .refusal) noParts (λ r. refl) (someParts (levelOf b) (valueOf b)) refl)))
 
   bare-walked : (w : Walk) → walked w .refusal .number ≢ 0 → walked w ≡ noWalk (walked w .refusal)
   bare-walked (stopped r h) n = refl
@@ -177,8 +178,8 @@ module _ (s : Shape) where
   unfolding isIn
   find-route t a d x f =
       refuses _ _ (λ r. refl) 0 _ x (whole-of 0 _ (roomTests s t a d) (λ r. r ≡ none) _ refl refl (λ k. none-of) (meets (refused-exactly .find-route s t a d x f)))
-      (elim (ℕ-discrete (findRefusal s t a d) 0) [
-        | no n ↦ bare-is (λ y. y .refusal) bare (λ r. refl) x (plain (findRefusal s t a d)) (f .refused n)
+      (elim (ℕ-discrete (roomRefusal s t a d) 0) [
+        | no n ↦ bare-is (λ y. y .refusal) bare (λ r. refl) x (plain (roomRefusal s t a d)) (f .refused n)
         | yes z ↦ elim (ℕ-discrete (x .hops) 0) [
           | yes o ↦ bare-is (λ y. y .refusal) bare (λ r. refl) x none (f .none z o .0)
           | no o ↦ bare-none (λ y. y .refusal) bare (λ r. refl) x (ap (λ (y : Found). y .refusal) (f .given z (omega arith) .answer))
@@ -196,8 +197,8 @@ module _ (s : Shape) where
   unfolding isIn
   select-routes t a d x f =
       refuses _ _ (λ r. refl) 0 _ x (whole-of 0 _ (selectTests s t a d) (λ r. r ≡ none) _ refl refl (λ k. none-of) (meets (refused-exactly .select-routes s t a d x f)))
-      (elim (ℕ-discrete (selectRefusal s t a d) 0) [
-        | no n ↦ bare-is (λ y. y .refusal) (λ r. record { refusal = r; routes = emptySet }) (λ r. refl) x (plain (selectRefusal s t a d)) (f .refused n)
+      (elim (ℕ-discrete (roomRefusal s t a d) 0) [
+        | no n ↦ bare-is (λ y. y .refusal) (λ r. record { refusal = r; routes = emptySet }) (λ r. refl) x (plain (roomRefusal s t a d)) (f .refused n)
         | yes z ↦ subst (λ (y : Selection). y .refusal .number ≢ 0 → y ≡ record { refusal = y .refusal; routes = emptySet }) (sym (f .given z .answer)) (bare-selection (f .given z .routes))
       ])
 

@@ -9,24 +9,27 @@ use lib.Dec.{eqb}
 use lib.ListN.{length, getD, take, drop}
 use lib.Seq.{take-take}
 use borrow.Author.Tests.{eq-eqb, ne-eqb, eqb-true}
+use Rattle.lists.specs.Lists.{filled}
+use Rattle.lists.proofs.ListLaws.{in-exactly, at-in, take-filled}
+use Rattle.refusals.specs.Refusals.{none, _or-else_}
+use Rattle.refusals.proofs.ChainLaws.{or-else-zero}
+use Rattle.refusals.proofs.AnswerLaws.{answered}
 use Rattle.room.specs.declared.Shape.{Shape}
 use Rattle.room.specs.Shapes.{Server, Link}
 use Rattle.room.specs.Addresses.{switchOf}
-use Rattle.room.specs.Refusals.{none, serverRefusal, _or-else_}
-use Rattle.room.proofs.RefusalLaws.{or-else-zero, server-of, answered}
+use Rattle.room.specs.Refusals.{serverRefusal}
+use Rattle.room.proofs.RefusalLaws.{server-of}
 use Rattle.room.proofs.RoomLaws as rooms
 use Rattle.links.specs.declared.Asked.{Asked}
 use Rattle.links.specs.Table.{bit, failed, tableLinkRefusal}
 use Rattle.links.specs.Answers.{notAsked, asked, failedAnswer, linkAnswer}
 use Rattle.links.proofs.TableLaws as tables
-use Rattle.links.proofs.AnswerLaws.{marked-answered, cleared-answered, mark-again, clear-again}
+use Rattle.links.proofs.AnswerLaws.{changed-answered, change-again}
 use Rattle.path.specs.declared.Hop.{Hop}
 use Rattle.path.specs.declared.Reading.{Reading}
-use Rattle.path.specs.Lists.{filled}
 use Rattle.path.specs.Routes.{byteOf, switchTo, byteTo}
 use Rattle.path.specs.Walks.{hopTo, hopRefusal}
 use Rattle.path.specs.Answers.{noHop, aHop, hopAnswer}
-use Rattle.path.proofs.ListLaws.{in-exactly, at-in, take-filled}
 use Rattle.path.proofs.HopLaws.{switch-id, hop-exactly, hop-server, hop-neighbours, level-only}
 use Rattle.path.proofs.CodecLaws as codec
 use Rattle.select.proofs.HeldLaws.{eight-bytes}
@@ -124,32 +127,32 @@ pub marking : Marking
 unfolding linkAnswer
 marking s t a l z =
     let p = tables.table-link-of s t a l z in
-    let e = marked-answered (p .0) (p .1) in (
+    let e = changed-answered true (p .0) (p .1) in (
       subst (Changes s t a l true) (sym e)
           (record {
-            own = tables.marked-own a l t (omega (arith, p .0 .server .below, p .1 .long));
-            other = λ b m q. tables.marked-other a l b m t q;
-            bytes = λ b q. tables.marked-byte a l b t q;
-            long = tables.marked-long a l t;
-            table = tables.marked-table (p .1) a l (p .0 .level);
+            own = tables.changed-own true a l t (omega (arith, p .0 .server .below, p .1 .long));
+            other = λ b m q. tables.changed-other true a l b m t q;
+            bytes = λ b q. tables.changed-byte true a l b t q;
+            long = tables.changed-long true a l t;
+            table = tables.changed-table true (p .1) a l (p .0 .level);
           }),
-      mark-again s t a l,
+      change-again true true s t a l,
     )
 
 pub clearing : Clearing
 unfolding linkAnswer
 clearing s t a l z =
     let p = tables.table-link-of s t a l z in
-    let e = cleared-answered (p .0) (p .1) in (
+    let e = changed-answered false (p .0) (p .1) in (
       subst (Changes s t a l false) (sym e)
           (record {
-            own = tables.cleared-own a l t (omega (arith, p .0 .server .below, p .1 .long));
-            other = λ b m q. tables.cleared-other a l b m t q;
-            bytes = λ b q. tables.cleared-byte a l b t q;
-            long = tables.cleared-long a l t;
-            table = tables.cleared-table (p .1) a l;
+            own = tables.changed-own false a l t (omega (arith, p .0 .server .below, p .1 .long));
+            other = λ b m q. tables.changed-other false a l b m t q;
+            bytes = λ b q. tables.changed-byte false a l b t q;
+            long = tables.changed-long false a l t;
+            table = tables.changed-table false (p .1) a l (p .0 .level);
           }),
-      clear-again s t a l,
+      change-again false false s t a l,
     )
 
 -- ---- one forwarding step

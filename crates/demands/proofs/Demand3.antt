@@ -6,39 +6,42 @@ use mathlib.Core.Bool.{Bool, true, false, cond}
 use mathlib.Core.List.{List, [], _∷_, _++_, map}
 use native.Mathlib.Omega.{arith}
 use native.Mathlib.Decide.{ℕ-discrete, decLt}
-use native.Mathlib.Nat.{le-of-suc-le-suc, le-refl, zero-add, suc-add, one-le-pow}
+use native.Mathlib.Nat.{le-of-suc-le-suc, le-refl, zero-add, suc-add}
 use lib.Dec.{eqb, lit<}
-use lib.ListN.{length, getD, take, drop, replicate, length-append, length-replicate, List·getD-append, List·getD-eq-default}
+use lib.ListN.{length, getD, take, drop, replicate, length-append, List·getD-append, List·getD-eq-default}
 use lib.Seq.{take-at, getD-append-seam}
+use Rattle.lists.specs.Lists.{filled, downFrom}
+use Rattle.lists.proofs.ListLaws.{take-filled}
+use Rattle.refusals.specs.declared.Refusal.{Refusal}
+use Rattle.refusals.specs.Refusals.{none, plain}
+use Rattle.refusals.proofs.ChainLaws.{chain-goes, or-else-zero}
+use Rattle.refusals.proofs.AnswerLaws.{answered}
 use Rattle.room.specs.declared.Shape.{Shape}
-use Rattle.room.specs.declared.Refusal.{Refusal}
-use Rattle.room.specs.Shapes.{serversOf}
-use Rattle.room.specs.Refusals.{none, plain}
-use Rattle.room.proofs.RefusalLaws.{chain-goes, or-else-zero, answered}
-use Rattle.links.specs.Table.{live, tableRefusal}
-use Rattle.links.proofs.TableLaws.{table-none, failed-zeros}
+use Rattle.room.specs.Shapes.{serversOf, Ends}
+use Rattle.room.specs.Refusals.{endsRefusal}
+use Rattle.room.proofs.RefusalLaws.{ends-of, ends-none}
+use Rattle.links.specs.Table.{live, tableRefusal, roomRefusal}
+use Rattle.links.proofs.TableLaws.{table-none, zeros-table, failed-zeros}
 use Rattle.path.specs.declared.Reading.{Reading}
-use Rattle.path.specs.Lists.{filled}
-use Rattle.path.specs.Routes.{RouteTo, Parallel, Encodes, encode}
+use Rattle.path.specs.Routes.{RouteTo, Parallel, Encodes, encode, levelOf}
 use Rattle.path.specs.Walks.{hopTo}
-use Rattle.path.specs.Answers.{endsRefusal, readAnswer}
-use Rattle.path.proofs.ListLaws.{take-filled}
+use Rattle.path.specs.Answers.{readAnswer}
 use Rattle.path.proofs.ReverseLaws.{source-server, dest-server, ends-differ, route-to-plain}
-use Rattle.path.proofs.CodecLaws.{Ends, ends-of, ends-none, encode-long, read-given}
-use Rattle.verdict.specs.Checks.{roomRefusal, listRefusal, checkAnswer}
+use Rattle.path.proofs.CodecLaws.{encode-long, read-given}
+use Rattle.verdict.specs.Checks.{listRefusal, checkAnswer}
 use Rattle.verdict.specs.Accepted.{encodeAll, Accepted}
 use Rattle.verdict.proofs.AcceptLaws.{accepted-of, of-accepted, encoded-long}
 use Rattle.build.specs.declared.Building.{Building}
-use Rattle.build.specs.Built.{downFrom, builtRoute, builtBytes, builtArrays}
+use Rattle.build.specs.Built.{builtRoute, builtBytes, builtArrays}
 use Rattle.build.specs.Sets.{joined, setOf, held}
 use Rattle.build.specs.Answers.{buildAnswer, noBuilding, aBuilding}
 use Rattle.build.proofs.ArrayLaws.{arrays-count}
 use Rattle.build.proofs.BuiltLaws.{built-route, built-encode, built-parallel}
 use Rattle.select.proofs.SelectLaws.{selection-checked}
 use Rattle.step.specs.Steps.{entry, flagAt}
-use Rattle.driver.specs.Packed.{flagOf}
 use Rattle.step.specs.Delivery.{Tables}
 use Rattle.step.proofs.DeliveryLaws.{each-hop, then-delivered}
+use Rattle.driver.specs.Packed.{flagOf}
 use Rattle.demands.specs.Demand3.{arrayAt, serversRead, AcceptedExactly, Healthy, HealthyExists, BuiltAccepted, TablesExist, SelectionAccepted, Delivers, Delivery}
 
 -- a list that is accepted is not refused as a whole
@@ -53,7 +56,7 @@ accepted-room : (s : Shape) (t : List ℕ) (a d : ℕ) (bs : List ℕ) → table
 unfolding roomRefusal
 accepted-room s t a d bs e h =
     let r = h .each 0 (h .some) in
-    sym (chain-goes _ _ _ _ (ends-none (record { source = source-server r; dest = dest-server r; differ = ends-differ r })) refl (sym e))
+    sym (chain-goes _ _ _ _ (ends-none (record { source = source-server r; destination = dest-server r; differ = ends-differ r })) refl (sym e))
 
 pub accepted-exactly : AcceptedExactly
 accepted-exactly s t a d bs = (
@@ -85,15 +88,10 @@ healthy-exists s v =
     let n = serversOf s in (
       replicate n 0,
       record {
-        table = sym (table-none (record { long = length-replicate {A = ℕ} n 0; small = λ a. rw (zeros-at n a) (one-le-pow (suc (s .k)) 2 (lit< tt)) }));
+        table = sym (table-none (zeros-table s));
         all = λ a l. failed-zeros n a l;
       },
     )
-  where
-    zeros-at : (m a : ℕ) → _≡_ {A = ℕ} (getD (replicate m 0) a 0) 0
-    zeros-at zero a = refl
-    zeros-at (suc m) zero = refl
-    zeros-at (suc m) (suc a) = zeros-at m a
 
 -- a list over the slots m - 1 down to 0
 slot-at : {A : Type 0} (f : ℕ → A) (m i : ℕ) (x : A) → i < m → getD (map f (downFrom m)) i x ≡ f (m - suc i)
@@ -114,7 +112,7 @@ joined-encoded s a d (suc m) h =
 
 pub built-list : (s : Shape) (t : List ℕ) (a d : ℕ) → Ends s a d → Healthy s t → Accepted s t a d (joined (builtArrays s a d))
 unfolding builtArrays
-built-list s t a d e h = record { routes = R; some = omega (arith, R-long); most = omega (arith, R-long); bytes = joined-encoded s a d (suc (s .k)) (λ i p. built-encode s a d (e .source) (e .dest) (e .differ) i (le-of-suc-le-suc p)); each = each; apart = apart }
+built-list s t a d e h = record { routes = R; some = omega (arith, R-long); most = omega (arith, R-long); bytes = joined-encoded s a d (suc (s .k)) (λ i p. built-encode s a d (e .source) (e .destination) (e .differ) i (le-of-suc-le-suc p)); each = each; apart = apart }
   where
     R : List (List ℕ)
     R = map (λ i. builtRoute s i a d) (downFrom (suc (s .k)))
@@ -126,12 +124,12 @@ built-list s t a d e h = record { routes = R; some = omega (arith, R-long); most
     R-at i p = slot-at (λ i. builtRoute s i a d) (suc (s .k)) i [] (omega (arith, R-long))
 
     each : (i : ℕ) → i < length R → RouteTo s t a d (getD R i [])
-    each i p = rw (R-at i p) (healthy-route h (built-route s a d (e .source) (e .dest) (e .differ) (suc (s .k) - suc i) (omega arith)))
+    each i p = rw (R-at i p) (healthy-route h (built-route s a d (e .source) (e .destination) (e .differ) (suc (s .k) - suc i) (omega arith)))
 
     apart : (i j : ℕ) → i < j → j < length R → Parallel s (getD R i []) (getD R j [])
     apart i j p q =
         rw (R-at i (omega arith), R-at j q)
-        (built-parallel s a d (e .source) (e .dest) (e .differ) (suc (s .k) - suc i) (suc (s .k) - suc j) (omega arith) (omega arith) (λ z. omega (arith, R-long)))
+        (built-parallel s a d (e .source) (e .destination) (e .differ) (suc (s .k) - suc i) (suc (s .k) - suc j) (omega arith) (omega arith) (λ z. omega (arith, R-long)))
 
 -- the list of the arrays that building puts into a set
 joined-long : (s : Shape) (a d m : ℕ) → ((i : ℕ) → i < m → length (builtBytes s i a d) ≡ 8) → length (joined (map (λ i. builtBytes s i a d) (downFrom m))) ≡ 8 * m
@@ -150,8 +148,8 @@ built-held s a d e =
     long : (i : ℕ) → i < suc (s .k) → length (builtBytes s i a d) ≡ 8
     long i p =
         let q = le-of-suc-le-suc p in
-        sym (ap length (built-encode s a d (e .source) (e .dest) (e .differ) i q))
-        ∙ encode-long s (builtRoute s i a d) (built-route s a d (e .source) (e .dest) (e .differ) i q .route .few)
+        sym (ap length (built-encode s a d (e .source) (e .destination) (e .differ) i q))
+        ∙ encode-long s (builtRoute s i a d) (built-route s a d (e .source) (e .destination) (e .differ) i q .route .few)
 
 pub built-accepted : BuiltAccepted
 unfolding roomRefusal buildAnswer setOf
@@ -193,13 +191,13 @@ up-at f (suc m) j h =
 pub tableFor : Shape → List ℕ → ℕ → List ℕ
 tableFor s t a = upTo (λ j. cond (eqb (j % 8) 7) (flagOf (live t (j / 8 / 64) a (hopTo s a (j / 8)))) 0) 2048
 
-table-flag : (s : Shape) (t : List ℕ) (a b : ℕ) → b < 256 → flagAt (tableFor s t a) b ≡ flagOf (live t (b / 64) a (hopTo s a b))
+table-flag : (s : Shape) (t : List ℕ) (a b : ℕ) → b < 256 → flagAt (tableFor s t a) b ≡ flagOf (live t (levelOf b) a (hopTo s a b))
 unfolding flagAt entry tableFor
 table-flag s t a b h =
     let m : (8 * b + 7) % 8 ≡ 7 = omega arith in
     let n : (8 * b + 7) / 8 ≡ b = omega arith in
     up-at _ 2048 (8 * b + 7) (omega arith)
-    ∙ ap₂ (λ (x y : ℕ). cond (eqb x 7) (flagOf (live t (y / 64) a (hopTo s a y))) 0) m n
+    ∙ ap₂ (λ (x y : ℕ). cond (eqb x 7) (flagOf (live t (levelOf y) a (hopTo s a y))) 0) m n
 
 table-bytes : (s : Shape) (t : List ℕ) (a j : ℕ) → getD (tableFor s t a) j 0 < 256
 unfolding tableFor
@@ -226,9 +224,9 @@ tables-exist s t = (
     one true = (λ e. refl, λ e. refl)
     one false = (λ e. let z : ⊥ = omega arith in absurd z, λ e. let z : _≡_ {A = ℕ} 0 1 = cc in let n : ⊥ = omega arith in absurd n)
 
-    flags : (a b : ℕ) → b < 256 → (flagAt (tableFor s t a) b ≡ 1) ↔ (live t (b / 64) a (hopTo s a b) ≡ true)
+    flags : (a b : ℕ) → b < 256 → (flagAt (tableFor s t a) b ≡ 1) ↔ (live t (levelOf b) a (hopTo s a b) ≡ true)
     flags a b p =
-        let q = one (live t (b / 64) a (hopTo s a b)) in
+        let q = one (live t (levelOf b) a (hopTo s a b)) in
         (λ e. q .0 (sym (table-flag s t a b p) ∙ e), λ e. table-flag s t a b p ∙ q .1 e)
 
 -- bytes that are those of a route over live links

@@ -1,5 +1,5 @@
 -- Each call gives exactly the refusal of the first test that fails, proved.
-use Prim.Native.Nat.{ℕ, zero, suc, _+_, _/_, _%_, _<_}
+use Prim.Native.Nat.{ℕ, zero, suc, _+_, _/_, _<_}
 use mathlib.Core.Path.{_≡_, refl, sym, ap, _∙_, subst}
 use mathlib.Core.Logic.{_≢_, _↔_, _⊎_, inl, inr}
 use mathlib.Core.Bool.{Bool, true, false, cond}
@@ -9,37 +9,38 @@ use native.Mathlib.Decide.{ℕ-discrete}
 use lib.Dec.{ltb, eqb}
 use lib.ListN.{length, getD}
 use borrow.Author.Tests.{eq-eqb, ne-eqb, eqb-true}
+use Rattle.refusals.specs.declared.Refusal.{Refusal}
+use Rattle.refusals.specs.Refusals.{none, plain, refusedAt, _or-else_, _unless_, answer}
+use Rattle.refusals.proofs.AnswerLaws.{answer-none}
 use Rattle.room.specs.declared.Shape.{Shape}
-use Rattle.room.specs.declared.Refusal.{Refusal}
 use Rattle.room.specs.declared.Number.{Number as Numbered}
 use Rattle.room.specs.declared.Digits.{Digits}
 use Rattle.room.specs.declared.Switch.{Switch}
 use Rattle.room.specs.declared.Between.{Between}
 use Rattle.room.specs.Addresses.{differing}
-use Rattle.room.specs.Refusals.{none, plain, refusedAt, shapeRefusal, levelRefusal, serverRefusal, pairRefusal, linkRefusal, valueRefusal, placesRefusal, _or-else_, _unless_}
-use Rattle.room.specs.Answers.{answer, noNumber, noDigits, noSwitch, noBetween, onlyLevel, serversAnswer, boundAnswer, digitsAnswer, digitAnswer, addressAnswer, switchAnswer, neighbourAnswer, betweenAnswer}
+use Rattle.room.specs.Refusals.{shapeRefusal, levelRefusal, serverRefusal, pairRefusal, linkRefusal, valueRefusal, placesRefusal, endsRefusal}
+use Rattle.room.specs.Answers.{noNumber, noDigits, noSwitch, noBetween, onlyLevel, serversAnswer, boundAnswer, digitsAnswer, digitAnswer, addressAnswer, switchAnswer, neighbourAnswer, betweenAnswer}
 use Rattle.room.specs.Wiring.{portRefusal, switchesAnswer, serverAtAnswer}
-use Rattle.room.proofs.RefusalLaws.{answer-none}
 use Rattle.links.specs.declared.Asked.{Asked}
-use Rattle.links.specs.Table.{roomTableRefusal, tableLinkRefusal, TableOf}
+use Rattle.links.specs.Table.{roomTableRefusal, tableLinkRefusal, TableOf, roomRefusal, roomRefusal as layRoom}
 use Rattle.links.specs.Servers.{tableServerRefusal, serverAnswer}
 use Rattle.links.specs.Answers.{notAsked, failedAnswer, linkAnswer}
+use Rattle.path.specs.Routes.{levelOf, valueOf}
 use Rattle.path.specs.declared.Hop.{Hop}
 use Rattle.path.specs.declared.Parts.{Parts}
 use Rattle.path.specs.Bytes.{madeRefusal, byteAnswer, partsRefusal, noParts, someParts, partsAnswer}
 use Rattle.path.specs.declared.Walked.{Walked}
 use Rattle.path.specs.declared.Writing.{Writing}
 use Rattle.path.specs.Walks.{Walk, stopped, arrived, walk, hopTo, hopRefusal}
-use Rattle.path.specs.Answers.{noHop, aHop, hopAnswer, endsRefusal, arrayRefusal, noWalk, walked, walkAnswer, readAnswer, noWriting, reversed, reverseAnswer}
+use Rattle.path.specs.Answers.{noHop, aHop, hopAnswer, arrayRefusal, noWalk, walked, walkAnswer, readAnswer, noWriting, reversed, reverseAnswer}
 use Rattle.path.proofs.CodecLaws.{walk-exactly}
-use Rattle.verdict.specs.Checks.{roomRefusal}
 use Rattle.build.specs.declared.Building.{Building}
 use Rattle.build.specs.Answers.{noBuilding, buildAnswer}
-use Rattle.laying.specs.Answers.{roomRefusal as layRoom, layRefusal, Lays}
+use Rattle.laying.specs.Answers.{layRefusal, Lays}
 use Rattle.finder.specs.declared.Found.{Found}
-use Rattle.finder.specs.Answers.{findRefusal, Finding}
+use Rattle.finder.specs.Answers.{Finding}
 use Rattle.select.specs.declared.Selection.{Selection}
-use Rattle.select.specs.Selection.{selectRefusal, selection, Selecting}
+use Rattle.select.specs.Selection.{selection, Selecting}
 use Rattle.select.proofs.SlotLaws.{member-at}
 use Rattle.select.proofs.SelectLaws.{gives, none-selected-exactly}
 use Rattle.pick.specs.Picks.{usable, Source, inFresh, inKept, nowhere, found, listsRefusal, pickSource, missing, pickRefusal, pickAnswer, arrayAt}
@@ -126,7 +127,7 @@ parts-of s b =
     let Else : Refusal → Type 0 = Refused (λ n. refusedAt n 1 1) (partsTests s b) (λ r. r ≡ none) in
     exactly plain Else (shapeTests s) (partsAnswer s b .refusal) (λ y h f g. same (λ n. refusedAt n 1 1) (λ r. r ≡ none) (partsTests s b) _ y (λ k u v. u ∙ sym v) f g)
     (answers (λ (x : Parts). x .refusal) (λ r. noParts (plain r)) plain Else (shapeTests s) (shapeRefusal s) _ (λ r. refl) refl (shape-number s)
-    (λ h. answers (λ (x : Parts). x .refusal) (λ r. noParts (refusedAt r 1 1)) (λ n. refusedAt n 1 1) (λ r. r ≡ none) (partsTests s b) (partsRefusal s b) (someParts (b / 64) (b % 64)) (λ r. refl) refl (parts-number s b) (λ k. refl)))
+    (λ h. answers (λ (x : Parts). x .refusal) (λ r. noParts (refusedAt r 1 1)) (λ n. refusedAt n 1 1) (λ r. r ≡ none) (partsTests s b) (partsRefusal s b) (someParts (levelOf b) (valueOf b)) (λ r. refl) refl (parts-number s b) (λ k. refl)))
 
 -- ---- laying, finding and selecting
 
@@ -141,12 +142,12 @@ lay-route s t a d bs r u h =
     (λ k. skip plain (Refused plain read (Reads s [] a d bs)) (endsTests s a d) _ (front (endsTests s a d) ((6, TableOf s t) ∷ []) k) (split plain (Reads s [] a d bs) (endsTests s a d) read _ (read-path s a d bs _ .0 refl))))))
 
 find-route : (s : Shape) (t : List ℕ) (a d : ℕ) (x : Found) → Finding s t a d x → Exactly (x .refusal) (Whole (roomTests s t a d))
-unfolding findRefusal
+unfolding roomRefusal
 find-route s t a d x f =
     exactly plain (λ r. r ≡ none) (roomTests s t a d) (x .refusal) (λ y h e g. e ∙ sym g)
-    (declared (λ r. r ≡ none) (roomTests s t a d) (findRefusal s t a d) (x .refusal) refl (room-number s t a d) (λ n. ap (λ (y : Found). y .refusal) (f .refused n)) given)
+    (declared (λ r. r ≡ none) (roomTests s t a d) (roomRefusal s t a d) (x .refusal) refl (room-number s t a d) (λ n. ap (λ (y : Found). y .refusal) (f .refused n)) given)
   where
-    given : findRefusal s t a d ≡ 0 → x .refusal ≡ none
+    given : roomRefusal s t a d ≡ 0 → x .refusal ≡ none
     given z =
         elim (ℕ-discrete (x .hops) 0) [
           | yes o ↦ ap (λ (y : Found). y .refusal) (f .none z o .0)
@@ -154,13 +155,13 @@ find-route s t a d x f =
         ]
 
 select-routes : (s : Shape) (t : List ℕ) (a d : ℕ) (x : Selection) → Selecting s t a d x → Exactly (x .refusal) (Whole (selectTests s t a d))
-unfolding selectRefusal
+unfolding roomRefusal
 select-routes s t a d x f =
     exactly plain (λ r. r ≡ none) (selectTests s t a d) (x .refusal) (λ y h e g. e ∙ sym g)
     (join plain (λ r. r ≡ none) (roomTests s t a d) ((16, Joined s t a d) ∷ []) (x .refusal)
-    (declared (Whole ((16, Joined s t a d) ∷ [])) (roomTests s t a d) (selectRefusal s t a d) (x .refusal) refl (room-number s t a d) (λ n. ap (λ (y : Selection). y .refusal) (f .refused n)) given))
+    (declared (Whole ((16, Joined s t a d) ∷ [])) (roomTests s t a d) (roomRefusal s t a d) (x .refusal) refl (room-number s t a d) (λ n. ap (λ (y : Selection). y .refusal) (f .refused n)) given))
   where
-    given : selectRefusal s t a d ≡ 0 → Whole ((16, Joined s t a d) ∷ []) (x .refusal)
+    given : roomRefusal s t a d ≡ 0 → Whole ((16, Joined s t a d) ∷ []) (x .refusal)
     given z = go (f .given z .routes) (f .given z .answer)
       where
         go : (vss : List (List ℕ)) → x ≡ selection s vss → Whole ((16, Joined s t a d) ∷ []) (x .refusal)

@@ -1,5 +1,5 @@
 -- Why and where reading an array stops, proved.
-use Prim.Native.Nat.{ℕ, zero, suc, _+_, _-_, _/_, _≤_, _<_, suc-le-suc, zero-le}
+use Prim.Native.Nat.{ℕ, zero, suc, _+_, _-_, _≤_, _<_, suc-le-suc, zero-le}
 use mathlib.Core.Path.{_≡_, refl, sym, ap, ap₂, _∙_, subst}
 use mathlib.Core.Logic.{_≢_, inl, inr}
 use mathlib.Core.List.{List, [], _∷_, _++_}
@@ -9,18 +9,18 @@ use native.Mathlib.Decide.{ℕ-discrete}
 use lib.ListN.{length, getD, length-append}
 use lib.Seq.{append-snoc, getD-append-add, getD-append-seam}
 use borrow.Author.Tests.{eq-eqb, ne-eqb}
+use Rattle.lists.specs.Lists.{inTurn}
+use Rattle.lists.proofs.ListLaws.{length-snoc, snoc-last, snoc-at, turn-snoc, length-turn}
+use Rattle.refusals.specs.declared.Refusal.{Refusal}
+use Rattle.refusals.specs.Refusals.{refusedAt}
+use Rattle.refusals.proofs.AnswerLaws.{answer-none}
 use Rattle.room.specs.declared.Shape.{Shape}
-use Rattle.room.specs.declared.Refusal.{Refusal}
-use Rattle.room.specs.Shapes.{Server}
-use Rattle.room.specs.Refusals.{refusedAt}
-use Rattle.room.proofs.RefusalLaws.{answer-none}
-use Rattle.path.specs.Lists.{inTurn}
-use Rattle.path.specs.Routes.{switchAt, switchTo, byteTo, switchesOf, Prefix, RouteTo}
+use Rattle.room.specs.Shapes.{Server, Ends}
+use Rattle.path.specs.Routes.{switchAt, switchTo, byteTo, switchesOf, Prefix, RouteTo, levelOf}
 use Rattle.path.specs.Walks.{Walk, stopped, arrived, hopTo, fault, ended, walkFrom, walk}
 use Rattle.path.specs.Answers.{walked, walkAnswer}
-use Rattle.path.proofs.ListLaws.{length-snoc, snoc-last, snoc-at, turn-snoc, length-turn}
 use Rattle.path.proofs.HopLaws.{hop-byte, hop-switch}
-use Rattle.path.proofs.CodecLaws.{Ends, array-none, numberOf, arrived-encodes, encodes-walk}
+use Rattle.path.proofs.CodecLaws.{array-none, numberOf, arrived-encodes, encodes-walk}
 use Rattle.path.proofs.RouteLaws.{prefix-route, prefix-one, prefix-snoc, Step, switches-snoc, fault-step, walk-refused, walk-arrives, walk-goes, walk-there, walk-to}
 use Rattle.demands.specs.Refusals.{endOf, readTests, Along, Stops, hop-fails, never-arrives, goes-on, Reads}
 use Rattle.demands.proofs.Chains.{fails, failing}
@@ -57,7 +57,7 @@ module _ {s : Shape} {t : List ℕ} {a d : ℕ} {bs vs : List ℕ} {x b : ℕ} {
   server : Server s x
   server = subst (Server s) (g .here) (g .along .way .servers (length vs - 1) (omega (arith, g .along .way .some)))
 
-  on-used : switchesOf s on ≡ switchesOf s vs ++ (switchAt s (b / 64) x ∷ [])
+  on-used : switchesOf s on ≡ switchesOf s vs ++ (switchAt s (levelOf b) x ∷ [])
   on-used =
       switches-snoc s vs next (g .along .way .some)
       ∙ ap (λ (z : ℕ). switchesOf s vs ++ (switchTo s z next ∷ [])) (g .here)

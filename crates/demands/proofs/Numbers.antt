@@ -1,5 +1,5 @@
 -- The number that each chain of tests gives.
-use Prim.Native.Nat.{ℕ, zero, suc, _+_, _*_, _/_, _%_, _≤_, _<_, suc-le-suc, zero-le}
+use Prim.Native.Nat.{ℕ, zero, suc, _+_, _*_, _%_, _≤_, _<_, suc-le-suc, zero-le}
 use mathlib.Core.Path.{_≡_, refl, sym, ap, subst}
 use mathlib.Core.Logic.{_≢_, _↔_, inl}
 use mathlib.Core.Bool.{Bool, true, false, not, cond, _&&_}
@@ -10,24 +10,25 @@ use native.Mathlib.Decide.{decLt}
 use lib.Dec.{ltb, leb, eqb}
 use lib.ListN.{length, getD}
 use borrow.Author.Tests.{le-leb, lt-leb, not-true}
+use Rattle.lists.proofs.ListLaws.{both-held, in-missing, missing-in}
+use Rattle.lists.specs.Lists.{isIn}
+use Rattle.refusals.specs.Refusals.{_or-else_, _unless_}
+use Rattle.refusals.proofs.ChainLaws.{or-else-zero, chain-goes, test-held}
 use Rattle.room.specs.declared.Shape.{Shape}
-use Rattle.room.specs.Shapes.{serversOf, bound, Valid, Server}
+use Rattle.room.specs.Shapes.{serversOf, bound, Valid, Server, Ends}
 use Rattle.room.specs.Addresses.{digit, switchesAt, differing, Neighbours}
 use Rattle.room.specs.Wiring.{portRefusal}
-use Rattle.room.specs.Refusals.{shapeRefusal, levelRefusal, serverRefusal, pairRefusal, linkRefusal, valueRefusal, placeBound, placesFit, placesRefusal, _or-else_, _unless_}
-use Rattle.room.proofs.RefusalLaws.{or-else-zero, chain-goes, test-held, both-held, valid-none, Places, places-of, places-none}
+use Rattle.room.specs.Refusals.{shapeRefusal, levelRefusal, serverRefusal, pairRefusal, linkRefusal, valueRefusal, placeBound, placesFit, placesRefusal, endsRefusal}
+use Rattle.room.proofs.RefusalLaws.{valid-none, Places, places-of, places-none, ends-of}
 use Rattle.room.proofs.RoomLaws.{neighbours-exactly}
-use Rattle.links.specs.Table.{failed, live, bitsFit, tableRefusal, roomTableRefusal, tableLinkRefusal, TableOf}
+use Rattle.links.specs.Table.{failed, live, bitsFit, tableRefusal, roomTableRefusal, tableLinkRefusal, TableOf, roomRefusal}
 use Rattle.links.specs.Servers.{tableServerRefusal}
 use Rattle.links.proofs.TableLaws.{table-of, table-none, live-empty}
 use Rattle.path.specs.Bytes.{madeRefusal, partsRefusal}
-use Rattle.path.specs.Lists.{isIn}
-use Rattle.path.specs.Routes.{switchAt, switchTo, switchesOf}
+use Rattle.path.specs.Routes.{switchAt, switchTo, switchesOf, levelOf, valueOf}
 use Rattle.path.specs.Walks.{hopTo, hopRefusal, fault, single, writeFault}
-use Rattle.path.specs.Answers.{endsRefusal, arrayRefusal, serversRefusal, writeRefusal}
-use Rattle.path.proofs.ListLaws.{in-missing, missing-in}
-use Rattle.path.proofs.CodecLaws.{Ends, ends-of}
-use Rattle.verdict.specs.Checks.{roomRefusal, listRefusal}
+use Rattle.path.specs.Answers.{arrayRefusal, serversRefusal, writeRefusal}
+use Rattle.verdict.specs.Checks.{listRefusal}
 use Rattle.pick.specs.Picks.{fits, listsRefusal}
 use Rattle.step.specs.Steps.{flagAt, givenRefusal, byteRefusal}
 use Rattle.demands.specs.Tests.{Number, Hold}
@@ -109,9 +110,9 @@ module _ (s : Shape) where
   pub parts-number : (b : ℕ) → Number (partsTests s b) (partsRefusal s b)
   unfolding partsRefusal
   parts-number b =
-      chain ((8, b / 64 ≤ s .k) ∷ []) ((9, b % 64 < bound s (b / 64)) ∷ []) _ _ refl
-      (test 8 (leb (b / 64) (s .k)) (le (b / 64) (s .k)))
-      (λ h. test 9 (ltb (b % 64) (bound s (b / 64))) (lt (b % 64) (bound s (b / 64))))
+      chain ((8, levelOf b ≤ s .k) ∷ []) ((9, valueOf b < bound s (levelOf b)) ∷ []) _ _ refl
+      (test 8 (leb (levelOf b) (s .k)) (le (levelOf b) (s .k)))
+      (λ h. test 9 (ltb (valueOf b) (bound s (levelOf b))) (lt (valueOf b) (bound s (levelOf b))))
 
   fits-of : {ds : List ℕ} → Places s ds → Fits s ds
   unfolding placeBound
@@ -204,26 +205,26 @@ module _ (s : Shape) where
   pub hop-number : (a b : ℕ) → Number (hopTests s a b) (hopRefusal s a b)
   unfolding hopRefusal
   hop-number a b =
-      chain ((8, b / 64 ≤ s .k) ∷ (9, b % 64 < bound s (b / 64)) ∷ []) ((10, digit s (b / 64) a ≢ b % 64) ∷ []) _ _ refl
-      (chain ((8, b / 64 ≤ s .k) ∷ []) ((9, b % 64 < bound s (b / 64)) ∷ []) _ _ refl
-      (test 8 (leb (b / 64) (s .k)) (le (b / 64) (s .k)))
-      (λ h. test 9 (ltb (b % 64) (bound s (b / 64))) (lt (b % 64) (bound s (b / 64)))))
-      (λ h. test 10 (not (eqb (digit s (b / 64) a) (b % 64))) (ne (digit s (b / 64) a) (b % 64)))
+      chain ((8, levelOf b ≤ s .k) ∷ (9, valueOf b < bound s (levelOf b)) ∷ []) ((10, digit s (levelOf b) a ≢ valueOf b) ∷ []) _ _ refl
+      (chain ((8, levelOf b ≤ s .k) ∷ []) ((9, valueOf b < bound s (levelOf b)) ∷ []) _ _ refl
+      (test 8 (leb (levelOf b) (s .k)) (le (levelOf b) (s .k)))
+      (λ h. test 9 (ltb (valueOf b) (bound s (levelOf b))) (lt (valueOf b) (bound s (levelOf b)))))
+      (λ h. test 10 (not (eqb (digit s (levelOf b) a) (valueOf b))) (ne (digit s (levelOf b) a) (valueOf b)))
 
   module _ (t met used : List ℕ) (a b : ℕ) where
     abbrev links : Type 0
-    links = (failed t a (b / 64) ≡ false) × (failed t (hopTo s a b) (b / 64) ≡ false)
+    links = (failed t a (levelOf b) ≡ false) × (failed t (hopTo s a b) (levelOf b) ≡ false)
 
     abbrev fresh : Type 0
-    fresh = NotIn (hopTo s a b) met × NotIn (switchAt s (b / 64) a) used
+    fresh = NotIn (hopTo s a b) met × NotIn (switchAt s (levelOf b) a) used
 
     -- the tests of a walk that has met these servers and used these switches
     pub fault-number : Number (hopTests s a b ++ ((11, links) ∷ (12, fresh) ∷ [])) (fault s t met used a b)
     unfolding fault
     fault-number =
         chain (hopTests s a b ++ ((11, links) ∷ [])) ((12, fresh) ∷ []) _ _ refl
-        (chain (hopTests s a b) ((11, links) ∷ []) _ _ refl (hop-number a b) (λ h. test 11 (live t (b / 64) a (hopTo s a b)) (live-links t (b / 64) a (hopTo s a b))))
-        (λ h. test 12 (not (isIn (hopTo s a b) met) && not (isIn (switchAt s (b / 64) a) used)) (both _ _ (not-in (hopTo s a b) met) (not-in (switchAt s (b / 64) a) used)))
+        (chain (hopTests s a b) ((11, links) ∷ []) _ _ refl (hop-number a b) (λ h. test 11 (live t (levelOf b) a (hopTo s a b)) (live-links t (levelOf b) a (hopTo s a b))))
+        (λ h. test 12 (not (isIn (hopTo s a b) met) && not (isIn (switchAt s (levelOf b) a) used)) (both _ _ (not-in (hopTo s a b) met) (not-in (switchAt s (levelOf b) a) used)))
 
     pub fault-numbers : OneOf (8 ∷ 9 ∷ 10 ∷ 11 ∷ 12 ∷ []) (fault s t met used a b)
     fault-numbers = one-listed (hopTests s a b ++ ((11, links) ∷ (12, fresh) ∷ [])) (fault s t met used a b) fault-number
@@ -235,7 +236,7 @@ module _ (s : Shape) where
       let l = links [] met used a b in
       let f = fresh [] met used a b in
       one-listed (hopTests s a b ++ ((12, f) ∷ [])) q
-      (under (hopTests s a b) ((11, l) ∷ (12, f) ∷ []) q ((12, f) ∷ []) (λ h. idle 11 l ((12, f) ∷ []) q (live-links [] (b / 64) a (hopTo s a b) .0 (live-empty (b / 64) a (hopTo s a b)))) (fault-number [] met used a b))
+      (under (hopTests s a b) ((11, l) ∷ (12, f) ∷ []) q ((12, f) ∷ []) (λ h. idle 11 l ((12, f) ∷ []) q (live-links [] (levelOf b) a (hopTo s a b) .0 (live-empty (levelOf b) a (hopTo s a b)))) (fault-number [] met used a b))
 
   pub read-number : (t vs : List ℕ) (b : ℕ) → Number (readTests s t vs b) (fault s t vs (switchesOf s vs) (endOf vs) b)
   read-number t vs b = fault-number t vs (switchesOf s vs) (endOf vs) b

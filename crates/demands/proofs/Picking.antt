@@ -7,11 +7,12 @@ use mathlib.Core.List.{List}
 use native.Mathlib.Omega.{arith}
 use lib.Dec.{eqb}
 use lib.ListN.{length}
+use Rattle.refusals.specs.declared.Refusal.{Refusal}
+use Rattle.refusals.specs.Refusals.{none}
+use Rattle.refusals.proofs.ChainLaws.{or-else-zero}
 use Rattle.room.specs.declared.Shape.{Shape}
-use Rattle.room.specs.declared.Refusal.{Refusal}
-use Rattle.room.specs.Refusals.{none}
-use Rattle.room.proofs.RefusalLaws.{or-else-zero}
-use Rattle.verdict.specs.Checks.{roomRefusal, checkAnswer}
+use Rattle.links.specs.Table.{roomRefusal}
+use Rattle.verdict.specs.Checks.{checkAnswer}
 use Rattle.verdict.proofs.AcceptLaws.{of-accepted}
 use Rattle.pick.specs.Picks.{usable, Source, inFresh, inKept, nowhere, listsRefusal, pickSource, pickRefusal, pickAnswer, arrayAt, pickedBytes, pickedAt}
 use Rattle.pick.specs.Chosen.{FirstUsable, NoneUsable, Chosen}

@@ -9,17 +9,18 @@ use native.Mathlib.Nat.{le-of-suc-le-suc}
 use native.Mathlib.Decide.{ℕ-discrete}
 use lib.ListN.{length, getD, take, drop, length-map}
 use borrow.Author.Tests.{eq-eqb, ne-eqb}
+use Rattle.lists.proofs.ListLaws.{take-filled}
+use Rattle.refusals.specs.declared.Refusal.{Refusal}
+use Rattle.refusals.specs.Refusals.{none, plain, refusedAt}
+use Rattle.refusals.proofs.AnswerLaws.{answer-none}
 use Rattle.room.specs.declared.Shape.{Shape}
-use Rattle.room.specs.declared.Refusal.{Refusal}
-use Rattle.room.specs.Refusals.{none, plain, refusedAt}
-use Rattle.room.proofs.RefusalLaws.{answer-none}
-use Rattle.links.specs.Table.{TableOf}
+use Rattle.room.specs.Shapes.{Ends}
+use Rattle.links.specs.Table.{TableOf, roomRefusal}
 use Rattle.path.specs.declared.Walked.{Walked}
 use Rattle.path.specs.Routes.{Parallel, Encodes}
 use Rattle.path.specs.Answers.{walkAnswer}
-use Rattle.path.proofs.ListLaws.{take-filled}
-use Rattle.path.proofs.CodecLaws.{Ends, walk-given, walk-exactly}
-use Rattle.verdict.specs.Checks.{arrays, parallel, firstStop, firstMeeting, firstOf, firstPair, roomRefusal, listRefusal, walksOf, checkAnswer}
+use Rattle.path.proofs.CodecLaws.{walk-given, walk-exactly}
+use Rattle.verdict.specs.Checks.{arrays, parallel, firstStop, firstMeeting, firstOf, firstPair, listRefusal, walksOf, checkAnswer}
 use Rattle.verdict.specs.Arrived.{nowhere}
 use Rattle.verdict.proofs.AcceptLaws.{walkedOf, parallel-of, of-parallel, accepted-of, of-accepted}
 use Rattle.verdict.proofs.ScanLaws.{first-left, first-right}

@@ -7,11 +7,10 @@ use mathlib.Core.List.{List, [], _∷_}
 use native.Mathlib.Omega.{arith}
 use lib.Dec.{eqb}
 use borrow.Author.Tests.{eq-eqb, eqb-true}
-use Rattle.room.specs.declared.Refusal.{Refusal}
-use Rattle.room.specs.Refusals.{none, plain, refusedAt}
-use Rattle.room.specs.Answers.{answer}
-use Rattle.room.proofs.RefusalLaws.{both-held}
-use Rattle.path.specs.Lists.{isIn}
+use Rattle.lists.proofs.ListLaws.{both-held}
+use Rattle.lists.specs.Lists.{isIn}
+use Rattle.refusals.specs.declared.Refusal.{Refusal}
+use Rattle.refusals.specs.Refusals.{none, plain, refusedAt, answer}
 use Rattle.demands.specs.Tests.{Tests, Refused, Whole, Hold}
 use Rattle.demands.specs.Demand1.{ofTheWhole, ofAHop, Place, whole, at-hop, OneOf, nought, listed, Refuses}
 use Rattle.demands.proofs.Chains.{or-right, all, numbersOf}

@@ -1,5 +1,5 @@
 -- Demand 2, proved: addresses, digits, switches and neighbours, and what the calls of the room answer.
-use Prim.Native.Nat.{ℕ, suc, _-_, _*_, _^_, _≤_}
+use Prim.Native.Nat.{ℕ, suc, _-_, _*_, _^_}
 use mathlib.Core.Path.{_≡_, refl, sym, ap, subst, _∙_}
 use mathlib.Core.Logic.{_↔_}
 use mathlib.Core.Bool.{true, false}
@@ -7,19 +7,24 @@ use mathlib.Core.List.{List, [], _∷_}
 use native.Mathlib.Omega.{arith}
 use native.Mathlib.Nat.{pow-suc, pow-zero, mul-zero, mul-add, mul-assoc, mul-comm, one-mul}
 use lib.ListN.{length, getD}
+use Rattle.lists.proofs.ListLaws.{length-filled}
+use Rattle.lists.specs.Lists.{filled}
+use Rattle.refusals.specs.Refusals.{answer}
+use Rattle.refusals.proofs.AnswerLaws.{answered}
 use Rattle.room.specs.declared.Shape.{Shape}
 use Rattle.room.specs.declared.Number.{Number}
 use Rattle.room.specs.declared.Digits.{Digits}
 use Rattle.room.specs.declared.Switch.{Switch}
 use Rattle.room.specs.declared.Between.{Between}
 use Rattle.room.specs.Shapes.{serversOf, bound, Server}
-use Rattle.room.specs.Digits.{addressOf, padded}
+use Rattle.room.specs.Digits.{addressOf}
 use Rattle.room.specs.Addresses.{digits, digit, withDigit, switchOf, differing}
 use Rattle.room.specs.Refusals.{shapeRefusal, levelRefusal, serverRefusal, pairRefusal, linkRefusal, valueRefusal, placesRefusal}
-use Rattle.room.specs.Answers.{answer, noNumber, aNumber, noDigits, someDigits, noSwitch, aSwitch, noBetween, onlyLevel, serversAnswer, boundAnswer, digitsAnswer, digitAnswer, addressAnswer, switchAnswer, neighbourAnswer, betweenAnswer}
+use Rattle.room.specs.Answers.{noNumber, aNumber, noDigits, someDigits, noSwitch, aSwitch, noBetween, onlyLevel, serversAnswer, boundAnswer, digitsAnswer, digitAnswer, addressAnswer, switchAnswer, neighbourAnswer, betweenAnswer}
 use Rattle.room.proofs.DigitLaws.{address-padded}
-use Rattle.room.proofs.RefusalLaws.{server-of, pair-of, link-of, value-of, answered}
+use Rattle.room.proofs.RefusalLaws.{server-of, pair-of, link-of, value-of}
 use Rattle.room.proofs.RoomLaws as rooms
+use Rattle.room.proofs.WiringLaws as wiring
 use Rattle.room.proofs.AnswerLaws.{digits-answered}
 use Rattle.demands.specs.Demand2.{weighed, AddressesExactly, DigitsExactly, DigitExactly, SwitchesExactly, SwitchesNumbered, NeighboursExactly, FourPlaces, TellsLevel, RoomAnswers}
 
@@ -47,7 +52,7 @@ pub switches-exactly : SwitchesExactly
 switches-exactly s l a b h g = rooms.switch-exactly h g
 
 pub switches-numbered : SwitchesNumbered
-switches-numbered s l v p = record { below = λ a h. rooms.switch-lt (record { server = h; level = p }); all = λ w q. let j = rooms.switch-all v p w q in (j .who, j .server, j .there) }
+switches-numbered s l v p = record { below = λ a h. rooms.switch-lt (record { server = h; level = p }); all = λ w q. let j = wiring.switch-all v p w q in (j .who, j .server, j .there) }
 
 pub neighbours-exactly : NeighboursExactly
 neighbours-exactly s a b l h g = rooms.neighbours-exactly h g l
@@ -60,11 +65,11 @@ number q v x e z =
     let p = answered (λ (y : Number). y .refusal .number) noNumber (λ r. refl) q x (aNumber v) e z in
     (p .0, ap (λ (y : Number). y .value) (p .1))
 
-four-places : {s : Shape} {a : ℕ} → Server s a → FourPlaces s a (padded (digits s a))
-unfolding padded
+four-places : {s : Shape} {a : ℕ} → Server s a → FourPlaces s a (filled 4 (digits s a))
+unfolding filled
 four-places {s} {a} h =
     record {
-      long = rooms.padded-long (digits s a) (omega (arith, rooms.digits-long s a, h .valid .levels));
+      long = length-filled 4 (digits s a) (omega (arith, rooms.digits-long s a, h .valid .levels));
       small = λ l p. rw (rooms.place-digit s a l) (rooms.digit-lt h l p);
       above = λ l p. rooms.place-digit s a l ∙ rooms.digit-past s a l p;
       sum = weighed-sum (s .n) _ ∙ address-padded (s .n) (digits s a) (4 - length (digits s a)) ∙ rooms.read-back h;
@@ -95,7 +100,7 @@ room-answers =
       servers-of = λ s z. number (shapeRefusal s) (serversOf s) _ refl z .1 ∙ sym (rooms.servers-power s);
       bound-of = λ s l z. number (levelRefusal s l) (s .n) _ refl z .1;
       digits-of = λ s a z.
-          let p = answered (λ (x : Digits). x .refusal .number) noDigits (λ r. refl) (serverRefusal s a) (digitsAnswer s a) (someDigits (padded (digits s a))) refl z in
+          let p = answered (λ (x : Digits). x .refusal .number) noDigits (λ r. refl) (serverRefusal s a) (digitsAnswer s a) (someDigits (filled 4 (digits s a))) refl z in
           subst (λ (x : Digits). FourPlaces s a (x .places)) (sym (p .1)) (four-places (server-of s a (p .0)));
       digit-of = λ s a l z.
           let p = number (linkRefusal s a l) (digit s l a) _ refl z in

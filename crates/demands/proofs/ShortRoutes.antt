@@ -1,5 +1,5 @@
 -- Two tests run over all ways of a few hops between two servers: where they pass, no route that avoids these switches comes before a route.
-use Prim.Native.Nat.{ℕ, zero, suc, _/_, _%_, _-_, _<_, suc-le-suc, zero-le}
+use Prim.Native.Nat.{ℕ, zero, suc, _-_, _<_, suc-le-suc, zero-le}
 use mathlib.Core.Path.{_≡_, refl, sym, ap, _∙_, subst}
 use mathlib.Core.Logic.{_⊎_, ⊎-elim}
 use mathlib.Core.Bool.{Bool, true, false, not, _&&_, _||_}
@@ -9,26 +9,25 @@ use native.Mathlib.Decide.{ℕ-discrete}
 use lib.Dec.{ltb, eqb}
 use lib.ListN.{length, getD}
 use borrow.Author.Tests.{eq-eqb, lt-ltb}
+use Rattle.lists.proofs.ListLaws.{both-held, Missing, missing-in, length-turn, turn-at}
+use Rattle.lists.specs.Lists.{isIn, inTurn}
 use Rattle.room.specs.declared.Shape.{Shape}
 use Rattle.room.specs.Shapes.{serversOf}
 use Rattle.room.specs.Addresses.{differing}
-use Rattle.room.proofs.RefusalLaws.{both-held}
 use Rattle.room.proofs.RoomLaws.{neighbours-exactly}
 use Rattle.links.specs.Table.{live}
-use Rattle.path.specs.Lists.{isIn, inTurn}
-use Rattle.path.specs.Routes.{levelTo, switchTo, byteTo, switchesOf, RouteTo, Parallel}
+use Rattle.path.specs.Routes.{levelTo, switchTo, byteTo, switchesOf, RouteTo, Parallel, levelOf, valueOf}
 use Rattle.path.specs.Walks.{single}
-use Rattle.path.proofs.ListLaws.{Missing, missing-in, length-turn, turn-at}
 use Rattle.finder.specs.Alternates.{hopBytes, Sooner, HopByHop, Before}
 
 -- ---- the test
 
 -- of two hops, by their path bytes, whether the first comes sooner
 abbrev sooner : ℕ → ℕ → Bool
-sooner b c = ltb (c / 64) (b / 64) || (eqb (b / 64) (c / 64) && ltb (b % 64) (c % 64))
+sooner b c = ltb (levelOf c) (levelOf b) || (eqb (levelOf b) (levelOf c) && ltb (valueOf b) (valueOf c))
 
 sooner-test : (b c : ℕ) → Sooner b c → sooner b c ≡ true
-sooner-test b c = ⊎-elim (λ h. rw (lt-ltb (c / 64) (b / 64) h)) (λ h. either (ltb (c / 64) (b / 64)) (rw (eq-eqb (b / 64) (c / 64) (h .0), lt-ltb (b % 64) (c % 64) (h .1))))
+sooner-test b c = ⊎-elim (λ h. rw (lt-ltb (levelOf c) (levelOf b) h)) (λ h. either (ltb (levelOf c) (levelOf b)) (rw (eq-eqb (levelOf b) (levelOf c) (h .0), lt-ltb (valueOf b) (valueOf c) (h .1))))
   where
     either : (x : Bool) {y : Bool} → y ≡ true → x || y ≡ true
     either true e = refl

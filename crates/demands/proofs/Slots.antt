@@ -4,10 +4,11 @@ use mathlib.Core.Path.{_≡_, refl, sym, ap, ap₂, subst, _∙_}
 use mathlib.Core.List.{List, [], _∷_, _++_, map, append-nil, append-assoc, List-discrete}
 use native.Mathlib.Omega.{arith}
 use native.Mathlib.Decide.{ℕ-discrete}
-use lib.ListN.{length, take}
+use lib.ListN.{take}
+use Rattle.lists.specs.Lists.{downFrom}
 use Rattle.room.specs.declared.Shape.{Shape}
 use Rattle.path.specs.Routes.{encode, RouteTo}
-use Rattle.build.specs.Built.{downFrom, builtRoute}
+use Rattle.build.specs.Built.{builtRoute}
 use Rattle.build.specs.Sets.{setOf}
 use Rattle.laying.specs.Avoids.{Avoids}
 use Rattle.select.specs.Avoided.{avoided}

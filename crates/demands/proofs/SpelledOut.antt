@@ -1,5 +1,5 @@
 -- What the lines of `RefusedExactly` say of some numbers, proved.
-use Prim.Native.Nat.{ℕ, suc, _+_, _/_, _%_, _≤_, _<_}
+use Prim.Native.Nat.{ℕ, suc, _+_, _≤_, _<_}
 use mathlib.Core.Path.{_≡_, refl, sym, ap, _∙_, subst}
 use mathlib.Core.Logic.{_≢_, _↔_, inl, inr}
 use mathlib.Core.Bool.{true, not}
@@ -8,12 +8,13 @@ use native.Mathlib.Omega.{arith}
 use lib.Dec.{eqb}
 use lib.ListN.{length, getD}
 use borrow.Author.Tests.{eqb-false, not-true}
+use Rattle.lists.proofs.ListLaws.{both-held}
+use Rattle.refusals.specs.declared.Refusal.{Refusal}
+use Rattle.refusals.specs.Refusals.{none, plain, refusedAt}
 use Rattle.room.specs.declared.Shape.{Shape}
-use Rattle.room.specs.declared.Refusal.{Refusal}
 use Rattle.room.specs.Shapes.{bound}
 use Rattle.room.specs.Addresses.{digit}
-use Rattle.room.specs.Refusals.{none, plain, refusedAt}
-use Rattle.room.proofs.RefusalLaws.{both-held}
+use Rattle.path.specs.Routes.{levelOf, valueOf}
 use Rattle.path.specs.Walks.{walk}
 use Rattle.path.specs.Answers.{walkAnswer}
 use Rattle.verdict.specs.Checks.{checkAnswer}
@@ -46,11 +47,11 @@ module _ (s : Shape) (a d i : ℕ) (bs e : List ℕ) where
   eightHere = refusedAt 8 1 (i + 1)
 
   abbrev above : Type 0
-  above = s .k < getD bs i 0 / 64
+  above = s .k < levelOf (getD bs i 0)
 
   eight-byte : Refused (λ n. refusedAt n 1 (i + 1)) (stepTests s a e (getD bs i 0)) (λ r. r ≡ none) eightHere → above
   eight-byte (inl h) =
-      let later : Tests = (9, getD bs i 0 % 64 < bound s (getD bs i 0 / 64)) ∷ (10, digit s (getD bs i 0 / 64) a ≢ getD bs i 0 % 64) ∷ (19, flagAt e (getD bs i 0) ≡ 1) ∷ [] in
+      let later : Tests = (9, valueOf (getD bs i 0) < bound s (levelOf (getD bs i 0))) ∷ (10, digit s (levelOf (getD bs i 0)) a ≢ valueOf (getD bs i 0)) ∷ (19, flagAt e (getD bs i 0) ≡ 1) ∷ [] in
       let w = others (λ n. refusedAt n 1 (i + 1)) (λ r. r ≡ none) later eightHere (other-numbers (λ n. refusedAt n 1 (i + 1)) later eightHere (λ n. refl) refl) (h .1) in
       let z = ap (λ (r : Refusal). r .number) (w .1) in let n : ⊥ = omega arith in absurd n
   eight-byte (inr h) = omega (arith, h .0)

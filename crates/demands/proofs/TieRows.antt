@@ -1,35 +1,33 @@
 -- The rows in which the tie rule decides, proved.
-use Prim.Native.Nat.{ℕ, zero, suc, _-_, _<_}
+use Prim.Native.Nat.{ℕ, suc, _-_}
 use mathlib.Core.Path.{_≡_, refl, sym, ap, ap₂, _∙_, subst}
 use mathlib.Core.Bool.{true, false}
 use mathlib.Core.List.{List, [], _∷_, List·Memᴰ, List·Memᴰ·head, List·Memᴰ·eq-of-singleton}
 use native.Mathlib.Omega.{arith}
-use lib.ListN.{length, getD, replicate}
+use lib.ListN.{length, replicate}
+use Rattle.lists.specs.Lists.{isIn, inTurn, middle, filled}
+use Rattle.lists.proofs.ListLaws.{length-turn}
+use Rattle.refusals.specs.Refusals.{none, _or-else_}
+use Rattle.refusals.proofs.ChainLaws.{chain-goes}
 use Rattle.room.specs.declared.Shape.{Shape}
-use Rattle.room.specs.Shapes.{shapeOf, serversOf, bound}
+use Rattle.room.specs.Shapes.{serversOf, bound, fullRoom}
 use Rattle.room.specs.Digits.{digitsOf, addressOf, differFrom}
 use Rattle.room.specs.Addresses.{digits, digit, withDigit, switchOf, differing}
-use Rattle.room.specs.Refusals.{none, shapeRefusal, serverRefusal, pairRefusal, _or-else_}
-use Rattle.room.proofs.RefusalLaws.{chain-goes}
-use Rattle.links.specs.Table.{bit, failed, live, bitsFit, tableRefusal}
-use Rattle.path.specs.Lists.{isIn, inTurn, middle, filled}
+use Rattle.room.specs.Refusals.{shapeRefusal, serverRefusal, pairRefusal, endsRefusal}
+use Rattle.room.proofs.RefusalLaws.{ends-of}
+use Rattle.links.specs.Table.{bit, failed, live, bitsFit, fitsLevels, tableRefusal, roomRefusal}
 use Rattle.path.specs.Routes.{byteOf, switchAt, levelTo, switchTo, byteTo, switchesOf, encode, RouteTo, Parallel}
 use Rattle.path.specs.Walks.{arrived, hopTo, hopRefusal, fault, ended, walkFrom, walk}
-use Rattle.path.specs.Answers.{endsRefusal}
-use Rattle.path.proofs.ListLaws.{length-turn}
 use Rattle.path.proofs.RouteLaws.{read-sound}
-use Rattle.path.proofs.CodecLaws.{ends-of}
 use Rattle.verdict.specs.Checks.{disjoint}
 use Rattle.verdict.proofs.AcceptLaws.{disjoint-apart}
 use Rattle.build.specs.Built.{plusOne, builtHops, metBy, builtRoute}
 use Rattle.build.specs.Sets.{setOf}
-use Rattle.finder.specs.declared.Found.{Found}
 use Rattle.finder.specs.Alternates.{hopBytes}
-use Rattle.finder.specs.Answers.{findRefusal, aRoute, Finding}
+use Rattle.finder.specs.Answers.{aRoute, Finding}
 use Rattle.finder.proofs.Unique.{finding-unique}
-use Rattle.select.specs.declared.Selection.{Selection}
 use Rattle.select.specs.Avoided.{avoided}
-use Rattle.select.specs.Selection.{Unbroken, Replaces, replaced, SlotBySlot, selectRefusal, Selecting}
+use Rattle.select.specs.Selection.{Unbroken, Replaces, replaced, SlotBySlot, Selecting}
 use Rattle.select.proofs.OneAnswer.{selecting-unique}
 use Rattle.demands.specs.ProvedTable.{array}
 use Rattle.demands.specs.TieRows.{Finds, manyFailed, TieRows}
@@ -57,7 +55,7 @@ module _ {s : Shape} {t : List ℕ} {a d : ℕ} {bs vs ws : List ℕ} (w : Row s
 
   -- where the two tests pass, the search answers the route and nothing else
   finds : noneShorter s t d [] (length bs) a ≡ true → noneBefore s t d [] bs a ≡ true → Finds s t a d bs
-  unfolding findRefusal
+  unfolding roomRefusal
   finds e f r = (λ h. finding-unique s t a d r (aRoute s vs) h given ∙ answer, λ h. subst (Finding s t a d) (sym (h ∙ sym answer)) given)
     where
       answer : aRoute s vs ≡ record { refusal = none; hops = length bs; bytes = array bs }
@@ -92,16 +90,16 @@ module _ {s : Shape} {t : List ℕ} {a d : ℕ} {bs vs ws : List ℕ} (w : Row s
 
 -- ---- the search
 
-level-then-value : Row (shapeOf 3 1) (replicate 9 0) 0 7 (0x42 ∷ 0x01 ∷ []) (0 ∷ 6 ∷ 7 ∷ []) (4096 ∷ 2 ∷ [])
-unfolding endsRefusal pairRefusal serverRefusal shapeRefusal serversOf tableRefusal bitsFit bound _or-else_ walk walkFrom fault hopRefusal hopTo withDigit digit digits digitsOf addressOf live failed bit isIn switchAt switchOf ended filled hopBytes inTurn byteTo byteOf levelTo differing differFrom
+level-then-value : Row (fullRoom 3 1) (replicate 9 0) 0 7 (0x42 ∷ 0x01 ∷ []) (0 ∷ 6 ∷ 7 ∷ []) (4096 ∷ 2 ∷ [])
+unfolding endsRefusal pairRefusal serverRefusal shapeRefusal serversOf tableRefusal bitsFit fitsLevels bound _or-else_ walk walkFrom fault hopRefusal hopTo withDigit digit digits digitsOf addressOf live failed bit isIn switchAt switchOf ended filled hopBytes inTurn byteTo byteOf levelTo differing differFrom
 level-then-value = record { ends = refl; table = refl; eight = refl; walked = refl; bytes = refl }
 
-lower-value : Row (shapeOf 3 1) (1 ∷ replicate 8 0) 0 1 (0x41 ∷ 0x01 ∷ 0x40 ∷ []) (0 ∷ 3 ∷ 4 ∷ 1 ∷ []) (4096 ∷ 1 ∷ 4097 ∷ [])
-unfolding endsRefusal pairRefusal serverRefusal shapeRefusal serversOf tableRefusal bitsFit bound _or-else_ walk walkFrom fault hopRefusal hopTo withDigit digit digits digitsOf addressOf live failed bit isIn switchAt switchOf ended filled hopBytes inTurn byteTo byteOf levelTo differing differFrom
+lower-value : Row (fullRoom 3 1) (1 ∷ replicate 8 0) 0 1 (0x41 ∷ 0x01 ∷ 0x40 ∷ []) (0 ∷ 3 ∷ 4 ∷ 1 ∷ []) (4096 ∷ 1 ∷ 4097 ∷ [])
+unfolding endsRefusal pairRefusal serverRefusal shapeRefusal serversOf tableRefusal bitsFit fitsLevels bound _or-else_ walk walkFrom fault hopRefusal hopTo withDigit digit digits digitsOf addressOf live failed bit isIn switchAt switchOf ended filled hopBytes inTurn byteTo byteOf levelTo differing differFrom
 lower-value = record { ends = refl; table = refl; eight = refl; walked = refl; bytes = refl }
 
-from-the-source : Row (shapeOf 2 2) (0 ∷ 0 ∷ 0 ∷ 0 ∷ 0 ∷ 0 ∷ 2 ∷ 0 ∷ []) 0 7 (0x81 ∷ 0x01 ∷ 0x41 ∷ []) (0 ∷ 4 ∷ 5 ∷ 7 ∷ []) (8192 ∷ 2 ∷ 4099 ∷ [])
-unfolding endsRefusal pairRefusal serverRefusal shapeRefusal serversOf tableRefusal bitsFit bound _or-else_ walk walkFrom fault hopRefusal hopTo withDigit digit digits digitsOf addressOf live failed bit isIn switchAt switchOf ended filled hopBytes inTurn byteTo byteOf levelTo differing differFrom
+from-the-source : Row (fullRoom 2 2) (0 ∷ 0 ∷ 0 ∷ 0 ∷ 0 ∷ 0 ∷ 2 ∷ 0 ∷ []) 0 7 (0x81 ∷ 0x01 ∷ 0x41 ∷ []) (0 ∷ 4 ∷ 5 ∷ 7 ∷ []) (8192 ∷ 2 ∷ 4099 ∷ [])
+unfolding endsRefusal pairRefusal serverRefusal shapeRefusal serversOf tableRefusal bitsFit fitsLevels bound _or-else_ walk walkFrom fault hopRefusal hopTo withDigit digit digits digitsOf addressOf live failed bit isIn switchAt switchOf ended filled hopBytes inTurn byteTo byteOf levelTo differing differFrom
 from-the-source = record { ends = refl; table = refl; eight = refl; walked = refl; bytes = refl }
 
 -- ---- selection, both built routes broken
@@ -113,32 +111,32 @@ high = 0 ∷ 8 ∷ 9 ∷ 5 ∷ 7 ∷ []
 abbrev low : List ℕ
 low = 0 ∷ 2 ∷ 14 ∷ 15 ∷ 7 ∷ []
 
-alternates : Row (shapeOf 4 1) manyFailed 0 7 (0x42 ∷ 0x01 ∷ 0x41 ∷ 0x03 ∷ []) high (4096 ∷ 2 ∷ 4097 ∷ 1 ∷ []) × Row (shapeOf 4 1) manyFailed 0 7 (0x02 ∷ 0x43 ∷ 0x03 ∷ 0x41 ∷ []) low (0 ∷ 4098 ∷ 3 ∷ 4099 ∷ [])
-unfolding endsRefusal pairRefusal serverRefusal shapeRefusal serversOf tableRefusal bitsFit bound _or-else_ walk walkFrom fault hopRefusal hopTo withDigit digit digits digitsOf addressOf live failed bit isIn switchAt switchOf ended filled hopBytes inTurn byteTo byteOf levelTo differing differFrom
+alternates : Row (fullRoom 4 1) manyFailed 0 7 (0x42 ∷ 0x01 ∷ 0x41 ∷ 0x03 ∷ []) high (4096 ∷ 2 ∷ 4097 ∷ 1 ∷ []) × Row (fullRoom 4 1) manyFailed 0 7 (0x02 ∷ 0x43 ∷ 0x03 ∷ 0x41 ∷ []) low (0 ∷ 4098 ∷ 3 ∷ 4099 ∷ [])
+unfolding endsRefusal pairRefusal serverRefusal shapeRefusal serversOf tableRefusal bitsFit fitsLevels bound _or-else_ walk walkFrom fault hopRefusal hopTo withDigit digit digits digitsOf addressOf live failed bit isIn switchAt switchOf ended filled hopBytes inTurn byteTo byteOf levelTo differing differFrom
 alternates = (
   record { ends = refl; table = refl; eight = refl; walked = refl; bytes = refl },
   record { ends = refl; table = refl; eight = refl; walked = refl; bytes = refl },
 )
 
-built : (builtRoute (shapeOf 4 1) 1 0 7 ≡ 0 ∷ 4 ∷ 7 ∷ []) × (builtRoute (shapeOf 4 1) 0 0 7 ≡ 0 ∷ 3 ∷ 7 ∷ [])
+built : (builtRoute (fullRoom 4 1) 1 0 7 ≡ 0 ∷ 4 ∷ 7 ∷ []) × (builtRoute (fullRoom 4 1) 0 0 7 ≡ 0 ∷ 3 ∷ 7 ∷ [])
 unfolding builtRoute builtHops metBy plusOne bound withDigit digits digitsOf addressOf
 built = (refl, refl)
 
 -- the second hop of each built route crosses a failed link
-high-broken : Unbroken (shapeOf 4 1) manyFailed (0 ∷ 4 ∷ 7 ∷ []) → ⊥
+high-broken : Unbroken (fullRoom 4 1) manyFailed (0 ∷ 4 ∷ 7 ∷ []) → ⊥
 unfolding live failed bit levelTo differing differFrom digits digitsOf
 high-broken u = let e : false ≡ true = u .alive 1 (omega arith) in let z : _≡_ {A = ℕ} 0 1 = cc in omega arith
 
-low-broken : Unbroken (shapeOf 4 1) manyFailed (0 ∷ 3 ∷ 7 ∷ []) → ⊥
+low-broken : Unbroken (fullRoom 4 1) manyFailed (0 ∷ 3 ∷ 7 ∷ []) → ⊥
 unfolding live failed bit levelTo differing differFrom digits digitsOf
 low-broken u = let e : false ≡ true = u .alive 1 (omega arith) in let z : _≡_ {A = ℕ} 0 1 = cc in omega arith
 
 -- slot 1 avoids the built route of slot 0, broken though it is; slot 0 avoids what slot 1 gave
-built-switches : 0 ∷ 4099 ∷ [] ≡ switchesOf (shapeOf 4 1) (0 ∷ 3 ∷ 7 ∷ [])
+built-switches : 0 ∷ 4099 ∷ [] ≡ switchesOf (fullRoom 4 1) (0 ∷ 3 ∷ 7 ∷ [])
 unfolding switchesOf inTurn switchTo switchAt levelTo differing differFrom switchOf digits digitsOf addressOf
 built-switches = refl
 
-high-parallel : Parallel (shapeOf 4 1) high (0 ∷ 3 ∷ 7 ∷ [])
+high-parallel : Parallel (fullRoom 4 1) high (0 ∷ 3 ∷ 7 ∷ [])
 unfolding disjoint isIn middle
 high-parallel =
     record {
@@ -146,7 +144,7 @@ high-parallel =
       servers = disjoint-apart (middle high) (middle (0 ∷ 3 ∷ 7 ∷ [])) refl;
     }
 
-low-parallel : Parallel (shapeOf 4 1) low high
+low-parallel : Parallel (fullRoom 4 1) low high
 unfolding disjoint isIn middle
 low-parallel =
     record {
@@ -154,15 +152,15 @@ low-parallel =
       servers = disjoint-apart (middle low) (middle high) refl;
     }
 
-high-given : Replaces (shapeOf 4 1) manyFailed 0 7 ((0 ∷ 3 ∷ 7 ∷ []) ∷ []) high
+high-given : Replaces (fullRoom 4 1) manyFailed 0 7 ((0 ∷ 3 ∷ 7 ∷ []) ∷ []) high
 unfolding serversOf live failed bit isIn switchTo switchAt levelTo byteTo byteOf digit differing differFrom switchOf digits digitsOf addressOf
 high-given = replaces (alternates .0) (0 ∷ 4099 ∷ []) built-switches high-parallel refl refl
 
-low-given : Replaces (shapeOf 4 1) manyFailed 0 7 (high ∷ []) low
+low-given : Replaces (fullRoom 4 1) manyFailed 0 7 (high ∷ []) low
 unfolding serversOf live failed bit isIn switchTo switchAt levelTo byteTo byteOf digit differing differFrom switchOf digits digitsOf addressOf
 low-given = replaces (alternates .1) (4096 ∷ 2 ∷ 4097 ∷ 1 ∷ []) (sound (alternates .0) .1) low-parallel refl refl
 
-slots : SlotBySlot (shapeOf 4 1) manyFailed 0 7 2 [] (high ∷ low ∷ [])
+slots : SlotBySlot (fullRoom 4 1) manyFailed 0 7 2 [] (high ∷ low ∷ [])
 unfolding avoided
 slots = (
   high ∷ [],
@@ -170,8 +168,8 @@ slots = (
   (low ∷ [], replaced (λ u. low-broken (rw (built .1) at u)) low-given, refl),
 )
 
-selecting : Selecting (shapeOf 4 1) manyFailed 0 7 (record { refusal = none; routes = setOf (array (0x42 ∷ 0x01 ∷ 0x41 ∷ 0x03 ∷ []) ∷ array (0x02 ∷ 0x43 ∷ 0x03 ∷ 0x41 ∷ []) ∷ []) })
-unfolding selectRefusal endsRefusal pairRefusal serverRefusal shapeRefusal serversOf _or-else_ tableRefusal bitsFit encode inTurn byteTo byteOf levelTo digit differing differFrom digits digitsOf filled
+selecting : Selecting (fullRoom 4 1) manyFailed 0 7 (record { refusal = none; routes = setOf (array (0x42 ∷ 0x01 ∷ 0x41 ∷ 0x03 ∷ []) ∷ array (0x02 ∷ 0x43 ∷ 0x03 ∷ 0x41 ∷ []) ∷ []) })
+unfolding roomRefusal endsRefusal pairRefusal serverRefusal shapeRefusal serversOf _or-else_ tableRefusal bitsFit fitsLevels encode inTurn byteTo byteOf levelTo digit differing differFrom digits digitsOf filled
 selecting =
     record {
       refused = λ n. absurd (n refl);
@@ -187,6 +185,6 @@ tie-rows =
       level-then-value = finds level-then-value refl refl;
       lower-value = finds lower-value refl refl;
       from-the-source = finds from-the-source refl refl;
-      both-broken = λ r. (λ h. selecting-unique h selecting, λ e. subst (Selecting (shapeOf 4 1) manyFailed 0 7) (sym e) selecting);
-      no-other = λ r h. one-selection (shapeOf 4 1) manyFailed 0 7 r _ h (broken-gives-way (shapeOf 4 1) manyFailed 0 7 _ selecting refl);
+      both-broken = λ r. (λ h. selecting-unique h selecting, λ e. subst (Selecting (fullRoom 4 1) manyFailed 0 7) (sym e) selecting);
+      no-other = λ r h. one-selection (fullRoom 4 1) manyFailed 0 7 r _ h (broken-gives-way (fullRoom 4 1) manyFailed 0 7 _ selecting refl);
     }

@@ -1,4 +1,5 @@
 -- Every input is taken: no contract asks anything of the arguments. Uniqueness: each line by the law in its crate's proofs/Unique.antt.
+use Rattle.refusals.proofs.Unique as refusals
 use Rattle.room.proofs.Unique as room
 use Rattle.links.proofs.Unique as links
 use Rattle.path.proofs.Unique as path
@@ -16,27 +17,38 @@ use Rattle.demands.specs.Uniqueness.{EveryInput, Uniqueness}
 pub every-input : EveryInput
 every-input =
     record {
-      shape-new = λ κs a. tt;
+      shape-full = λ κs a. tt;
       refusal-none = λ κs a. tt;
       refusal-plain = λ κs a. tt;
       refusal-at = λ κs a. tt;
+      refusal-of-route = λ κs a. tt;
       shape-refusal = λ κs a. tt;
       server-refusal = λ κs a. tt;
+      pair-refusal = λ κs a. tt;
       link-refusal = λ κs a. tt;
+      power = λ κs a. tt;
+      server-count = λ κs a. tt;
+      digit-bound = λ κs a. tt;
       servers-of = λ κs a. tt;
       bound-of = λ κs a. tt;
       digits-of = λ κs a. tt;
       digit-of = λ κs a. tt;
       address-of = λ κs a. tt;
       switch-of = λ κs a. tt;
+      side-of = λ κs a. tt;
       neighbour-of = λ κs a. tt;
       level-between = λ κs a. tt;
       failed-link = λ κs a. tt;
       mark-link = λ κs a. tt;
       clear-link = λ κs a. tt;
+      mark = λ κs a. tt;
+      clear = λ κs a. tt;
       is-live = λ κs a. tt;
       table-refusal = λ κs a. tt;
+      room-refusal = λ κs a. tt;
       hop-of = λ κs a. tt;
+      level-of = λ κs a. tt;
+      value-of = λ κs a. tt;
       is-among = λ κs a. tt;
       ends-refusal = λ κs a. tt;
       walk = λ κs a. tt;
@@ -96,19 +108,25 @@ every-input =
 pub uniqueness : Uniqueness
 uniqueness =
     record {
-      shape-new = room.new-unique;
-      refusal-none = room.none-unique;
-      refusal-plain = room.plain-unique;
-      refusal-at = room.at-unique;
+      shape-full = room.full-unique;
+      refusal-none = refusals.none-unique;
+      refusal-plain = refusals.plain-unique;
+      refusal-at = refusals.at-unique;
+      refusal-of-route = refusals.of-route-unique;
       shape-refusal = room.shape-refusal-unique;
       server-refusal = room.server-refusal-unique;
+      pair-refusal = room.pair-refusal-unique;
       link-refusal = room.link-refusal-unique;
+      power = room.power-unique;
+      server-count = room.server-count-unique;
+      digit-bound = room.digit-bound-unique;
       servers-of = room.servers-of-unique;
       bound-of = room.bound-of-unique;
       digits-of = room.digits-of-unique;
       digit-of = room.digit-of-unique;
       address-of = room.address-of-unique;
       switch-of = room.switch-of-unique;
+      side-of = room.side-of-unique;
       neighbour-of = room.neighbour-of-unique;
       level-between = room.level-between-unique;
       failed-link = links.failed-link-unique;
@@ -116,11 +134,16 @@ uniqueness =
       mark-link-leaves = links.mark-link-leaves;
       clear-link = links.clear-link-unique;
       clear-link-leaves = links.clear-link-leaves;
+      mark = links.mark-leaves;
+      clear = links.clear-leaves;
       is-live = links.is-live-unique;
       table-refusal = links.table-refusal-unique;
+      room-refusal = links.room-refusal-unique;
       hop-of = path.hop-of-unique;
+      level-of = path.level-of-unique;
+      value-of = path.value-of-unique;
       is-among = path.is-among-unique;
-      ends-refusal = path.ends-refusal-unique;
+      ends-refusal = room.ends-refusal-unique;
       walk = path.walk-unique;
       read-path = path.read-path-unique;
       write-path = path.write-path-unique;

@@ -9,17 +9,17 @@ use native.Mathlib.Decide.{ℕ-discrete}
 use lib.ListN.{length, getD, length-append}
 use lib.Seq.{append-snoc, getD-append-seam}
 use borrow.Author.Tests.{eq-eqb, ne-eqb}
+use Rattle.lists.specs.Lists.{inTurn}
+use Rattle.lists.proofs.ListLaws.{length-snoc}
+use Rattle.refusals.specs.declared.Refusal.{Refusal}
+use Rattle.refusals.specs.Refusals.{none, plain, refusedAt}
+use Rattle.refusals.proofs.AnswerLaws.{answer-none}
 use Rattle.room.specs.declared.Shape.{Shape}
-use Rattle.room.specs.declared.Refusal.{Refusal}
 use Rattle.room.specs.Shapes.{Server}
-use Rattle.room.specs.Refusals.{none, plain, refusedAt}
-use Rattle.room.proofs.RefusalLaws.{answer-none}
 use Rattle.path.specs.declared.Writing.{Writing}
-use Rattle.path.specs.Lists.{inTurn}
 use Rattle.path.specs.Routes.{switchesOf, encode, Prefix}
 use Rattle.path.specs.Walks.{writeFault, writeFrom}
 use Rattle.path.specs.Answers.{noWriting, aWriting, writeRefusal, written, onTheWay, writeAnswer}
-use Rattle.path.proofs.ListLaws.{length-snoc}
 use Rattle.path.proofs.CodecLaws.{write-step, write-refused, write-goes, way-along, write-given, write-exactly, Servers, listed-of}
 use Rattle.path.proofs.RouteLaws.{lastOf, prefix-one, prefix-snoc}
 use Rattle.demands.specs.Tests.{Refused, Hold, Exactly}

@@ -7,10 +7,11 @@ use mathlib.Core.List.{List, [], _∷_}
 use mathlib.Core.Bool.{cond}
 use lib.Dec.{eqb}
 use lib.ListN.{set}
+use Rattle.refusals.specs.declared.Refusal.{Refusal}
+use Rattle.refusals.specs.Refusals.{plain}
 use Rattle.room.specs.declared.Shape.{Shape}
-use Rattle.room.specs.declared.Refusal.{Refusal}
-use Rattle.room.specs.Shapes.{shapeOf}
-use Rattle.room.specs.Refusals.{plain, shapeRefusal}
+use Rattle.room.specs.Shapes.{fullRoom}
+use Rattle.room.specs.Refusals.{shapeRefusal}
 use Rattle.room.specs.Answers.{serversAnswer, boundAnswer, digitsAnswer, digitAnswer, addressAnswer, switchAnswer, neighbourAnswer, betweenAnswer}
 use Rattle.room.specs.Wiring.{switchesAnswer, serverAtAnswer}
 use Rattle.links.specs.Servers.{allBits, serverAnswer, markedServer, clearedServer}
@@ -62,8 +63,8 @@ pub record EveryBuffer : Type 0 where
 
 -- a room of any two numbers is refused as they are, and where they are not refused, its shape is theirs
 pub record EveryRoom : Type 0 where
-  pub refused : (n k : ℕ) → shapeRefusal (shapeIn (roomOf n k)) ≡ shapeRefusal (shapeOf n k)
-  pub shape : (n k : ℕ) → shapeRefusal (shapeOf n k) ≡ 0 → shapeIn (roomOf n k) ≡ shapeOf n k
+  pub refused : (n k : ℕ) → shapeRefusal (shapeIn (roomOf n k)) ≡ shapeRefusal (fullRoom n k)
+  pub shape : (n k : ℕ) → shapeRefusal (fullRoom n k) ≡ 0 → shapeIn (roomOf n k) ≡ fullRoom n k
 
 -- ---- the words that the calls from C give back
 

@@ -5,8 +5,8 @@ use mathlib.Core.Logic.{_↔_, _≢_, _⊎_}
 use mathlib.Core.Bool.{true, false}
 use mathlib.Core.List.{List, []}
 use lib.ListN.{length, getD}
+use Rattle.refusals.specs.declared.Refusal.{Refusal}
 use Rattle.room.specs.declared.Shape.{Shape}
-use Rattle.room.specs.declared.Refusal.{Refusal}
 use Rattle.room.specs.Shapes.{bound, Valid, Server, Link}
 use Rattle.room.specs.Addresses.{digit, switchOf, Beside, Neighbours}
 use Rattle.room.specs.Answers.{aNumber}

@@ -8,16 +8,18 @@ use mathlib.Core.List.{List, [], _∷_}
 use mathlib.Core.Bool.{Bool, true, false, _&&_, _||_}
 use lib.Dec.{leb, eqb}
 use lib.ListN.{length, replicate}
+use Rattle.lists.specs.Lists.{isIn}
+use Rattle.refusals.specs.declared.Refusal.{Refusal}
+use Rattle.refusals.specs.Refusals.{plain, refusedAt}
 use Rattle.room.specs.declared.Shape.{Shape}
-use Rattle.room.specs.declared.Refusal.{Refusal}
 use Rattle.room.specs.declared.Number.{Number}
 use Rattle.room.specs.declared.Digits.{Digits}
 use Rattle.room.specs.declared.Switch.{Switch}
 use Rattle.room.specs.declared.Between.{Between}
-use Rattle.room.specs.Refusals.{plain, refusedAt, shapeRefusal, serverRefusal, linkRefusal}
+use Rattle.room.specs.Refusals.{shapeRefusal, serverRefusal, linkRefusal, endsRefusal}
 use Rattle.room.specs.Answers.{serversAnswer, boundAnswer, digitsAnswer, digitAnswer, addressAnswer, switchAnswer, neighbourAnswer, betweenAnswer}
-use Rattle.links.specs.declared.Asked.{Asked}
 use Rattle.room.specs.Wiring.{switchesAnswer, serverAtAnswer}
+use Rattle.links.specs.declared.Asked.{Asked}
 use Rattle.links.specs.Servers.{serverAnswer}
 use Rattle.links.specs.Table.{roomTableRefusal}
 use Rattle.links.specs.Answers.{failedAnswer, linkAnswer}
@@ -26,9 +28,8 @@ use Rattle.path.specs.declared.Parts.{Parts}
 use Rattle.path.specs.declared.Walked.{Walked}
 use Rattle.path.specs.declared.Reading.{Reading}
 use Rattle.path.specs.declared.Writing.{Writing}
-use Rattle.path.specs.Lists.{isIn}
 use Rattle.path.specs.Bytes.{byteAnswer, partsAnswer}
-use Rattle.path.specs.Answers.{endsRefusal, hopAnswer, walkAnswer, readAnswer, writeAnswer, reverseAnswer}
+use Rattle.path.specs.Answers.{hopAnswer, walkAnswer, readAnswer, writeAnswer, reverseAnswer}
 use Rattle.verdict.specs.Checks.{checkAnswer}
 use Rattle.build.specs.declared.Building.{Building}
 use Rattle.build.specs.Sets.{emptySet}

@@ -8,27 +8,27 @@ use mathlib.Core.Bool.{Bool, true, false, cond}
 use mathlib.Core.List.{List, [], _∷_, _++_, map, reverse}
 use lib.Dec.{eqb}
 use lib.ListN.{length, getD, take, drop, replicate}
+use Rattle.lists.specs.Lists.{isIn, filled, downFrom}
+use Rattle.refusals.specs.Refusals.{none}
 use Rattle.room.specs.declared.Shape.{Shape}
 use Rattle.room.specs.declared.Between.{Between}
 use Rattle.room.specs.Shapes.{bound, Valid, Server, Link}
 use Rattle.room.specs.Digits.{strike}
 use Rattle.room.specs.Addresses.{digits, digit, switchOf, switchesAt, differing, Written, Beside, Neighbours}
-use Rattle.room.specs.Refusals.{none}
 use Rattle.room.specs.Answers.{serversAnswer, boundAnswer, digitsAnswer, digitAnswer, addressAnswer, switchAnswer, neighbourAnswer, betweenAnswer}
-use Rattle.links.specs.Table.{failed, live, TableOf}
+use Rattle.links.specs.Table.{failed, live, TableOf, roomRefusal}
 use Rattle.links.specs.Answers.{failedAnswer, linkAnswer, markedTable, clearedTable}
-use Rattle.path.specs.Lists.{isIn, filled}
-use Rattle.path.specs.Routes.{switchTo, byteTo, switchesOf, encode, Route, RouteTo, Encodes}
+use Rattle.path.specs.Routes.{switchTo, byteTo, switchesOf, encode, Route, RouteTo, Encodes, levelOf, valueOf}
 use Rattle.path.specs.Answers.{hopAnswer, walkAnswer, readAnswer, writeAnswer, reverseAnswer}
 use Rattle.verdict.specs.Checks.{checkAnswer}
 use Rattle.build.specs.declared.RouteSet.{RouteSet}
-use Rattle.build.specs.Built.{downFrom, builtRoute}
+use Rattle.build.specs.Built.{builtRoute}
 use Rattle.build.specs.Sets.{added, arrayAt, setOf}
 use Rattle.build.specs.Answers.{buildAnswer}
-use Rattle.select.specs.declared.Selection.{Selection}
 use Rattle.laying.specs.Avoids.{Avoids}
+use Rattle.select.specs.declared.Selection.{Selection}
 use Rattle.select.specs.Avoided.{avoided}
-use Rattle.select.specs.Selection.{Unbroken, Replaces, selectRefusal, Selecting}
+use Rattle.select.specs.Selection.{Unbroken, Replaces, Selecting}
 use Rattle.pick.specs.Picks.{listsRefusal, pickSource, pickAnswer, pickedBytes, pickedAt}
 use Rattle.pick.specs.Places.{placeAnswer}
 use Rattle.step.specs.declared.Step.{Step}
@@ -169,8 +169,8 @@ HopSwitches =
 -- byte b leads from server a to the neighbour at the byte's level whose digit there is the byte's value
 pub record Leads (s : Shape) (a b next : ℕ) : Type 0 where
   pub server : Server s next
-  pub neighbour : Neighbours s (b / 64) a next
-  pub value : digit s (b / 64) next ≡ b % 64
+  pub neighbour : Neighbours s (levelOf b) a next
+  pub value : digit s (levelOf b) next ≡ valueOf b
 
 -- and so does a hop that is not refused
 abbrev pub HopExactly : Type 0
@@ -274,7 +274,7 @@ abbrev pub NoRouteExactly : Type 0
 NoRouteExactly =
     (s : Shape) (t : List ℕ) (a d : ℕ) (r : Selection) →
     Selecting s t a d r →
-    (r .refusal .number ≡ 16) ↔ ((selectRefusal s t a d ≡ 0) × ((vs : List ℕ) → RouteTo s t a d vs → ⊥))
+    (r .refusal .number ≡ 16) ↔ ((roomRefusal s t a d ≡ 0) × ((vs : List ℕ) → RouteTo s t a d vs → ⊥))
 
 -- array i of a list is the first that checking takes as a list of one
 pub record FirstTaken (s : Shape) (t : List ℕ) (a d : ℕ) (bs : List ℕ) (i : ℕ) : Type 0 where

@@ -6,21 +6,22 @@ use mathlib.Core.Logic.{_≢_, _↔_, _⊎_}
 use mathlib.Core.Bool.{false}
 use mathlib.Core.List.{List, [], _∷_, _++_}
 use lib.ListN.{length, getD}
+use Rattle.lists.specs.Lists.{inTurn}
+use Rattle.refusals.specs.declared.Refusal.{Refusal}
+use Rattle.refusals.specs.Refusals.{none, plain, refusedAt}
 use Rattle.room.specs.declared.Shape.{Shape}
-use Rattle.room.specs.declared.Refusal.{Refusal}
 use Rattle.room.specs.Shapes.{serversOf, bound}
 use Rattle.room.specs.Addresses.{digit, switchesAt, Neighbours}
-use Rattle.room.specs.Refusals.{none, plain, refusedAt, shapeRefusal, serverRefusal, linkRefusal}
+use Rattle.room.specs.Refusals.{shapeRefusal, serverRefusal, linkRefusal, endsRefusal}
 use Rattle.room.specs.Answers.{serversAnswer, boundAnswer, digitsAnswer, digitAnswer, addressAnswer, switchAnswer, neighbourAnswer, betweenAnswer}
 use Rattle.room.specs.Wiring.{switchesAnswer, serverAtAnswer}
 use Rattle.links.specs.Servers.{serverAnswer}
 use Rattle.links.specs.Table.{failed, roomTableRefusal, TableOf}
 use Rattle.links.specs.Answers.{failedAnswer, linkAnswer}
 use Rattle.path.specs.Bytes.{byteAnswer, partsAnswer}
-use Rattle.path.specs.Lists.{inTurn}
-use Rattle.path.specs.Routes.{byteTo, switchAt, switchTo, switchesOf, Route, Prefix, RouteTo, Parallel, Encodes}
+use Rattle.path.specs.Routes.{byteTo, switchAt, switchTo, switchesOf, Route, Prefix, RouteTo, Parallel, Encodes, levelOf, valueOf}
 use Rattle.path.specs.Walks.{hopTo}
-use Rattle.path.specs.Answers.{endsRefusal, hopAnswer, walkAnswer, readAnswer, writeAnswer, reverseAnswer}
+use Rattle.path.specs.Answers.{hopAnswer, walkAnswer, readAnswer, writeAnswer, reverseAnswer}
 use Rattle.verdict.specs.Checks.{checkAnswer}
 use Rattle.verdict.specs.Accepted.{Accepted}
 use Rattle.build.specs.Answers.{buildAnswer}
@@ -72,7 +73,7 @@ madeTests s l v = levelTests s l then (21, v < bound s l)
 
 -- a number that is taken for a path byte
 abbrev pub partsTests : Shape → ℕ → Tests
-partsTests s b = (8, b / 64 ≤ s .k) ∷ (9, b % 64 < bound s (b / 64)) ∷ []
+partsTests s b = (8, levelOf b ≤ s .k) ∷ (9, valueOf b < bound s (levelOf b)) ∷ []
 
 -- ---- tables, ends, lists
 
@@ -139,7 +140,7 @@ endOf vs = getD vs (length vs - 1) 0
 
 -- byte b from server a: its level and its value are the room's, and the value is not a's own
 abbrev pub hopTests : Shape → ℕ → ℕ → Tests
-hopTests s a b = (8, b / 64 ≤ s .k) ∷ (9, b % 64 < bound s (b / 64)) ∷ (10, digit s (b / 64) a ≢ b % 64) ∷ []
+hopTests s a b = (8, levelOf b ≤ s .k) ∷ (9, valueOf b < bound s (levelOf b)) ∷ (10, digit s (levelOf b) a ≢ valueOf b) ∷ []
 
 -- byte b after the way vs, when an array is read: neither link of the hop is failed; its server is not met yet, nor its switch used
 abbrev pub readTests : Shape → List ℕ → List ℕ → ℕ → Tests
@@ -147,8 +148,8 @@ readTests s t vs b =
     let a = endOf vs in
     let next = hopTo s a b in
     hopTests s a b
-    then (11, (failed t a (b / 64) ≡ false) × (failed t next (b / 64) ≡ false))
-    then (12, NotIn next vs × NotIn (switchAt s (b / 64) a) (switchesOf s vs))
+    then (11, (failed t a (levelOf b) ≡ false) × (failed t next (levelOf b) ≡ false))
+    then (12, NotIn next vs × NotIn (switchAt s (levelOf b) a) (switchesOf s vs))
 
 -- server b after the way vs, when servers are written: it differs from the last in exactly one digit
 abbrev pub writeTests : Shape → List ℕ → ℕ → Tests
@@ -311,7 +312,7 @@ pub record SpelledOut : Type 0 where
   -- a step says 8, at the hop index + 1, exactly when what it is given is right, it is away from the destination, its index names a byte, and
   -- the level of that byte is above k
   pub eight : (s : Shape) (a d i : ℕ) (bs e : List ℕ)
-      → (stepAnswer s a d i bs e .refusal ≡ refusedAt 8 1 (i + 1)) ↔ (Hold (givenTests s a d bs e) × (a ≢ d) × (i < 8) × (s .k < getD bs i 0 / 64))
+      → (stepAnswer s a d i bs e .refusal ≡ refusedAt 8 1 (i + 1)) ↔ (Hold (givenTests s a d bs e) × (a ≢ d) × (i < 8) × (s .k < levelOf (getD bs i 0)))
   -- 14 at hop p + 1, exactly when the byte at place p, counted from 0, is the first after arrival that is not zero
   pub fourteen : (s : Shape) (t : List ℕ) (a d : ℕ) (bs : List ℕ) (p : ℕ)
       → (walkAnswer s t a d bs .refusal ≡ refusedAt 14 1 (suc p)) ↔ (Hold (arrayTests s a d bs) × FirstAfterArrival s t a d bs p)

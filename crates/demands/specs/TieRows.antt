@@ -5,9 +5,9 @@ use mathlib.Core.Path.{_≡_}
 use mathlib.Core.Logic.{_↔_}
 use mathlib.Core.List.{List, [], _∷_}
 use lib.ListN.{length, replicate}
+use Rattle.refusals.specs.Refusals.{none}
 use Rattle.room.specs.declared.Shape.{Shape}
-use Rattle.room.specs.Shapes.{shapeOf}
-use Rattle.room.specs.Refusals.{none}
+use Rattle.room.specs.Shapes.{fullRoom}
 use Rattle.build.specs.Sets.{setOf}
 use Rattle.finder.specs.declared.Found.{Found}
 use Rattle.finder.specs.Answers.{Finding}
@@ -26,17 +26,17 @@ manyFailed = 0 ∷ 2 ∷ 0 ∷ 2 ∷ 1 ∷ 0 ∷ 1 ∷ 0 ∷ 0 ∷ 0 ∷ 0 ∷ 1
 
 pub record TieRows : Type 0 where
   -- (3,1), no link failed, 00 to 21: 42 01, where the lower level or the lower value first would be 01 42
-  pub level-then-value : Finds (shapeOf 3 1) (replicate 9 0) 0 7 (0x42 ∷ 0x01 ∷ [])
+  pub level-then-value : Finds (fullRoom 3 1) (replicate 9 0) 0 7 (0x42 ∷ 0x01 ∷ [])
   -- (3,1), the link of 00 at level 0 failed, 00 to 01: 41 01 40, where the higher value first would be 42 01 40
-  pub lower-value : Finds (shapeOf 3 1) (1 ∷ replicate 8 0) 0 1 (0x41 ∷ 0x01 ∷ 0x40 ∷ [])
+  pub lower-value : Finds (fullRoom 3 1) (1 ∷ replicate 8 0) 0 1 (0x41 ∷ 0x01 ∷ 0x40 ∷ [])
   -- (2,2), the link of 110 at level 1 failed, which 81 41 01 would cross, 000 to 111: 81 01 41, where the lower level first would be
   -- 01 41 81, and from the destination's end the higher level first 01 41 81, the lower 41 81 01
-  pub from-the-source : Finds (shapeOf 2 2) (0 ∷ 0 ∷ 0 ∷ 0 ∷ 0 ∷ 0 ∷ 2 ∷ 0 ∷ []) 0 7 (0x81 ∷ 0x01 ∷ 0x41 ∷ [])
+  pub from-the-source : Finds (fullRoom 2 2) (0 ∷ 0 ∷ 0 ∷ 0 ∷ 0 ∷ 0 ∷ 2 ∷ 0 ∷ []) 0 7 (0x81 ∷ 0x01 ∷ 0x41 ∷ [])
   -- (4,1), 00 to 13, both built routes broken, each of which gives way to its own alternate: 42 01 41 03, then 02 43 03 41
   pub both-broken : (r : Selection)
-      → Selecting (shapeOf 4 1) manyFailed 0 7 r
+      → Selecting (fullRoom 4 1) manyFailed 0 7 r
       ↔ (r ≡ record { refusal = none; routes = setOf (array (0x42 ∷ 0x01 ∷ 0x41 ∷ 0x03 ∷ []) ∷ array (0x02 ∷ 0x43 ∷ 0x03 ∷ 0x41 ∷ []) ∷ []) })
   -- and the words of demand 2 for it admit no other routes
   pub no-other : (r : Selection)
-      → Selected (shapeOf 4 1) manyFailed 0 7 r
+      → Selected (fullRoom 4 1) manyFailed 0 7 r
       → r .routes ≡ setOf (array (0x42 ∷ 0x01 ∷ 0x41 ∷ 0x03 ∷ []) ∷ array (0x02 ∷ 0x43 ∷ 0x03 ∷ 0x41 ∷ []) ∷ [])

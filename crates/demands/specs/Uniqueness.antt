@@ -3,25 +3,35 @@
 use Prim.Native.Nat.{ℕ}
 use mathlib.Core.Path.{_≡_}
 use mathlib.Core.List.{List}
-use borrow.Fn.Kinds.{PK, RK, Out, Dens, endedOf, resT}
+use borrow.Fn.Kinds.{PK, Dens, endedOf, resT}
 use denote.Triple.Clauses.{AtExit}
 use denote.Ref.{now, ptr}
 use contract.Lifetimes.{Lfts}
-use Rattle.room.specs.Determined.{Determined}
-use Rattle.room.proofs.Shape.new.Reads as shape-new-reads
-use Rattle.room.proofs.Shape.new.Kinds as shape-new-kinds
-use Rattle.room.proofs.Refusal.none.Reads as refusal-none-reads
-use Rattle.room.proofs.Refusal.none.Kinds as refusal-none-kinds
-use Rattle.room.proofs.Refusal.plain.Reads as refusal-plain-reads
-use Rattle.room.proofs.Refusal.plain.Kinds as refusal-plain-kinds
-use Rattle.room.proofs.Refusal.at.Reads as refusal-at-reads
-use Rattle.room.proofs.Refusal.at.Kinds as refusal-at-kinds
+use Rattle.refusals.specs.Determined.{Determined, Leaves}
+use Rattle.refusals.proofs.Refusal.none.Reads as refusal-none-reads
+use Rattle.refusals.proofs.Refusal.none.Kinds as refusal-none-kinds
+use Rattle.refusals.proofs.Refusal.plain.Reads as refusal-plain-reads
+use Rattle.refusals.proofs.Refusal.plain.Kinds as refusal-plain-kinds
+use Rattle.refusals.proofs.Refusal.at.Reads as refusal-at-reads
+use Rattle.refusals.proofs.Refusal.at.Kinds as refusal-at-kinds
+use Rattle.refusals.proofs.Refusal.of_route.Reads as refusal-of-route-reads
+use Rattle.refusals.proofs.Refusal.of_route.Kinds as refusal-of-route-kinds
+use Rattle.room.proofs.Shape.full.Reads as shape-full-reads
+use Rattle.room.proofs.Shape.full.Kinds as shape-full-kinds
 use Rattle.room.proofs.shape_refusal.Reads as shape-refusal-reads
 use Rattle.room.proofs.shape_refusal.Kinds as shape-refusal-kinds
 use Rattle.room.proofs.server_refusal.Reads as server-refusal-reads
 use Rattle.room.proofs.server_refusal.Kinds as server-refusal-kinds
+use Rattle.room.proofs.pair_refusal.Reads as pair-refusal-reads
+use Rattle.room.proofs.pair_refusal.Kinds as pair-refusal-kinds
 use Rattle.room.proofs.link_refusal.Reads as link-refusal-reads
 use Rattle.room.proofs.link_refusal.Kinds as link-refusal-kinds
+use Rattle.room.proofs.power.Reads as power-reads
+use Rattle.room.proofs.power.Kinds as power-kinds
+use Rattle.room.proofs.server_count.Reads as server-count-reads
+use Rattle.room.proofs.server_count.Kinds as server-count-kinds
+use Rattle.room.proofs.digit_bound.Reads as digit-bound-reads
+use Rattle.room.proofs.digit_bound.Kinds as digit-bound-kinds
 use Rattle.room.proofs.servers_of.Reads as servers-of-reads
 use Rattle.room.proofs.servers_of.Kinds as servers-of-kinds
 use Rattle.room.proofs.bound_of.Reads as bound-of-reads
@@ -34,26 +44,46 @@ use Rattle.room.proofs.address_of.Reads as address-of-reads
 use Rattle.room.proofs.address_of.Kinds as address-of-kinds
 use Rattle.room.proofs.switch_of.Reads as switch-of-reads
 use Rattle.room.proofs.switch_of.Kinds as switch-of-kinds
+use Rattle.room.proofs.side_of.Reads as side-of-reads
+use Rattle.room.proofs.side_of.Kinds as side-of-kinds
 use Rattle.room.proofs.neighbour_of.Reads as neighbour-of-reads
 use Rattle.room.proofs.neighbour_of.Kinds as neighbour-of-kinds
 use Rattle.room.proofs.level_between.Reads as level-between-reads
 use Rattle.room.proofs.level_between.Kinds as level-between-kinds
+use Rattle.room.proofs.ends_refusal.Reads as ends-refusal-reads
+use Rattle.room.proofs.ends_refusal.Kinds as ends-refusal-kinds
+use Rattle.room.proofs.switches_of.Reads as switches-of-reads
+use Rattle.room.proofs.switches_of.Kinds as switches-of-kinds
+use Rattle.room.proofs.server_at.Reads as server-at-reads
+use Rattle.room.proofs.server_at.Kinds as server-at-kinds
 use Rattle.links.proofs.failed_link.Reads as failed-link-reads
 use Rattle.links.proofs.failed_link.Kinds as failed-link-kinds
 use Rattle.links.proofs.mark_link.Reads as mark-link-reads
 use Rattle.links.proofs.mark_link.Kinds as mark-link-kinds
 use Rattle.links.proofs.clear_link.Reads as clear-link-reads
 use Rattle.links.proofs.clear_link.Kinds as clear-link-kinds
+use Rattle.links.proofs.mark.Reads as mark-reads
+use Rattle.links.proofs.mark.Kinds as mark-kinds
+use Rattle.links.proofs.clear.Reads as clear-reads
+use Rattle.links.proofs.clear.Kinds as clear-kinds
 use Rattle.links.proofs.is_live.Reads as is-live-reads
 use Rattle.links.proofs.is_live.Kinds as is-live-kinds
 use Rattle.links.proofs.table_refusal.Reads as table-refusal-reads
 use Rattle.links.proofs.table_refusal.Kinds as table-refusal-kinds
+use Rattle.links.proofs.room_refusal.Reads as room-refusal-reads
+use Rattle.links.proofs.room_refusal.Kinds as room-refusal-kinds
+use Rattle.links.proofs.mark_server.Reads as mark-server-reads
+use Rattle.links.proofs.mark_server.Kinds as mark-server-kinds
+use Rattle.links.proofs.clear_server.Reads as clear-server-reads
+use Rattle.links.proofs.clear_server.Kinds as clear-server-kinds
 use Rattle.path.proofs.hop_of.Reads as hop-of-reads
 use Rattle.path.proofs.hop_of.Kinds as hop-of-kinds
+use Rattle.path.proofs.level_of.Reads as level-of-reads
+use Rattle.path.proofs.level_of.Kinds as level-of-kinds
+use Rattle.path.proofs.value_of.Reads as value-of-reads
+use Rattle.path.proofs.value_of.Kinds as value-of-kinds
 use Rattle.path.proofs.is_among.Reads as is-among-reads
 use Rattle.path.proofs.is_among.Kinds as is-among-kinds
-use Rattle.path.proofs.ends_refusal.Reads as ends-refusal-reads
-use Rattle.path.proofs.ends_refusal.Kinds as ends-refusal-kinds
 use Rattle.path.proofs.walk.Reads as walk-reads
 use Rattle.path.proofs.walk.Kinds as walk-kinds
 use Rattle.path.proofs.read_path.Reads as read-path-reads
@@ -62,6 +92,10 @@ use Rattle.path.proofs.write_path.Reads as write-path-reads
 use Rattle.path.proofs.write_path.Kinds as write-path-kinds
 use Rattle.path.proofs.reverse_path.Reads as reverse-path-reads
 use Rattle.path.proofs.reverse_path.Kinds as reverse-path-kinds
+use Rattle.path.proofs.byte_of.Reads as byte-of-reads
+use Rattle.path.proofs.byte_of.Kinds as byte-of-kinds
+use Rattle.path.proofs.parts_of.Reads as parts-of-reads
+use Rattle.path.proofs.parts_of.Kinds as parts-of-kinds
 use Rattle.verdict.proofs.check_list.Reads as check-list-reads
 use Rattle.verdict.proofs.check_list.Kinds as check-list-kinds
 use Rattle.build.proofs.RouteSet.new.Reads as route-set-new-reads
@@ -88,18 +122,6 @@ use Rattle.desk_line.proofs.question_of.Reads as question-of-reads
 use Rattle.desk_line.proofs.question_of.Kinds as question-of-kinds
 use Rattle.desk_line.proofs.answer_line.Reads as answer-line-reads
 use Rattle.desk_line.proofs.answer_line.Kinds as answer-line-kinds
-use Rattle.room.proofs.switches_of.Reads as switches-of-reads
-use Rattle.room.proofs.switches_of.Kinds as switches-of-kinds
-use Rattle.room.proofs.server_at.Reads as server-at-reads
-use Rattle.room.proofs.server_at.Kinds as server-at-kinds
-use Rattle.links.proofs.mark_server.Reads as mark-server-reads
-use Rattle.links.proofs.mark_server.Kinds as mark-server-kinds
-use Rattle.links.proofs.clear_server.Reads as clear-server-reads
-use Rattle.links.proofs.clear_server.Kinds as clear-server-kinds
-use Rattle.path.proofs.byte_of.Reads as byte-of-reads
-use Rattle.path.proofs.byte_of.Kinds as byte-of-kinds
-use Rattle.path.proofs.parts_of.Reads as parts-of-reads
-use Rattle.path.proofs.parts_of.Kinds as parts-of-kinds
 use Rattle.driver.proofs.bcube_version.Reads as c-version-reads
 use Rattle.driver.proofs.bcube_version.Kinds as c-version-kinds
 use Rattle.driver.proofs.bcube_switches.Reads as c-switches-reads
@@ -166,19 +188,25 @@ Takes n ps pre = (κs : Lfts n) (a : Dens κs ps) → pre κs a
 
 pub record EveryInput : Type 0 where
   -- room
-  pub shape-new : Takes 0 shape-new-kinds.ps shape-new-reads.Pre
+  pub shape-full : Takes 0 shape-full-kinds.ps shape-full-reads.Pre
   pub refusal-none : Takes 0 refusal-none-kinds.ps refusal-none-reads.Pre
   pub refusal-plain : Takes 0 refusal-plain-kinds.ps refusal-plain-reads.Pre
   pub refusal-at : Takes 0 refusal-at-kinds.ps refusal-at-reads.Pre
+  pub refusal-of-route : Takes 0 refusal-of-route-kinds.ps refusal-of-route-reads.Pre
   pub shape-refusal : Takes 0 shape-refusal-kinds.ps shape-refusal-reads.Pre
   pub server-refusal : Takes 0 server-refusal-kinds.ps server-refusal-reads.Pre
+  pub pair-refusal : Takes 0 pair-refusal-kinds.ps pair-refusal-reads.Pre
   pub link-refusal : Takes 0 link-refusal-kinds.ps link-refusal-reads.Pre
+  pub power : Takes 0 power-kinds.ps power-reads.Pre
+  pub server-count : Takes 0 server-count-kinds.ps server-count-reads.Pre
+  pub digit-bound : Takes 0 digit-bound-kinds.ps digit-bound-reads.Pre
   pub servers-of : Takes 0 servers-of-kinds.ps servers-of-reads.Pre
   pub bound-of : Takes 0 bound-of-kinds.ps bound-of-reads.Pre
   pub digits-of : Takes 0 digits-of-kinds.ps digits-of-reads.Pre
   pub digit-of : Takes 0 digit-of-kinds.ps digit-of-reads.Pre
   pub address-of : Takes 0 address-of-kinds.ps address-of-reads.Pre
   pub switch-of : Takes 0 switch-of-kinds.ps switch-of-reads.Pre
+  pub side-of : Takes 0 side-of-kinds.ps side-of-reads.Pre
   pub neighbour-of : Takes 0 neighbour-of-kinds.ps neighbour-of-reads.Pre
   pub level-between : Takes 0 level-between-kinds.ps level-between-reads.Pre
   pub switches-of : Takes 0 switches-of-kinds.ps switches-of-reads.Pre
@@ -187,14 +215,19 @@ pub record EveryInput : Type 0 where
   pub failed-link : Takes 1 failed-link-kinds.ps failed-link-reads.Pre
   pub mark-link : Takes 1 mark-link-kinds.ps mark-link-reads.Pre
   pub clear-link : Takes 1 clear-link-kinds.ps clear-link-reads.Pre
+  pub mark : Takes 1 mark-kinds.ps mark-reads.Pre
+  pub clear : Takes 1 clear-kinds.ps clear-reads.Pre
   pub is-live : Takes 1 is-live-kinds.ps is-live-reads.Pre
   pub table-refusal : Takes 1 table-refusal-kinds.ps table-refusal-reads.Pre
+  pub room-refusal : Takes 1 room-refusal-kinds.ps room-refusal-reads.Pre
   pub mark-server : Takes 1 mark-server-kinds.ps mark-server-reads.Pre
   pub clear-server : Takes 1 clear-server-kinds.ps clear-server-reads.Pre
   -- path
   pub byte-of : Takes 0 byte-of-kinds.ps byte-of-reads.Pre
   pub parts-of : Takes 0 parts-of-kinds.ps parts-of-reads.Pre
   pub hop-of : Takes 0 hop-of-kinds.ps hop-of-reads.Pre
+  pub level-of : Takes 0 level-of-kinds.ps level-of-reads.Pre
+  pub value-of : Takes 0 value-of-kinds.ps value-of-reads.Pre
   pub is-among : Takes 1 is-among-kinds.ps is-among-reads.Pre
   pub ends-refusal : Takes 0 ends-refusal-kinds.ps ends-refusal-reads.Pre
   pub walk : Takes 2 walk-kinds.ps walk-reads.Pre
@@ -255,26 +288,27 @@ pub record EveryInput : Type 0 where
 
 -- ---- the answer is determined: two results that a contract allows at the same arguments are equal, which is `Determined`
 
--- a contract determines what `left` gives of the parameters at exit
-abbrev pub Leaves : (n : ℕ) (ps : List (PK n)) (r : RK n) → Out n ps r → ((κs : Lfts n) → AtExit (endedOf n ps r) κs → List ℕ) → Type 0
-Leaves n ps r post left =
-    (κs : Lfts n) (a : Dens κs ps) (x y : resT r κs .Denot) (s t : AtExit (endedOf n ps r) κs) → post κs a x s → post κs a y t → left κs s ≡ left κs t
-
 pub record Uniqueness : Type 0 where
   -- room
-  pub shape-new : Determined 0 shape-new-kinds.ps shape-new-kinds.r shape-new-reads.Post
+  pub shape-full : Determined 0 shape-full-kinds.ps shape-full-kinds.r shape-full-reads.Post
   pub refusal-none : Determined 0 refusal-none-kinds.ps refusal-none-kinds.r refusal-none-reads.Post
   pub refusal-plain : Determined 0 refusal-plain-kinds.ps refusal-plain-kinds.r refusal-plain-reads.Post
   pub refusal-at : Determined 0 refusal-at-kinds.ps refusal-at-kinds.r refusal-at-reads.Post
+  pub refusal-of-route : Determined 0 refusal-of-route-kinds.ps refusal-of-route-kinds.r refusal-of-route-reads.Post
   pub shape-refusal : Determined 0 shape-refusal-kinds.ps shape-refusal-kinds.r shape-refusal-reads.Post
   pub server-refusal : Determined 0 server-refusal-kinds.ps server-refusal-kinds.r server-refusal-reads.Post
+  pub pair-refusal : Determined 0 pair-refusal-kinds.ps pair-refusal-kinds.r pair-refusal-reads.Post
   pub link-refusal : Determined 0 link-refusal-kinds.ps link-refusal-kinds.r link-refusal-reads.Post
+  pub power : Determined 0 power-kinds.ps power-kinds.r power-reads.Post
+  pub server-count : Determined 0 server-count-kinds.ps server-count-kinds.r server-count-reads.Post
+  pub digit-bound : Determined 0 digit-bound-kinds.ps digit-bound-kinds.r digit-bound-reads.Post
   pub servers-of : Determined 0 servers-of-kinds.ps servers-of-kinds.r servers-of-reads.Post
   pub bound-of : Determined 0 bound-of-kinds.ps bound-of-kinds.r bound-of-reads.Post
   pub digits-of : Determined 0 digits-of-kinds.ps digits-of-kinds.r digits-of-reads.Post
   pub digit-of : Determined 0 digit-of-kinds.ps digit-of-kinds.r digit-of-reads.Post
   pub address-of : Determined 0 address-of-kinds.ps address-of-kinds.r address-of-reads.Post
   pub switch-of : Determined 0 switch-of-kinds.ps switch-of-kinds.r switch-of-reads.Post
+  pub side-of : Determined 0 side-of-kinds.ps side-of-kinds.r side-of-reads.Post
   pub neighbour-of : Determined 0 neighbour-of-kinds.ps neighbour-of-kinds.r neighbour-of-reads.Post
   pub level-between : Determined 0 level-between-kinds.ps level-between-kinds.r level-between-reads.Post
   pub switches-of : Determined 0 switches-of-kinds.ps switches-of-kinds.r switches-of-reads.Post
@@ -287,8 +321,11 @@ pub record Uniqueness : Type 0 where
   pub clear-link : Determined 1 clear-link-kinds.ps clear-link-kinds.r clear-link-reads.Post
   -- and the bytes of the table that it leaves behind
   pub clear-link-leaves : Leaves 1 clear-link-kinds.ps clear-link-kinds.r clear-link-reads.Post (λ κs s. now (s .1 .0))
+  pub mark : Leaves 1 mark-kinds.ps mark-kinds.r mark-reads.Post (λ κs s. now (s .0))
+  pub clear : Leaves 1 clear-kinds.ps clear-kinds.r clear-reads.Post (λ κs s. now (s .0))
   pub is-live : Determined 1 is-live-kinds.ps is-live-kinds.r is-live-reads.Post
   pub table-refusal : Determined 1 table-refusal-kinds.ps table-refusal-kinds.r table-refusal-reads.Post
+  pub room-refusal : Determined 1 room-refusal-kinds.ps room-refusal-kinds.r room-refusal-reads.Post
   pub mark-server : Determined 1 mark-server-kinds.ps mark-server-kinds.r mark-server-reads.Post
   -- and the bytes of the table that it leaves behind
   pub mark-server-leaves : Leaves 1 mark-server-kinds.ps mark-server-kinds.r mark-server-reads.Post (λ κs s. now (s .1 .0))
@@ -299,6 +336,8 @@ pub record Uniqueness : Type 0 where
   pub byte-of : Determined 0 byte-of-kinds.ps byte-of-kinds.r byte-of-reads.Post
   pub parts-of : Determined 0 parts-of-kinds.ps parts-of-kinds.r parts-of-reads.Post
   pub hop-of : Determined 0 hop-of-kinds.ps hop-of-kinds.r hop-of-reads.Post
+  pub level-of : Determined 0 level-of-kinds.ps level-of-kinds.r level-of-reads.Post
+  pub value-of : Determined 0 value-of-kinds.ps value-of-kinds.r value-of-reads.Post
   pub is-among : Determined 1 is-among-kinds.ps is-among-kinds.r is-among-reads.Post
   pub ends-refusal : Determined 0 ends-refusal-kinds.ps ends-refusal-kinds.r ends-refusal-reads.Post
   pub walk : Determined 2 walk-kinds.ps walk-kinds.r walk-reads.Post

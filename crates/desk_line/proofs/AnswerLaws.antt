@@ -7,23 +7,24 @@ use mathlib.Core.List.{List, [], _∷_, _++_, map, append-assoc, append-nil}
 use native.Mathlib.Omega.{arith}
 use lib.Dec.{eqb, ltb, leb}
 use lib.ListN.{length, take, drop, replicate, length-append, length-replicate}
+use Rattle.lists.specs.Lists.{downFrom, filled}
+use Rattle.refusals.specs.Refusals.{_or-else_, _unless_, answer}
+use Rattle.refusals.proofs.AnswerLaws.{answer-refused, answer-none}
 use Rattle.room.specs.declared.Shape.{Shape}
-use Rattle.room.specs.Shapes.{serversOf, shapeOf}
-use Rattle.room.specs.Refusals.{shapeRefusal, serverRefusal, pairRefusal, _or-else_, _unless_}
-use Rattle.room.specs.Answers.{answer}
-use Rattle.room.proofs.RefusalLaws.{answer-refused, answer-none}
+use Rattle.room.specs.Shapes.{serversOf, fullRoom, Ends}
+use Rattle.room.specs.Refusals.{shapeRefusal, serverRefusal, pairRefusal, endsRefusal}
+use Rattle.room.proofs.RefusalLaws.{ends-of}
 use Rattle.path.specs.declared.Reading.{Reading}
-use Rattle.path.specs.Answers.{endsRefusal, readAnswer}
+use Rattle.path.specs.Answers.{readAnswer}
 use Rattle.path.proofs.CodecLaws.{read-given}
 use Rattle.build.specs.declared.Building.{Building}
 use Rattle.build.specs.declared.RouteSet.{RouteSet}
-use Rattle.build.specs.Built.{downFrom, builtHops, builtBytes, builtArrays}
+use Rattle.build.specs.Built.{builtHops, builtBytes, builtArrays}
 use Rattle.build.specs.Sets.{joined, arrayAt, setOf}
 use Rattle.build.specs.Answers.{noBuilding, aBuilding, buildAnswer}
 use Rattle.build.proofs.BuiltLaws.{built-short, built-route, built-encode, route-long}
-use Rattle.path.specs.Lists.{filled}
 use Rattle.build.proofs.SetLaws.{joined-long, set-array}
-use Rattle.build.proofs.ArrayLaws.{Ends, ends-of, array-long, arrays-eight, arrays-count, arrays-at}
+use Rattle.build.proofs.ArrayLaws.{array-long, arrays-eight, arrays-count, arrays-at}
 use Rattle.desk_line.specs.declared.Text.{Text}
 use Rattle.desk_line.specs.declared.Question.{Question}
 use Rattle.desk_line.specs.Lines.{newline, space}
@@ -196,9 +197,9 @@ off b x y h = rw h
 
 -- the question's own text
 abbrev pub asksFor : Question → List ℕ
-asksFor q = builtText (shapeOf (q .n) (q .k)) (q .source) (q .destination)
+asksFor q = builtText (fullRoom (q .n) (q .k)) (q .source) (q .destination)
 
-pub desk-asked : (input : List ℕ) (q : Question) (s : Shape) (t : Text) → q ≡ questionOf input → q .taken ≡ true → s ≡ shapeOf (q .n) (q .k) → t ≡ textOf (builtText s (q .source) (q .destination)) → t ≡ textOf (deskText input)
+pub desk-asked : (input : List ℕ) (q : Question) (s : Shape) (t : Text) → q ≡ questionOf input → q .taken ≡ true → s ≡ fullRoom (q .n) (q .k) → t ≡ textOf (builtText s (q .source) (q .destination)) → t ≡ textOf (deskText input)
 unfolding deskText
 desk-asked input q s t e h g f =
     f ∙ ap textOf

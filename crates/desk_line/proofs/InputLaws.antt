@@ -1,5 +1,5 @@
 -- What of an input is printed for: its first line alone, its first 65 bytes alone, and at most 76 bytes.
-use Prim.Native.Nat.{ℕ, zero, suc, _+_, _-_, _*_, _≤_, _<_}
+use Prim.Native.Nat.{ℕ, zero, suc, _+_, _*_, _≤_, _<_}
 use mathlib.Core.Path.{_≡_, refl, sym, ap, ap₂, _∙_}
 use mathlib.Core.Bool.{Bool, true, false, cond}
 use mathlib.Core.List.{List, [], _∷_, _++_}
@@ -8,12 +8,12 @@ use native.Mathlib.Decide.{ℕ-discrete, decLt}
 use lib.Dec.{leb}
 use lib.ListN.{length, length-append}
 use borrow.Author.Tests.{lt-leb}
+use Rattle.refusals.specs.Refusals.{answer}
 use Rattle.room.specs.declared.Shape.{Shape}
-use Rattle.room.specs.Shapes.{shapeOf}
-use Rattle.room.specs.Answers.{answer}
-use Rattle.path.specs.Answers.{endsRefusal}
+use Rattle.room.specs.Shapes.{fullRoom}
+use Rattle.room.specs.Refusals.{endsRefusal}
+use Rattle.room.proofs.RefusalLaws.{ends-of}
 use Rattle.build.specs.Sets.{joined}
-use Rattle.build.proofs.ArrayLaws.{ends-of}
 use Rattle.desk_line.specs.declared.Question.{Question}
 use Rattle.desk_line.specs.Lines.{newline, before, lineSize}
 use Rattle.desk_line.specs.Numbers.{parse, noQuestion, questionOf}
@@ -48,7 +48,7 @@ same-question xs ys e f = ap₂ (λ (m : ℕ) (l : List ℕ). cond (leb m 64) (p
 same-text : (xs ys : List ℕ) → questionOf xs ≡ questionOf ys → deskText xs ≡ deskText ys
 unfolding deskText
 same-text xs ys e =
-    ap (λ (q : Question). cond (q .taken) (builtText (shapeOf (q .n) (q .k)) (q .source) (q .destination)) inputLine) e
+    ap (λ (q : Question). cond (q .taken) (builtText (fullRoom (q .n) (q .k)) (q .source) (q .destination)) inputLine) e
 
 -- what follows a newline is ignored
 pub rest-ignored : (xs ys : List ℕ) → deskText (xs ++ newline ∷ ys) ≡ deskText (xs ++ newline ∷ [])
@@ -119,4 +119,4 @@ pub desk-short : (input : List ℕ) → length (deskText input) ≤ 76
 unfolding deskText
 desk-short input =
     let q = questionOf input in
-    asked-by (q .taken) (shapeOf (q .n) (q .k)) (q .source) (q .destination)
+    asked-by (q .taken) (fullRoom (q .n) (q .k)) (q .source) (q .destination)

@@ -7,7 +7,7 @@ use native.Mathlib.Omega.{arith}
 use lib.ListN.{length, getD, set, take, replicate, length-append}
 use lib.Seq.{take-append-seam, take-all, take-suc, length-take-le, set-at}
 use borrow.Author.Tests.{lt-ltb, le-ltb}
-use Rattle.path.specs.Lists.{filled}
+use Rattle.lists.specs.Lists.{filled}
 use Rattle.desk_line.specs.declared.Text.{Text}
 use Rattle.desk_line.specs.Lines.{newline, space}
 use Rattle.desk_line.specs.Texts.{hexDigit, hexOf, decimalIn, decimal, refusedLine, routeLine, textOf, shown, Room}

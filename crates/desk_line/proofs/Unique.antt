@@ -1,6 +1,6 @@
 -- Each public function's contract determines its answer: whatever meets it on some arguments is the one answer to them.
 use mathlib.Core.Path.{_∙_, sym}
-use Rattle.room.specs.Determined.{Determined}
+use Rattle.refusals.specs.Determined.{Determined}
 use Rattle.desk_line.proofs.numbers.question_of.Reads as question-of
 use Rattle.desk_line.proofs.numbers.question_of.Kinds as question-of-kinds
 use Rattle.desk_line.proofs.answers.answer_line.Reads as answer-line

@@ -1,13 +1,13 @@
 -- The worked line and its answer, and one line of each other kind, from the definitions.
 use mathlib.Core.Path.{_≡_, refl}
 use mathlib.Core.List.{[], _∷_, _++_}
+use Rattle.lists.specs.Lists.{filled}
+use Rattle.refusals.specs.Refusals.{_or-else_}
 use Rattle.room.specs.Shapes.{serversOf, bound}
 use Rattle.room.specs.Digits.{digitsOf}
 use Rattle.room.specs.Addresses.{digits}
-use Rattle.room.specs.Refusals.{shapeRefusal, serverRefusal, pairRefusal, _or-else_}
-use Rattle.path.specs.Lists.{filled}
+use Rattle.room.specs.Refusals.{shapeRefusal, serverRefusal, pairRefusal, endsRefusal}
 use Rattle.path.specs.Routes.{byteOf}
-use Rattle.path.specs.Answers.{endsRefusal}
 use Rattle.build.specs.Built.{plusOne, builtHops, bytesOf, builtBytes}
 use Rattle.build.specs.Sets.{joined}
 use Rattle.desk_line.specs.Lines.{before, after, lineSize}

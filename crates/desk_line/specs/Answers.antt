@@ -1,13 +1,14 @@
 -- The whole answer to an input.
-use Prim.Native.Nat.{ℕ, suc, _-_}
+use Prim.Native.Nat.{ℕ, suc}
 use mathlib.Core.List.{List, map}
 use mathlib.Core.Bool.{cond}
 use lib.ListN.{length}
+use Rattle.lists.specs.Lists.{downFrom}
+use Rattle.refusals.specs.Refusals.{answer}
 use Rattle.room.specs.declared.Shape.{Shape}
-use Rattle.room.specs.Shapes.{shapeOf}
-use Rattle.room.specs.Answers.{answer}
-use Rattle.path.specs.Answers.{endsRefusal}
-use Rattle.build.specs.Built.{downFrom, builtHops, builtBytes}
+use Rattle.room.specs.Shapes.{fullRoom}
+use Rattle.room.specs.Refusals.{endsRefusal}
+use Rattle.build.specs.Built.{builtHops, builtBytes}
 use Rattle.build.specs.Sets.{joined}
 use Rattle.desk_line.specs.Numbers.{questionOf}
 use Rattle.desk_line.specs.Texts.{inputLine, refusedLine, routeLine}
@@ -28,4 +29,4 @@ builtText s a d = answer (endsRefusal s a d) refusedLine (routesText s a d)
 unfoldable pub deskText : List ℕ → List ℕ
 deskText input =
     let q = questionOf input in
-    cond (q .taken) (builtText (shapeOf (q .n) (q .k)) (q .source) (q .destination)) inputLine
+    cond (q .taken) (builtText (fullRoom (q .n) (q .k)) (q .source) (q .destination)) inputLine

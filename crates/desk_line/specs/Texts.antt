@@ -5,7 +5,7 @@ use mathlib.Core.List.{List, [], _∷_, _++_}
 use mathlib.Core.Bool.{cond}
 use lib.Dec.{ltb}
 use lib.ListN.{length, take}
-use Rattle.path.specs.Lists.{filled}
+use Rattle.lists.specs.Lists.{filled}
 use Rattle.desk_line.specs.declared.Text.{Text}
 use Rattle.desk_line.specs.Lines.{newline, space}
 

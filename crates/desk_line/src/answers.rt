@@ -2,7 +2,7 @@
 ghost use mathlib.Core.Path.{_≡_};
 ghost use mathlib.Core.List.{_++_};
 ghost use Prim.Native.Nat.{_-_, _≤_};
-ghost use Rattle.path.specs.Answers.{endsRefusal};
+ghost use Rattle.room.specs.Refusals.{endsRefusal};
 ghost use Rattle.build.specs.Built.{builtArrays};
 ghost use Rattle.build.specs.Sets.{setOf};
 ghost use Rattle.desk_line.specs.Texts.{textOf, shown, Room};
@@ -74,7 +74,7 @@ pub fn answer_line(input: &[u8]) -> Text
 {
     let asked = question_of(input);
     if asked.taken {
-        let shape = Shape::new(asked.n, asked.k);
+        let shape = Shape::full(asked.n, asked.k);
         return built_text(shape, asked.source, asked.destination);
     }
     input_text()

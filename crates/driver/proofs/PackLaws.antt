@@ -9,11 +9,10 @@ use native.Mathlib.Decide.{ℕ-discrete}
 use lib.ListN.{length, getD, replicate}
 use lib.Dec.{ltb, eqb, lit<, lit≤}
 use borrow.Author.Tests.{eq-eqb, ne-eqb}
+use Rattle.refusals.specs.Refusals.{plain, refusedAt, _or-else_, _unless_, answer}
 use Rattle.room.specs.declared.Shape.{Shape}
-use Rattle.room.specs.declared.Refusal.{Refusal}
-use Rattle.room.specs.Refusals.{none, plain, refusedAt, pairRefusal, _or-else_, _unless_}
-use Rattle.room.specs.Answers.{answer}
-use Rattle.path.specs.Walks.{hopTo, hopRefusal}
+use Rattle.room.specs.Refusals.{pairRefusal}
+use Rattle.path.specs.Walks.{hopRefusal}
 use Rattle.path.proofs.HopLaws.{hop-server}
 use Rattle.step.specs.declared.Step.{Step}
 use Rattle.step.specs.Steps.{entry, macAt, portAt, flagAt, givenRefusal, byteRefusal, awayRefusal, stepRefusal, atHop, placed, noStep, delivery, forwarded, stepAnswer}

@@ -1,37 +1,31 @@
 -- The answers on path bytes fit the result word.
 use Prim.Native.Nat.{ℕ, zero, suc, _+_, _-_, _*_, _/_, _%_, _≤_, _<_}
 use native.Mathlib.Omega.{arith}
-use native.Mathlib.Decide.{decLt}
-use native.Mathlib.Numerals.{add-one}
-use mathlib.Core.Path.{_≡_, refl, sym, ap, _∙_, subst}
+use mathlib.Core.Path.{_≡_, refl, sym, ap, subst}
 use mathlib.Core.Bool.{Bool, true, false, not, cond, _&&_}
 use mathlib.Core.List.{List, [], _∷_, _++_, map}
 use lib.Dec.{ltb, leb, eqb, lit≤, lit<}
-use lib.ListN.{length, getD, set, drop, take, replicate, length-set, drop-of-length-le}
-use lib.Seq.{drop-cons, take-suc, take-all}
-use borrow.Author.Tests.{lt-leb}
+use lib.ListN.{length, getD, drop}
+use Rattle.lists.specs.Lists.{isIn}
+use Rattle.lists.proofs.ListLaws.{length-snoc}
+use Rattle.refusals.specs.declared.Refusal.{Refusal}
+use Rattle.refusals.specs.Refusals.{plain, refusedAt, _or-else_, _unless_, answer}
 use Rattle.room.specs.declared.Shape.{Shape}
-use Rattle.room.specs.declared.Refusal.{Refusal}
 use Rattle.room.specs.Shapes.{bound}
 use Rattle.room.specs.Addresses.{digit, differing}
-use Rattle.room.specs.Refusals.{none, plain, refusedAt, shapeRefusal, serverRefusal, _or-else_, _unless_}
-use Rattle.room.specs.Answers.{answer}
-use Rattle.links.specs.Table.{live}
+use Rattle.room.specs.Refusals.{shapeRefusal, serverRefusal}
+use Rattle.room.proofs.RoomLaws.{bound-le}
+use Rattle.links.specs.Table.{live, roomRefusal}
 use Rattle.path.specs.declared.Walked.{Walked}
-use Rattle.path.specs.declared.Reading.{Reading}
 use Rattle.path.specs.declared.Writing.{Writing}
 use Rattle.path.specs.declared.Parts.{Parts}
 use Rattle.path.specs.Bytes.{madeRefusal, byteAnswer, partsRefusal, noParts, someParts, partsAnswer}
-use Rattle.path.specs.Lists.{isIn}
-use Rattle.path.specs.Routes.{byteOf, switchAt, switchTo}
+use Rattle.path.specs.Routes.{byteOf, switchAt, switchTo, levelOf, valueOf}
 use Rattle.path.specs.Walks.{Walk, stopped, arrived, hopTo, hopRefusal, fault, ended, walkFrom, walk, single, writeFault, writeFrom}
 use Rattle.path.specs.Answers.{arrayRefusal, noWalk, walked, walkAnswer, readAnswer, noWriting, reversed, reverseAnswer, serversRefusal, writeRefusal, written, onTheWay, writeAnswer}
-use Rattle.path.proofs.ListSteps.{taken-on}
-use Rattle.path.proofs.ListLaws.{length-snoc, filled-at, filled-past}
-use Rattle.room.proofs.RoomLaws.{bound-le}
 use Rattle.path.proofs.ByteLaws.{made-of, parts-of}
-use Rattle.path.proofs.CodecLaws.{array-of, listed-of, read-exactly, read-given}
-use Rattle.verdict.specs.Checks.{arrays, parallel, firstStop, firstMeeting, firstOf, firstPair, roomRefusal, listRefusal, walksOf, checkAnswer}
+use Rattle.path.proofs.CodecLaws.{array-of, listed-of}
+use Rattle.verdict.specs.Checks.{arrays, parallel, firstStop, firstMeeting, firstOf, firstPair, listRefusal, walksOf, checkAnswer}
 use Rattle.verdict.proofs.LengthLaws.{list-few}
 use Rattle.driver.specs.Words.{Small}
 use Rattle.driver.proofs.WordLaws.{chain-le, test-le, none-small, plain-small, number-small}
@@ -61,8 +55,8 @@ byte-small s l v =
 parts-le : (s : Shape) (b : ℕ) → partsRefusal s b ≤ 23
 unfolding partsRefusal
 parts-le s b =
-    let t = leb (b / 64) (s .k) in
-    let u = ltb (b % 64) (bound s (b / 64)) in
+    let t = leb (levelOf b) (s .k) in
+    let u = ltb (valueOf b) (bound s (levelOf b)) in
     chain-le 23 (8 unless t) (9 unless u) (test-le 23 8 t (lit≤ tt)) (test-le 23 9 u (lit≤ tt))
 
 -- the value of the word is 256 times the level plus the value
@@ -78,10 +72,10 @@ parts-small s b =
     (λ r h. record { level = lit≤ tt; value = lit< tt; small = plain-small r h })
     (shape-le s)
     (λ v.
-    answer-so PartsFit (partsRefusal s b) (λ r. noParts (refusedAt r 1 1)) (someParts (b / 64) (b % 64))
+    answer-so PartsFit (partsRefusal s b) (λ r. noParts (refusedAt r 1 1)) (someParts (levelOf b) (valueOf b))
     (λ r h. record { level = lit≤ tt; value = lit< tt; small = at-small r 1 1 h (lit< tt) (lit< tt) })
     (parts-le s b)
-    (λ z. let h = parts-of s b v z in let l : b / 64 ≤ 3 = omega (arith, h .level, h .valid .levels) in let q : b % 64 < 64 = omega arith in record { level = l; value = q; small = none-small (256 * (b / 64) + b % 64) (omega arith) }))
+    (λ z. let h = parts-of s b v z in let l : levelOf b ≤ 3 = omega (arith, h .level, h .valid .levels) in let q : valueOf b < 64 = omega arith in record { level = l; value = q; small = none-small (256 * levelOf b + valueOf b) (omega arith) }))
 
 pub parts-found : (s : Shape) (b : ℕ) (x : Parts) → x ≡ partsAnswer s b → PartsFit x
 parts-found s b x e = subst PartsFit (sym e) (parts-small s b)
@@ -91,18 +85,18 @@ parts-found s b x e = subst PartsFit (sym e) (parts-small s b)
 pub hop-byte-le : (s : Shape) (a b : ℕ) → hopRefusal s a b ≤ 23
 unfolding hopRefusal
 hop-byte-le s a b =
-    let p = 8 unless leb (b / 64) (s .k) in
-    let q = 9 unless ltb (b % 64) (bound s (b / 64)) in
-    let r = 10 unless not (eqb (digit s (b / 64) a) (b % 64)) in
+    let p = 8 unless leb (levelOf b) (s .k) in
+    let q = 9 unless ltb (valueOf b) (bound s (levelOf b)) in
+    let r = 10 unless not (eqb (digit s (levelOf b) a) (valueOf b)) in
     chain-le 23 (p or-else q) r
-    (chain-le 23 p q (test-le 23 8 (leb (b / 64) (s .k)) (lit≤ tt)) (test-le 23 9 (ltb (b % 64) (bound s (b / 64))) (lit≤ tt)))
-    (test-le 23 10 (not (eqb (digit s (b / 64) a) (b % 64))) (lit≤ tt))
+    (chain-le 23 p q (test-le 23 8 (leb (levelOf b) (s .k)) (lit≤ tt)) (test-le 23 9 (ltb (valueOf b) (bound s (levelOf b))) (lit≤ tt)))
+    (test-le 23 10 (not (eqb (digit s (levelOf b) a) (valueOf b))) (lit≤ tt))
 
 fault-le : (s : Shape) (t met used : List ℕ) (a b : ℕ) → fault s t met used a b ≤ 23
 unfolding fault
 fault-le s t met used a b =
-    let l = live t (b / 64) a (hopTo s a b) in
-    let o = not (isIn (hopTo s a b) met) && not (isIn (switchAt s (b / 64) a) used) in
+    let l = live t (levelOf b) a (hopTo s a b) in
+    let o = not (isIn (hopTo s a b) met) && not (isIn (switchAt s (levelOf b) a) used) in
     chain-le 23 (hopRefusal s a b or-else 11 unless l) (12 unless o)
     (chain-le 23 (hopRefusal s a b) (11 unless l) (hop-byte-le s a b) (test-le 23 11 l (lit≤ tt)))
     (test-le 23 12 o (lit≤ tt))
@@ -126,7 +120,7 @@ walk-fits s t d h met used a (b ∷ bs) l m =
     let r = fault s t met used a b in
     let next = hopTo s a b in
     let met' = met ++ (next ∷ []) in
-    let used' = used ++ (switchAt s (b / 64) a ∷ []) in
+    let used' = used ++ (switchAt s (levelOf b) a ∷ []) in
     let k : length met' ≡ h + 1 + 1 = omega (arith, length-snoc met next) in
     let e = ended (h + 1) met' used' bs in
     let w = walkFrom s t d (h + 1) met' used' next bs in

@@ -7,13 +7,12 @@ use mathlib.Core.List.{List}
 use lib.Dec.{leb, eqb, lit≤}
 use lib.ListN.{length}
 use borrow.Author.Tests.{leb-true}
+use Rattle.lists.proofs.ListLaws.{both-held}
+use Rattle.refusals.proofs.ChainLaws.{or-else-zero, test-held}
 use Rattle.room.specs.declared.Shape.{Shape}
-use Rattle.room.specs.Refusals.{_or-else_}
-use Rattle.room.proofs.RefusalLaws.{or-else-zero, test-held, both-held}
-use Rattle.links.specs.Table.{tableRefusal}
-use Rattle.path.specs.Answers.{endsRefusal}
-use Rattle.path.proofs.CodecLaws.{ends-of}
-use Rattle.verdict.specs.Checks.{roomRefusal}
+use Rattle.room.specs.Refusals.{endsRefusal}
+use Rattle.room.proofs.RefusalLaws.{ends-of}
+use Rattle.links.specs.Table.{tableRefusal, roomRefusal}
 use Rattle.pick.specs.declared.Place.{Place}
 use Rattle.pick.specs.Picks.{fits, listsRefusal, Source, inFresh, inKept, nowhere, found, pickSource, missing, pickRefusal}
 use Rattle.pick.specs.Chosen.{Chosen}

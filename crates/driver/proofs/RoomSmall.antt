@@ -2,35 +2,35 @@
 use Prim.Native.Nat.{ℕ, zero, suc, _+_, _≤_, _<_}
 use native.Mathlib.Numerals.{add-one}
 use native.Mathlib.Omega.{arith}
-use native.Mathlib.Decide.{decLe}
 use mathlib.Core.Path.{_≡_, refl, sym, ap, _∙_, subst}
-use mathlib.Core.Logic.{_≢_}
 use mathlib.Core.Bool.{Bool, true, false, cond}
 use mathlib.Core.List.{List, [], _∷_}
 use lib.Dec.{lit<, lit≤}
-use lib.ListN.{length, getD, replicate}
+use lib.ListN.{length}
+use Rattle.lists.specs.Lists.{filled}
+use Rattle.refusals.specs.declared.Refusal.{Refusal}
+use Rattle.refusals.specs.Refusals.{plain, answer}
 use Rattle.room.specs.declared.Shape.{Shape}
-use Rattle.room.specs.declared.Refusal.{Refusal}
 use Rattle.room.specs.declared.Digits.{Digits}
 use Rattle.room.specs.declared.Between.{Between}
-use Rattle.room.specs.Digits.{addressOf, padded}
+use Rattle.room.specs.Digits.{addressOf}
 use Rattle.room.specs.Shapes.{serversOf, bound, Server, Link}
 use Rattle.room.specs.Addresses.{digits, digit, withDigit, switchOf, switchesAt, differing}
-use Rattle.room.specs.Refusals.{plain, shapeRefusal, levelRefusal, serverRefusal, pairRefusal, linkRefusal, valueRefusal, placesRefusal}
-use Rattle.room.specs.Answers.{answer, noDigits, someDigits, noSwitch, aSwitch, noBetween, onlyLevel, serversAnswer, boundAnswer, digitsAnswer, digitAnswer, addressAnswer, switchAnswer, neighbourAnswer, betweenAnswer}
+use Rattle.room.specs.Refusals.{shapeRefusal, levelRefusal, serverRefusal, pairRefusal, linkRefusal, valueRefusal, placesRefusal}
+use Rattle.room.specs.Answers.{noDigits, someDigits, noSwitch, aSwitch, noBetween, onlyLevel, serversAnswer, boundAnswer, digitsAnswer, digitAnswer, addressAnswer, switchAnswer, neighbourAnswer, betweenAnswer}
 use Rattle.room.specs.Wiring.{serverAt, portRefusal, switchesAnswer, serverAtAnswer}
-use Rattle.room.proofs.RefusalLaws.{valid-of, level-of, server-of, pair-of, link-of, value-of, places-of}
+use Rattle.room.proofs.RefusalLaws.{valid-of, level-of, pair-of, link-of, value-of, places-of}
 use Rattle.room.proofs.DigitLaws.{pow-small}
 use Rattle.room.proofs.FourPlaces.{sums}
-use Rattle.room.proofs.RoomLaws.{bound-le, digits-long as levels-long, digit-lt, digit-past, with-server, switches-power, switch-lt, neighbours-exactly, padded-long, place-digit, places-below}
+use Rattle.room.proofs.RoomLaws.{bound-le, digit-lt, with-server, switches-power, switch-lt, neighbours-exactly, places-below}
 use Rattle.room.proofs.WiringLaws.{port-of, port-server}
 use Rattle.links.specs.declared.Asked.{Asked}
 use Rattle.links.specs.Table.{failed, tableLinkRefusal}
 use Rattle.links.specs.Answers.{notAsked, asked, failedAnswer, linkAnswer}
 use Rattle.links.specs.Servers.{tableServerRefusal, serverAnswer}
 use Rattle.driver.specs.declared.Answer.{Answer}
-use Rattle.driver.specs.Words.{word, left, Small, betweenWord, askedWord}
-use Rattle.driver.proofs.WordLaws.{none-small, plain-small, number-small, left-given, left-lent}
+use Rattle.driver.specs.Words.{word, Small, betweenWord, askedWord}
+use Rattle.driver.proofs.WordLaws.{none-small, plain-small, number-small}
 use Rattle.driver.proofs.BoundLaws.{shape-le, level-le, server-le, pair-le, link-le, value-le, places-le, port-le, table-link-le, table-server-le}
 
 -- ---- a refusal of a call as a whole, with any number
@@ -172,7 +172,7 @@ digits-refusal (suc r) v ds h k = plain-with (suc r) v h k
 
 digits-with : (s : Shape) (a v : ℕ) → v < 4294967296 → Small (digitsAnswer s a .refusal) v
 unfolding digitsAnswer
-digits-with s a v k = digits-refusal (serverRefusal s a) v (padded (digits s a)) (server-le s a) k
+digits-with s a v k = digits-refusal (serverRefusal s a) v (filled 4 (digits s a)) (server-le s a) k
 
 pub digits-fits : (s : Shape) (a v : ℕ) {x : Digits} → v < 4294967296 → x ≡ digitsAnswer s a → Small (x .refusal) v
 digits-fits s a v {x} k e = subst (λ (z : Digits). Small (z .refusal) v) (sym e) (digits-with s a v k)

@@ -7,13 +7,15 @@ use mathlib.Core.Logic.{⊎-elim}
 use mathlib.Core.List.{List, [], _∷_, map}
 use lib.ListN.{length}
 use lib.Dec.{lit≤}
+use Rattle.refusals.specs.declared.Refusal.{Refusal}
+use Rattle.refusals.specs.Refusals.{plain, answer}
 use Rattle.room.specs.declared.Shape.{Shape}
-use Rattle.room.specs.declared.Refusal.{Refusal}
-use Rattle.room.specs.Refusals.{plain}
-use Rattle.room.specs.Answers.{answer}
-use Rattle.path.specs.Answers.{endsRefusal}
+use Rattle.room.specs.Refusals.{endsRefusal}
+use Rattle.room.specs.Shapes.{Ends}
+use Rattle.room.proofs.RefusalLaws.{ends-of}
+use Rattle.links.specs.Table.{roomRefusal}
+use Rattle.links.proofs.TableLaws.{room-of}
 use Rattle.path.specs.Routes.{encode}
-use Rattle.path.proofs.CodecLaws.{Ends, ends-of}
 use Rattle.build.specs.declared.Building.{Building}
 use Rattle.build.specs.declared.RouteSet.{RouteSet}
 use Rattle.build.specs.Built.{builtArrays}
@@ -21,17 +23,16 @@ use Rattle.build.specs.Sets.{setOf}
 use Rattle.build.specs.Answers.{noBuilding, aBuilding, buildAnswer}
 use Rattle.build.proofs.ArrayLaws.{arrays-count}
 use Rattle.finder.specs.declared.Found.{Found}
-use Rattle.finder.specs.Answers.{findRefusal, Finding}
+use Rattle.finder.specs.Answers.{Finding}
 use Rattle.finder.proofs.AnswerLaws.{given-some, found-refusal, found-or-none}
 use Rattle.select.specs.declared.Selection.{Selection}
-use Rattle.select.specs.Selection.{selectRefusal, Selecting, GivesRoutes, selection}
+use Rattle.select.specs.Selection.{Selecting, GivesRoutes, selection}
 use Rattle.select.proofs.SlotLaws.{all-settled}
-use Rattle.select.proofs.SelectLaws.{select-ends, select-le}
 use Rattle.driver.specs.declared.Answer.{Answer}
 use Rattle.driver.specs.Words.{word, Small, left}
 use Rattle.driver.specs.Routes.{FoundWord, SelectedWord}
-use Rattle.driver.proofs.WordLaws.{chain-le, none-small, plain-small}
-use Rattle.driver.proofs.BoundLaws.{ends-le, table-le}
+use Rattle.driver.proofs.WordLaws.{none-small, plain-small}
+use Rattle.driver.proofs.BoundLaws.{ends-le, room-le}
 
 -- ---- built routes
 
@@ -56,18 +57,14 @@ build-said {s} {t} a d {w} {x} lent {bytes} e g h f =
 
 -- ---- the alternate
 
-find-le : (s : Shape) (t : List ℕ) (a d : ℕ) → findRefusal s t a d ≤ 23
-unfolding findRefusal
-find-le s t a d = chain-le 23 (endsRefusal s a d) _ (ends-le s a d) (table-le s t)
-
 pub find-small : {s : Shape} {t : List ℕ} {a d : ℕ} (x : Found) → Finding s t a d x → Small (x .refusal) (x .hops)
 find-small {s} {t} {a} {d} x f =
-    elim (ℕ-discrete (findRefusal s t a d) 0) [
+    elim (ℕ-discrete (roomRefusal s t a d) 0) [
       | yes z ↦ subst (λ (r : Refusal). Small r (x .hops)) (sym (found-refusal f ∙ ap plain z)) (none-small (x .hops) (few z))
-      | no n ↦ subst (λ (y : Found). Small (y .refusal) (y .hops)) (sym (f .refused n)) (plain-small (findRefusal s t a d) (find-le s t a d))
+      | no n ↦ subst (λ (y : Found). Small (y .refusal) (y .hops)) (sym (f .refused n)) (plain-small (roomRefusal s t a d) (room-le s t a d))
     ]
   where
-    few : findRefusal s t a d ≡ 0 → x .hops < 4294967296
+    few : roomRefusal s t a d ≡ 0 → x .hops < 4294967296
     few z =
         ⊎-elim (λ g. let h = given-some g .1 in omega arith) (λ g. omega (arith, ap (λ (y : Found). y .hops) (g .0))) (found-or-none f z)
 
@@ -91,9 +88,9 @@ chosen-small s (vs ∷ vss) h = none-small (length (map (encode s) (vs ∷ vss))
 
 pub select-small : {s : Shape} {t : List ℕ} {a d : ℕ} (x : Selection) → Selecting s t a d x → Small (x .refusal) (x .routes .count)
 select-small {s} {t} {a} {d} x f =
-    elim (ℕ-discrete (selectRefusal s t a d) 0) [
-      | yes z ↦ given (f .given z) (select-ends s t a d z)
-      | no n ↦ subst (λ (y : Selection). Small (y .refusal) (y .routes .count)) (sym (f .refused n)) (plain-small (selectRefusal s t a d) (let h = select-le s t a d in omega arith))
+    elim (ℕ-discrete (roomRefusal s t a d) 0) [
+      | yes z ↦ given (f .given z) (room-of s t a d z .0)
+      | no n ↦ subst (λ (y : Selection). Small (y .refusal) (y .routes .count)) (sym (f .refused n)) (plain-small (roomRefusal s t a d) (room-le s t a d))
     ]
   where
     given : GivesRoutes s t a d x → Ends s a d → Small (x .refusal) (x .routes .count)

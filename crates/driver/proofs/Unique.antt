@@ -5,7 +5,7 @@ use borrow.Fn.Kinds.{Dens, endedOf, resT}
 use denote.Triple.Clauses.{AtExit}
 use denote.Ref.{now}
 use contract.Lifetimes.{Lfts}
-use Rattle.room.specs.Determined.{Determined}
+use Rattle.refusals.specs.Determined.{Determined}
 use Prim.Native.Nat.{ℕ}
 use mathlib.Core.List.{List}
 use Rattle.room.specs.declared.Shape.{Shape}

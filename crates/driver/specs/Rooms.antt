@@ -3,7 +3,7 @@ use Prim.Native.Nat.{ℕ, _+_, _*_, _/_, _%_}
 use mathlib.Core.Bool.{cond}
 use lib.Dec.{leb}
 use Rattle.room.specs.declared.Shape.{Shape}
-use Rattle.room.specs.Shapes.{shapeOf}
+use Rattle.room.specs.Shapes.{fullRoom}
 use Rattle.driver.specs.declared.Room.{Room}
 
 -- a number, or 255 where it is more
@@ -16,4 +16,4 @@ roomOf n k = record { number = held n + 256 * held k }
 
 -- the shape of a room, whatever its number
 unfoldable pub shapeIn : Room → Shape
-shapeIn r = shapeOf (r .number % 256) (r .number / 256)
+shapeIn r = fullRoom (r .number % 256) (r .number / 256)

@@ -2,7 +2,7 @@
 use Prim.Native.Nat.{ℕ, zero, suc, _+_, _*_, _/_, _%_, _<_}
 use mathlib.Core.List.{List}
 use mathlib.Core.Bool.{cond}
-use Rattle.room.specs.declared.Refusal.{Refusal}
+use Rattle.refusals.specs.declared.Refusal.{Refusal}
 use Rattle.room.specs.declared.Number.{Number}
 use Rattle.room.specs.declared.Digits.{Digits}
 use Rattle.room.specs.declared.Switch.{Switch}

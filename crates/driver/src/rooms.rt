@@ -1,7 +1,8 @@
 // Whether there is such a room; addresses, switches and neighbours.
 ghost use mathlib.Core.Path.{_≡_};
 ghost use mathlib.Core.List.{[], _∷_};
-ghost use Rattle.room.specs.Refusals.{plain, shapeRefusal};
+ghost use Rattle.refusals.specs.Refusals.{plain};
+ghost use Rattle.room.specs.Refusals.{shapeRefusal};
 ghost use Rattle.room.specs.Answers.{serversAnswer, boundAnswer, digitsAnswer, digitAnswer, addressAnswer, switchAnswer, neighbourAnswer, betweenAnswer};
 ghost use Rattle.room.specs.Wiring.{switchesAnswer, serverAtAnswer};
 ghost use Rattle.driver.specs.Rooms.{shapeIn};
@@ -10,7 +11,7 @@ use crate::Answer;
 use crate::Room;
 use crate::shapes::shape_in;
 use crate::words::result_word;
-use room::Refusal;
+use refusals::Refusal;
 
 // Whether a room can have this shape. Refusals 1, 2, 3; the value is 0.
 #[no_mangle]

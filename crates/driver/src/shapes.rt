@@ -38,5 +38,5 @@ pub(crate) fn shape_in(room: Room) -> Shape
     ensures { λ r. ⌜ r ≡ shapeIn room ⌝ }
 {
     let number = room.number as usize;
-    Shape::new(number % 256, number / 256)
+    Shape::full(number % 256, number / 256)
 }

@@ -2,7 +2,7 @@
 ghost use mathlib.Core.Path.{_≡_};
 ghost use Rattle.driver.specs.Words.{word, Small};
 use crate::Answer;
-use room::Refusal;
+use refusals::Refusal;
 
 // The result word of a refusal and a number.
 pub(crate) fn result_word(refusal: Refusal, value: usize) -> Answer

@@ -6,11 +6,12 @@ use mathlib.Core.Path.{_≡_, sym, ap, _∙_}
 use mathlib.Core.Logic.{_⊎_, inl, inr, ⊎-elim, _↔_}
 use mathlib.Core.List.{List}
 use lib.ListN.{length}
+use Rattle.refusals.specs.Refusals.{plain}
 use Rattle.room.specs.declared.Shape.{Shape}
-use Rattle.room.specs.Refusals.{plain}
+use Rattle.links.specs.Table.{roomRefusal}
 use Rattle.path.specs.Routes.{encode, RouteTo}
 use Rattle.finder.specs.declared.Found.{Found}
-use Rattle.finder.specs.Answers.{findRefusal, noRoute, GivesAlternate, Finding}
+use Rattle.finder.specs.Answers.{noRoute, GivesAlternate, Finding}
 use Rattle.finder.proofs.Order.{split}
 
 module _ {s : Shape} {t : List ℕ} {a d : ℕ} {r : Found} where
@@ -27,15 +28,15 @@ module _ {s : Shape} {t : List ℕ} {a d : ℕ} {r : Found} where
 
   module _ (f : Finding s t a d r) where
     -- the refusal is the test's
-    pub found-refusal : r .refusal ≡ plain (findRefusal s t a d)
+    pub found-refusal : r .refusal ≡ plain (roomRefusal s t a d)
     found-refusal =
-        elim (ℕ-discrete (findRefusal s t a d) 0) [
+        elim (ℕ-discrete (roomRefusal s t a d) 0) [
           | yes z ↦
               ⊎-elim (λ p. ap (λ (x : Found). x .refusal) (f .given z p .answer)) (λ p. ap (λ (x : Found). x .refusal) (f .none z (omega arith) .0)) (split 0 (r .hops)) ∙ ap plain (sym z)
           | no n ↦ ap (λ (x : Found). x .refusal) (f .refused n)
         ]
 
-    module _ (z : findRefusal s t a d ≡ 0) where
+    module _ (z : roomRefusal s t a d ≡ 0) where
       -- the alternate, or no route
       pub found-or-none : GivesAlternate s t a d r ⊎ ((r ≡ noRoute 0) × ((vs : List ℕ) → RouteTo s t a d vs → ⊥))
       found-or-none = ⊎-elim (λ p. inl (f .given z p)) (λ p. inr (f .none z (omega arith))) (split 0 (r .hops))

@@ -6,16 +6,15 @@ use mathlib.Core.Logic.{_⊎_, ⊎-elim}
 use mathlib.Core.List.{List, [], _∷_, _++_, map}
 use lib.ListN.{length, getD, take, drop, replicate, length-map, length-drop, length-replicate, getD-replicate, take-append-drop}
 use lib.Seq.{ext-getD, getD-drop}
+use Rattle.lists.specs.Lists.{inTurn, filled}
+use Rattle.refusals.specs.Refusals.{none}
 use Rattle.room.specs.declared.Shape.{Shape}
-use Rattle.room.specs.Refusals.{none, shapeRefusal, _or-else_}
-use Rattle.room.proofs.RefusalLaws.{or-else-zero, valid-none, chain-goes}
-use Rattle.links.specs.Table.{tableRefusal, roomTableRefusal}
-use Rattle.path.specs.Lists.{inTurn, filled}
+use Rattle.room.specs.Shapes.{Ends}
+use Rattle.links.specs.Table.{roomRefusal}
+use Rattle.links.proofs.TableLaws.{room-of}
 use Rattle.path.specs.Routes.{byteTo, encode}
-use Rattle.path.specs.Answers.{endsRefusal}
-use Rattle.path.proofs.CodecLaws.{Ends, ends-of}
 use Rattle.finder.specs.declared.Found.{Found}
-use Rattle.finder.specs.Answers.{findRefusal, noRoute, aRoute, Finding}
+use Rattle.finder.specs.Answers.{noRoute, aRoute, Finding}
 use Rattle.finder.specs.Walks.{Leads, Least}
 use Rattle.finder.specs.Hops.{turned, stepOf, Ok}
 use Rattle.finder.specs.State.{trail}
@@ -27,20 +26,7 @@ use Rattle.finder.proofs.Hops.{Kept-in, ok-low}
 use Rattle.finder.proofs.Walking.{met, met-long, met-bytes′}
 use Rattle.finder.proofs.Least.{least-alternate, no-walk-no-route}
 
--- ---- what is given where nothing is refused
-
-pub ready : (s : Shape) (t : List ℕ) (a d : ℕ) → findRefusal s t a d ≡ 0 → Ends s a d
-unfolding findRefusal
-ready s t a d e = ends-of s a d (or-else-zero _ _ e .0)
-
--- the table's test, after that of the ends
-pub table-next : (s : Shape) (t : List ℕ) (a d r x : ℕ) → r ≡ endsRefusal s a d → r ≡ 0 → x ≡ roomTableRefusal s t → x ≡ endsRefusal s a d or-else tableRefusal s t
-unfolding _or-else_ roomTableRefusal
-table-next s t a d r x e z f =
-    let v : 0 ≡ shapeRefusal s = valid-none (ends-of s a d (sym e ∙ z) .source .valid) in
-    chain-goes r _ _ x e z (rw (← v) at f)
-
-pub refused-answer : {s : Shape} {t : List ℕ} {a d : ℕ} (q : ℕ) → q ≡ findRefusal s t a d → (q ≡ 0 → ⊥) → (r : Found) → r ≡ noRoute q → Finding s t a d r
+pub refused-answer : {s : Shape} {t : List ℕ} {a d : ℕ} (q : ℕ) → q ≡ roomRefusal s t a d → (q ≡ 0 → ⊥) → (r : Found) → r ≡ noRoute q → Finding s t a d r
 refused-answer q e ne r f =
     record { refused = λ n. f ∙ ap noRoute e; given = λ z. absurd (ne (e ∙ z)); none = λ z. absurd (ne (e ∙ z)) }
 
@@ -67,9 +53,9 @@ pub record Ended (s : Shape) (t : List ℕ) (a : ℕ) (back queue : List ℕ) (n
   pub kept : Kept-in s t a back queue n reach
   pub how : (n * 256 ≤ reach) ⊎ (getD back d 0 ≡ noParent → ⊥)
 
-module _ {s : Shape} {t : List ℕ} {a d : ℕ} {back queue : List ℕ} {n : ℕ} (pre : findRefusal s t a d ≡ 0) (e : Ended s t a back queue n d) where
+module _ {s : Shape} {t : List ℕ} {a d : ℕ} {back queue : List ℕ} {n : ℕ} (pre : roomRefusal s t a d ≡ 0) (e : Ended s t a back queue n d) where
   given : Ends s a d
-  given = ready s t a d pre
+  given = room-of s t a d pre .0
 
   low : (u x : ℕ) → Ok s t u x → x < 256
   low = ok-low s (given .source .valid) t
@@ -88,7 +74,7 @@ module _ {s : Shape} {t : List ℕ} {a d : ℕ} {back queue : List ℕ} {n : ℕ
       }
 
   at-d : d < 4096
-  at-d = omega (arith, given .dest .below, given .dest .valid .small)
+  at-d = omega (arith, given .destination .below, given .destination .valid .small)
 
   -- the destination is not found: there is no route
   pub none-found : getD back d 0 ≡ noParent → (r : Found) → r ≡ noRoute 0 → Finding s t a d r

@@ -7,15 +7,15 @@ use mathlib.Core.Bool.{false}
 use mathlib.Core.List.{List, [], _∷_, _++_, map}
 use lib.ListN.{length, getD, take, drop, length-append, length-drop}
 use lib.Seq.{length-take-le}
+use Rattle.lists.specs.Lists.{Once, inTurn}
+use Rattle.lists.proofs.ListLaws.{length-turn, turn-at}
 use Rattle.room.specs.declared.Shape.{Shape}
 use Rattle.room.specs.Shapes.{Server, Link}
 use Rattle.room.specs.Addresses.{digit, switchOf, Beside}
 use Rattle.room.proofs.RoomLaws.{same-switch, switch-same}
 use Rattle.links.specs.Table.{failed}
 use Rattle.links.proofs.TableLaws.{live-exactly}
-use Rattle.path.specs.Lists.{Once, inTurn}
 use Rattle.path.specs.Routes.{switchTo, switchAt, switchesOf, RouteTo}
-use Rattle.path.proofs.ListLaws.{length-turn, turn-at}
 use Rattle.path.proofs.HopLaws.{switch-id}
 use Rattle.finder.specs.Alternates.{hopBytes, Sooner, HopByHop, Before, Alternate}
 use Rattle.finder.specs.Walks.{Leads, Lex, Least}

@@ -6,10 +6,10 @@ use mathlib.Core.List.{List, [], _∷_}
 use native.Mathlib.Omega.{arith}
 use native.Mathlib.Decide.{decLt}
 use lib.ListN.{length}
+use Rattle.lists.specs.Lists.{filled}
+use Rattle.lists.proofs.ListLaws.{length-turn}
 use Rattle.room.specs.declared.Shape.{Shape}
-use Rattle.path.specs.Lists.{filled}
 use Rattle.path.specs.Routes.{byteTo, encode, RouteTo}
-use Rattle.path.proofs.ListLaws.{length-turn}
 use Rattle.path.proofs.CodecLaws.{encodes-unique}
 use Rattle.finder.specs.Alternates.{hopBytes, Sooner, HopByHop, Before, Alternate}
 

@@ -6,7 +6,7 @@ use mathlib.Core.Path.{_≡_}
 use mathlib.Core.Logic.{_≢_, _⊎_, inl, inr, ⊎-elim}
 use mathlib.Core.List.{List, [], _∷_}
 use lib.ListN.{length, getD}
-use Rattle.path.specs.Lists.{Once}
+use Rattle.lists.specs.Lists.{Once}
 
 -- two places that hold the same
 pub record Twice (xs : List ℕ) : Type 0 where

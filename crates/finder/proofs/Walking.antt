@@ -6,15 +6,15 @@ use mathlib.Core.Logic.{_≢_}
 use mathlib.Core.Bool.{true, false}
 use mathlib.Core.List.{List, [], _∷_, _++_, map}
 use lib.ListN.{length, getD, take, drop, length-map}
+use Rattle.lists.specs.Lists.{inTurn}
+use Rattle.lists.proofs.ListLaws.{length-turn}
 use Rattle.room.specs.declared.Shape.{Shape}
 use Rattle.room.specs.Shapes.{Server, Value}
 use Rattle.room.specs.Addresses.{digit, withDigit, switchOf, Beside, Neighbours}
 use Rattle.room.proofs.RoomLaws.{bound-le, digit-lt, with-server, with-same, with-own, with-beside, with-switch, beside-with, neighbours-exactly}
 use Rattle.links.specs.Table.{live, failed}
 use Rattle.links.proofs.TableLaws.{live-exactly}
-use Rattle.path.specs.Lists.{inTurn}
 use Rattle.path.specs.Routes.{byteOf, switchAt, levelTo, switchTo, byteTo, Route, RouteTo}
-use Rattle.path.proofs.ListLaws.{length-turn}
 use Rattle.finder.specs.Alternates.{hopBytes}
 use Rattle.finder.specs.Walks.{Leads}
 use Rattle.finder.specs.Hops.{turned, stepOf, Ok}

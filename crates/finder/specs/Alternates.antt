@@ -1,12 +1,12 @@
 -- The alternate: the route that comes first in document 01's order, among all routes over the live links of a table.
-use Prim.Native.Nat.{ℕ, _/_, _%_, _<_}
+use Prim.Native.Nat.{ℕ, _<_}
 use mathlib.Core.Path.{_≡_}
 use mathlib.Core.Logic.{_⊎_}
 use mathlib.Core.List.{List, [], _∷_}
 use lib.ListN.{length}
+use Rattle.lists.specs.Lists.{inTurn}
 use Rattle.room.specs.declared.Shape.{Shape}
-use Rattle.path.specs.Lists.{inTurn}
-use Rattle.path.specs.Routes.{byteTo, RouteTo}
+use Rattle.path.specs.Routes.{byteTo, RouteTo, levelOf, valueOf}
 
 -- the path bytes of a route's hops, in turn
 unfoldable pub hopBytes : Shape → List ℕ → List ℕ
@@ -14,7 +14,7 @@ hopBytes s vs = inTurn (byteTo s) vs
 
 -- of two hops, by their path bytes: the higher level comes first, then the lower value
 abbrev pub Sooner : ℕ → ℕ → Type 0
-Sooner b c = (c / 64 < b / 64) ⊎ ((b / 64 ≡ c / 64) × (b % 64 < c % 64))
+Sooner b c = (levelOf c < levelOf b) ⊎ ((levelOf b ≡ levelOf c) × (valueOf b < valueOf c))
 
 -- hop by hop from the source: at the first hop in which they differ, the first comes sooner
 abbrev pub HopByHop : List ℕ → List ℕ → Type 0

@@ -4,17 +4,12 @@ use mathlib.Core.Path.{_≡_}
 use mathlib.Core.Logic.{_≢_}
 use mathlib.Core.List.{List}
 use lib.ListN.{length, replicate}
+use Rattle.refusals.specs.Refusals.{none, plain}
 use Rattle.room.specs.declared.Shape.{Shape}
-use Rattle.room.specs.Refusals.{none, plain, _or-else_}
-use Rattle.links.specs.Table.{tableRefusal}
+use Rattle.links.specs.Table.{roomRefusal}
 use Rattle.path.specs.Routes.{encode, RouteTo}
-use Rattle.path.specs.Answers.{endsRefusal}
 use Rattle.finder.specs.declared.Found.{Found}
 use Rattle.finder.specs.Alternates.{Alternate}
-
--- 1 to 3, 4, 5, 6
-unfoldable pub findRefusal : Shape → List ℕ → ℕ → ℕ → ℕ
-findRefusal s t a d = endsRefusal s a d or-else tableRefusal s t
 
 -- no route, with or without a refusal
 abbrev pub noRoute : ℕ → Found
@@ -32,6 +27,6 @@ pub record GivesAlternate (s : Shape) (t : List ℕ) (a d : ℕ) (r : Found) : T
 
 -- what the search answers: the refusal; or the alternate; or, where no route is, no hops
 pub record Finding (s : Shape) (t : List ℕ) (a d : ℕ) (r : Found) : Type 0 where
-  pub refused : findRefusal s t a d ≢ 0 → r ≡ noRoute (findRefusal s t a d)
-  pub given : findRefusal s t a d ≡ 0 → 0 < r .hops → GivesAlternate s t a d r
-  pub none : findRefusal s t a d ≡ 0 → r .hops ≡ 0 → (r ≡ noRoute 0) × ((vs : List ℕ) → RouteTo s t a d vs → ⊥)
+  pub refused : roomRefusal s t a d ≢ 0 → r ≡ noRoute (roomRefusal s t a d)
+  pub given : roomRefusal s t a d ≡ 0 → 0 < r .hops → GivesAlternate s t a d r
+  pub none : roomRefusal s t a d ≡ 0 → r .hops ≡ 0 → (r ≡ noRoute 0) × ((vs : List ℕ) → RouteTo s t a d vs → ⊥)

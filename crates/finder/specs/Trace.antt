@@ -3,7 +3,7 @@ use Prim.Native.Nat.{ℕ, _*_, _/_, _%_, _<_, _≤_}
 use mathlib.Core.Path.{_≡_}
 use mathlib.Core.List.{List, map}
 use lib.ListN.{length, getD, take}
-use Rattle.room.specs.Refusals.{none}
+use Rattle.refusals.specs.Refusals.{none}
 use Rattle.finder.specs.declared.Found.{Found}
 use Rattle.finder.specs.Hops.{turned}
 use Rattle.finder.specs.State.{trail}

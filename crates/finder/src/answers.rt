@@ -2,7 +2,7 @@
 ghost use mathlib.Core.Path.{_≡_};
 ghost use Rattle.finder.specs.Answers.{noRoute};
 use crate::Found;
-use room::Refusal;
+use refusals::Refusal;
 
 // No route, with a refusal's number or 0.
 pub(crate) fn no_route(number: usize) -> Found

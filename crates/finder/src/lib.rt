@@ -1,6 +1,6 @@
 // The search for the alternate: the least route over the live links of a failed-link table. Every
 // call takes every input: it answers, or refuses by number.
-use room::Refusal;
+use refusals::Refusal;
 // answers.rt: the answer where there is no route
 mod answers;
 // finding.rt: the call, and what it refuses
@@ -18,11 +18,4 @@ pub struct Found {
     pub refusal: Refusal,
     pub hops: usize,
     pub bytes: [u8; 8],
-}
-
-// The servers at a switch: the first, how far the next is from each, and how many to try.
-pub(crate) struct Side {
-    pub(crate) first: usize,
-    pub(crate) stride: usize,
-    pub(crate) count: usize,
 }

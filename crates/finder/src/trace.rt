@@ -5,7 +5,7 @@ ghost use lib.ListN.{take};
 ghost use Rattle.finder.specs.Trace.{Reached, TracedBack};
 use crate::Found;
 use crate::answers::no_route;
-use room::Refusal;
+use refusals::Refusal;
 use room::Shape;
 
 // Eight bytes with one more in front; the last goes.

@@ -4,7 +4,7 @@ use borrow.Fn.Kinds.{Dens, endedOf, resT}
 use denote.Triple.Clauses.{AtExit}
 use denote.Ref.{now}
 use contract.Lifetimes.{Lfts}
-use Rattle.room.specs.Determined.{Determined}
+use Rattle.refusals.specs.Determined.{Determined}
 use Rattle.laying.proofs.OneTable.{lays-unique}
 use Rattle.laying.proofs.routes.lay_route.Reads as lay-route
 use Rattle.laying.proofs.routes.lay_route.Kinds as lay-route-kinds

@@ -3,20 +3,15 @@ use Prim.Native.Nat.{ℕ}
 use mathlib.Core.Path.{_≡_}
 use mathlib.Core.Logic.{_≢_}
 use mathlib.Core.List.{List, [], _∷_}
+use Rattle.refusals.specs.declared.Refusal.{Refusal}
+use Rattle.refusals.specs.Refusals.{plain, answer}
 use Rattle.room.specs.declared.Shape.{Shape}
-use Rattle.room.specs.declared.Refusal.{Refusal}
-use Rattle.room.specs.Refusals.{plain, _or-else_}
-use Rattle.room.specs.Answers.{answer}
-use Rattle.links.specs.Table.{tableRefusal}
+use Rattle.links.specs.Table.{roomRefusal}
 use Rattle.path.specs.Routes.{Encodes}
-use Rattle.path.specs.Answers.{endsRefusal, readAnswer}
+use Rattle.path.specs.Answers.{readAnswer}
 use Rattle.laying.specs.Laid.{Laid}
 
--- 1 to 3, 4, 5, 6
-unfoldable pub roomRefusal : Shape → List ℕ → ℕ → ℕ → ℕ
-roomRefusal s t a d = endsRefusal s a d or-else tableRefusal s t
-
--- and what reading the array refuses
+-- 1 to 3, 4, 5, 6, then what reading the array refuses
 unfoldable pub layRefusal : Shape → List ℕ → ℕ → ℕ → List ℕ → Refusal
 layRefusal s t a d bs = answer (roomRefusal s t a d) plain (readAnswer s a d bs .refusal)
 

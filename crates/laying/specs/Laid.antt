@@ -3,10 +3,10 @@ use Prim.Native.Nat.{ℕ}
 use mathlib.Core.Path.{_≡_}
 use mathlib.Core.List.{List, [], _∷_}
 use mathlib.Core.Bool.{Bool, false, _||_}
+use Rattle.lists.specs.Lists.{isIn, middle}
 use Rattle.room.specs.declared.Shape.{Shape}
 use Rattle.room.specs.Shapes.{Link}
 use Rattle.links.specs.Table.{failed, TableOf}
-use Rattle.path.specs.Lists.{isIn, middle}
 use Rattle.path.specs.Routes.{switchAt, switchesOf}
 
 -- whether the link of server x at level l is one that route vs takes up: x is a middle server of it, or it uses the link's switch

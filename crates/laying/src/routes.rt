@@ -1,20 +1,9 @@
 // The call, and what it refuses.
-ghost use mathlib.Core.Path.{_≡_};
-ghost use Rattle.laying.specs.Answers.{roomRefusal, Lays};
+ghost use Rattle.laying.specs.Answers.{Lays};
 use crate::marks::mark_route;
-use room::Refusal;
+use links::room_refusal;
+use refusals::Refusal;
 use room::Shape;
-
-// The first of 1, 2, 3, 4, 5, 6 that refuses a room with its ends and its table, or 0.
-fn room_refusal(shape: Shape, table: &[u8], source: usize, destination: usize) -> usize
-    ensures { λ r. ⌜ r ≡ roomRefusal shape (now (table .entry)) source destination ⌝ }
-{
-    let r = path::ends_refusal(shape, source, destination);
-    if r != 0 {
-        return r;
-    }
-    links::table_refusal(shape, table)
-}
 
 // Lays the route of an array into a failed-link table: marks each link of its middle servers, and each
 // link to a switch that it uses. Refusals 1, 2, 3, 4, 5, 6, 7, 8, 9, 10, 12, 13, 14; the table then

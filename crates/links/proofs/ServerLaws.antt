@@ -11,15 +11,18 @@ use native.Mathlib.Nat.{one-le-pow}
 use lib.Dec.{lit<}
 use lib.ListN.{length, getD, set, length-set}
 use lib.Seq.{getD-set-same, getD-set-other}
+use Rattle.refusals.specs.declared.Refusal.{Refusal}
+use Rattle.refusals.specs.Refusals.{none, plain}
+use Rattle.refusals.proofs.ChainLaws.{or-else-zero, chain-goes}
+use Rattle.refusals.proofs.AnswerLaws.{answer-none, answer-refused, answer-given}
 use Rattle.room.specs.declared.Shape.{Shape}
-use Rattle.room.specs.declared.Refusal.{Refusal}
 use Rattle.room.specs.Shapes.{Server}
-use Rattle.room.specs.Refusals.{none, plain, shapeRefusal, serverRefusal}
-use Rattle.room.proofs.RefusalLaws.{or-else-zero, chain-goes, server-of, server-none, valid-none, answer-none, answer-refused, answer-given}
-use Rattle.links.specs.Table.{bit, failed, tableRefusal, TableOf, Dead}
+use Rattle.room.specs.Refusals.{shapeRefusal, serverRefusal}
+use Rattle.room.proofs.RefusalLaws.{server-of, server-none, valid-none}
+use Rattle.links.specs.Table.{bit, failed, fitsLevels, tableRefusal, TableOf, Dead}
 use Rattle.links.specs.Servers.{tableServerRefusal, allBits, serverAnswer, markedServer, clearedServer}
 use Rattle.links.proofs.BitLaws.{bit-none}
-use Rattle.links.proofs.TableLaws.{table-of, table-none}
+use Rattle.links.proofs.TableLaws.{lt-fits, table-of, table-none}
 
 -- ---- what is refused
 
@@ -88,9 +91,9 @@ all-set (suc (suc zero)) (suc (suc (suc l))) h p = let z : ⊥ = omega arith in 
 all-set (suc (suc (suc zero))) (suc (suc (suc (suc l)))) h p = let z : ⊥ = omega arith in absurd z
 all-set (suc (suc (suc (suc k)))) l h p = let z : ⊥ = omega arith in absurd z
 
-all-fit : (k : ℕ) → allBits k < 2 ^ suc k
+all-fit : (k : ℕ) → fitsLevels k (allBits k) ≡ true
 unfolding allBits
-all-fit k = omega (arith, one-le-pow (suc k) 2 (lit< tt))
+all-fit k = lt-fits k _ (omega (arith, one-le-pow (suc k) 2 (lit< tt)))
 
 none-set : (l : ℕ) → bit l 0 ≡ false
 none-set l = bit-none 0 l 0 (one-le-pow 0 2 (lit< tt)) zero-le
@@ -110,11 +113,11 @@ module _ {s : Shape} {t : List ℕ} {a : ℕ} (h : Server s a) (k : TableOf s t)
   put-byte : (x : ℕ) → getD (set t a x) a 0 ≡ x
   put-byte x = getD-set-same t a x 0 inside
 
-  put-table : (x : ℕ) → x < 2 ^ suc (s .k) → TableOf s (set t a x)
+  put-table : (x : ℕ) → fitsLevels (s .k) x ≡ true → TableOf s (set t a x)
   put-table x f =
       record {
         long = length-set t a x ∙ k .long;
-        small = λ b. elim (ℕ-discrete b a) [ yes e ↦ rw e (rw (put-byte x) f) | no n ↦ rw (getD-set-other t a b x 0 n) (k .small b) ];
+        fits = λ b. elim (ℕ-discrete b a) [ yes e ↦ rw e (rw (put-byte x) f) | no n ↦ rw (getD-set-other t a b x 0 n) (k .fits b) ];
       }
 
   -- a server that is marked is dead
@@ -140,4 +143,4 @@ module _ {s : Shape} {t : List ℕ} {a : ℕ} (h : Server s a) (k : TableOf s t)
   mark-server-table = subst (TableOf s) (sym marked-is) (put-table (allBits (s .k)) (all-fit (s .k)))
 
   pub clear-server-table : TableOf s (clearedServer s t a)
-  clear-server-table = subst (TableOf s) (sym cleared-is) (put-table 0 (one-le-pow (suc (s .k)) 2 (lit< tt)))
+  clear-server-table = subst (TableOf s) (sym cleared-is) (put-table 0 (lt-fits (s .k) 0 (one-le-pow (suc (s .k)) 2 (lit< tt))))

@@ -1,202 +1,126 @@
 -- Laws of the failed-link table.
-use Prim.Native.Nat.{ℕ, zero, suc, _+_, _^_, _≤_, _<_, zero-le}
+use Prim.Native.Nat.{ℕ, zero, suc, _^_, _≤_, _<_, zero-le}
 use mathlib.Core.Path.{_≡_, refl, sym, ap, ap₂, _∙_}
 use mathlib.Core.Logic.{_≢_, _↔_}
-use mathlib.Core.Bool.{Bool, true, false, not, _&&_}
+use mathlib.Core.Bool.{Bool, true, false, not, and-comm}
 use mathlib.Core.List.{List, [], _∷_}
-use native.Mathlib.Numerals.{add-one}
 use native.Mathlib.Omega.{arith}
 use native.Mathlib.Decide.{ℕ-discrete}
 use native.Mathlib.Nat.{one-le-pow, lt-of-lt-of-le, pow-le-pow-right}
-use lib.Dec.{ltb, eqb, lit<}
-use lib.ListN.{length, getD, set, drop, replicate, length-set, drop-of-length-le}
-use lib.Seq.{getD-set-same, getD-set-other, set-getD, drop-cons}
-use borrow.Author.Tests.{lt-ltb, le-ltb, ltb-true, eq-eqb, eqb-true, not-true}
+use lib.Dec.{eqb, lit<}
+use lib.ListN.{length, getD, set, replicate, length-set, length-replicate}
+use lib.Seq.{getD-set-same, getD-set-other, set-getD}
+use borrow.Author.Tests.{lt-ltb, ltb-true, eq-eqb, eqb-true, not-true}
+use Rattle.lists.proofs.ListLaws.{both-held, same-at}
+use Rattle.refusals.proofs.ChainLaws.{or-else-zero, chain-goes, test-held}
 use Rattle.room.specs.declared.Shape.{Shape}
-use Rattle.room.specs.Shapes.{serversOf, Valid, Link}
-use Rattle.room.specs.Refusals.{shapeRefusal, linkRefusal}
-use Rattle.room.proofs.RefusalLaws.{or-else-zero, chain-goes, test-held, both-held, valid-of, valid-none, link-of, link-none}
-use Rattle.links.specs.Table.{bit, failed, live, raised, lowered, marked, cleared, bitsFit, tableRefusal, roomTableRefusal, tableLinkRefusal, TableOf, Dead}
-use Rattle.links.proofs.BitLaws.{bit-none, raised-set, lowered-clear, raised-bit, raised-other, raised-lt, raised-raised, raised-lowered, lowered-bit, lowered-other, lowered-le, lowered-lowered, lowered-raised}
+use Rattle.room.specs.Shapes.{serversOf, Valid, Ends, Link}
+use Rattle.room.specs.Refusals.{shapeRefusal, linkRefusal, endsRefusal}
+use Rattle.room.proofs.RefusalLaws.{valid-of, valid-none, link-of, link-none, ends-of, ends-none}
+use Rattle.links.specs.Table.{bit, failed, live, withBit, changed, changedIn, marked, fitsLevels, bitsFit, tableRefusal, roomTableRefusal, roomRefusal, tableLinkRefusal, TableOf, Dead}
+use Rattle.links.proofs.BitLaws.{bit-none, put-same, put-bit, put-other, put-lt, put-again}
 
--- ---- storing a byte that is made of the one there
-
--- the table with the byte of server a changed by f
-abbrev change : (ℕ → ℕ) → ℕ → List ℕ → List ℕ
-change f a t = set t a (f (getD t a 0))
-
-change-own : (f : ℕ → ℕ) (a : ℕ) (t : List ℕ) → a < length t → getD (change f a t) a 0 ≡ f (getD t a 0)
-change-own f a t h = getD-set-same t a (f (getD t a 0)) 0 h
-
-change-other : (f : ℕ → ℕ) (a b : ℕ) (t : List ℕ) → b ≢ a → getD (change f a t) b 0 ≡ getD t b 0
-change-other f a b t h = getD-set-other t a b (f (getD t a 0)) 0 h
-
--- two changes of one byte are one
-change-twice : (f g h : ℕ → ℕ) → ((x : ℕ) → g (f x) ≡ h x) → (a : ℕ) (t : List ℕ) → change g a (change f a t) ≡ change h a t
-change-twice f g h e a [] = refl
-change-twice f g h e zero (x ∷ t) = ap (λ (y : ℕ). y ∷ t) (e x)
-change-twice f g h e (suc a) (x ∷ t) = ap (λ (u : List ℕ). x ∷ u) (change-twice f g h e a t)
-
--- what holds of every byte, and is kept by the change, holds of every byte after it
-change-keeps : (m : ℕ) (f : ℕ → ℕ) → ((x : ℕ) → x < m → f x < m) → (a : ℕ) (t : List ℕ) → ((b : ℕ) → getD t b 0 < m) → (b : ℕ) → getD (change f a t) b 0 < m
-change-keeps m f k a [] h b = h b
-change-keeps m f k zero (x ∷ t) h zero = k x (h zero)
-change-keeps m f k zero (x ∷ t) h (suc b) = h (suc b)
-change-keeps m f k (suc a) (x ∷ t) h zero = h zero
-change-keeps m f k (suc a) (x ∷ t) h (suc b) = change-keeps m f k a t (λ i. h (suc i)) b
-
--- a bit that the change keeps in every byte
-change-bit : (m : ℕ) (f : ℕ → ℕ) → ((x : ℕ) → bit m (f x) ≡ bit m x) → (a b : ℕ) (t : List ℕ) → bit m (getD (change f a t) b 0) ≡ bit m (getD t b 0)
-change-bit m f k a b [] = refl
-change-bit m f k zero zero (x ∷ t) = k x
-change-bit m f k zero (suc b) (x ∷ t) = refl
-change-bit m f k (suc a) zero (x ∷ t) = refl
-change-bit m f k (suc a) (suc b) (x ∷ t) = change-bit m f k a b t
-
--- ---- marking
-
--- the link asked for is marked
-pub marked-own : (a l : ℕ) (t : List ℕ) → a < length t → failed (marked a l t) a l ≡ true
-unfolding failed marked
-marked-own a l t h = ap (bit l) (change-own (raised l) a t h) ∙ raised-bit l (getD t a 0)
-
--- and every other is as it was
-pub marked-other : (a l b m : ℕ) (t : List ℕ) → (b ≡ a → m ≡ l → ⊥) → failed (marked a l t) b m ≡ failed t b m
-unfolding failed marked
-marked-other a l b m t h =
-    elim (ℕ-discrete b a) [
-      | yes q ↦ change-bit m (raised l) (λ x. raised-other l m x (h q)) a b t
-      | no q ↦ ap (bit m) (change-other (raised l) a b t q)
-    ]
+-- ---- one link changed: b is what it is changed to, true where it is marked
 
 -- no other byte moves
-pub marked-byte : (a l b : ℕ) (t : List ℕ) → b ≢ a → getD (marked a l t) b 0 ≡ getD t b 0
-unfolding marked
-marked-byte a l b t h = change-other (raised l) a b t h
+pub changed-byte : (b : Bool) (a l c : ℕ) (t : List ℕ) → c ≢ a → getD (changed b a l t) c 0 ≡ getD t c 0
+unfolding changed
+changed-byte b a l c t h = getD-set-other t a c (withBit b l (getD t a 0)) 0 h
 
-pub marked-long : (a l : ℕ) (t : List ℕ) → length (marked a l t) ≡ length t
-unfolding marked
-marked-long a l t = length-set t a (raised l (getD t a 0))
+module _ (b : Bool) (a l : ℕ) (t : List ℕ) where
+  pub changed-long : length (changed b a l t) ≡ length t
+  unfolding changed
+  changed-long = length-set t a (withBit b l (getD t a 0))
 
-pub marked-small : (m a l : ℕ) (t : List ℕ) → l < m → ((b : ℕ) → getD t b 0 < 2 ^ m) → (b : ℕ) → getD (marked a l t) b 0 < 2 ^ m
-unfolding marked
-marked-small m a l t h k = change-keeps (2 ^ m) (raised l) (λ x b. raised-lt m l x h b) a t k
+  -- the link asked for is as it is wanted
+  pub changed-own : a < length t → failed (changed b a l t) a l ≡ b
+  unfolding failed changed
+  changed-own h = ap (bit l) (getD-set-same t a (withBit b l (getD t a 0)) 0 h) ∙ put-bit b l (getD t a 0)
 
--- ---- clearing
+  -- where it was so already nothing changes
+  pub changed-already : failed t a l ≡ b → changed b a l t ≡ t
+  unfolding failed changed
+  changed-already e = ap (set t a) (put-same b l (getD t a 0) e) ∙ set-getD t a 0
 
--- the link asked for is cleared
-pub cleared-own : (a l : ℕ) (t : List ℕ) → a < length t → failed (cleared a l t) a l ≡ false
-unfolding failed cleared
-cleared-own a l t h = ap (bit l) (change-own (lowered l) a t h) ∙ lowered-bit l (getD t a 0)
+  -- with no test
+  pub changed-in : l < 8 → changedIn b a l t ≡ changed b a l t
+  unfolding changedIn
+  changed-in h = rw (lt-ltb l 8 h)
 
-pub cleared-other : (a l b m : ℕ) (t : List ℕ) → (b ≡ a → m ≡ l → ⊥) → failed (cleared a l t) b m ≡ failed t b m
-unfolding failed cleared
-cleared-other a l b m t h =
-    elim (ℕ-discrete b a) [
-      | yes q ↦ change-bit m (lowered l) (λ x. lowered-other l m x (h q)) a b t
-      | no q ↦ ap (bit m) (change-other (lowered l) a b t q)
-    ]
+-- what holds of every byte, and is kept by the change, holds of every byte after it
+changed-each : (P : ℕ → Type 0) (b : Bool) (a l : ℕ) (t : List ℕ) → ((x : ℕ) → P x → P (withBit b l x)) → ((c : ℕ) → P (getD t c 0)) → (c : ℕ) → P (getD (changed b a l t) c 0)
+unfolding changed
+changed-each P b a l [] k h c = h c
+changed-each P b zero l (x ∷ t) k h zero = k x (h zero)
+changed-each P b zero l (x ∷ t) k h (suc c) = h (suc c)
+changed-each P b (suc a) l (x ∷ t) k h zero = h zero
+changed-each P b (suc a) l (x ∷ t) k h (suc c) = changed-each P b a l t k (λ i. h (suc i)) c
 
-pub cleared-byte : (a l b : ℕ) (t : List ℕ) → b ≢ a → getD (cleared a l t) b 0 ≡ getD t b 0
-unfolding cleared
-cleared-byte a l b t h = change-other (lowered l) a b t h
+-- a bit that the change keeps in every byte
+changed-bit : (b : Bool) (a l c m : ℕ) (t : List ℕ) → m ≢ l → failed (changed b a l t) c m ≡ failed t c m
+unfolding failed changed
+changed-bit b a l c m [] h = refl
+changed-bit b zero l zero m (x ∷ t) h = put-other b l m x h
+changed-bit b zero l (suc c) m (x ∷ t) h = refl
+changed-bit b (suc a) l zero m (x ∷ t) h = refl
+changed-bit b (suc a) l (suc c) m (x ∷ t) h = changed-bit b a l c m t h
 
-pub cleared-long : (a l : ℕ) (t : List ℕ) → length (cleared a l t) ≡ length t
-unfolding cleared
-cleared-long a l t = length-set t a (lowered l (getD t a 0))
-
-pub cleared-small : (m a l : ℕ) (t : List ℕ) → ((b : ℕ) → getD t b 0 < m) → (b : ℕ) → getD (cleared a l t) b 0 < m
-unfolding cleared
-cleared-small m a l t k = change-keeps m (lowered l) (λ x b. omega (arith, lowered-le l x)) a t k
-
--- ---- repeating changes nothing, and of two the later counts
-
-pub marked-twice : (a l : ℕ) (t : List ℕ) → marked a l (marked a l t) ≡ marked a l t
-unfolding marked
-marked-twice a l t = change-twice (raised l) (raised l) (raised l) (raised-raised l) a t
-
-pub cleared-twice : (a l : ℕ) (t : List ℕ) → cleared a l (cleared a l t) ≡ cleared a l t
-unfolding cleared
-cleared-twice a l t = change-twice (lowered l) (lowered l) (lowered l) (lowered-lowered l) a t
-
-pub cleared-marked : (a l : ℕ) (t : List ℕ) → cleared a l (marked a l t) ≡ cleared a l t
-unfolding cleared marked
-cleared-marked a l t = change-twice (raised l) (lowered l) (lowered l) (lowered-raised l) a t
-
-pub marked-cleared : (a l : ℕ) (t : List ℕ) → marked a l (cleared a l t) ≡ marked a l t
-unfolding cleared marked
-marked-cleared a l t = change-twice (lowered l) (raised l) (raised l) (raised-lowered l) a t
-
--- ---- a link that is as it is wanted: nothing changes
-
-pub marked-already : (a l : ℕ) (t : List ℕ) → failed t a l ≡ true → marked a l t ≡ t
-unfolding failed marked
-marked-already a l t e = ap (set t a) (raised-set l (getD t a 0) e) ∙ set-getD t a 0
-
-pub cleared-already : (a l : ℕ) (t : List ℕ) → failed t a l ≡ false → cleared a l t ≡ t
-unfolding failed cleared
-cleared-already a l t e = ap (set t a) (lowered-clear l (getD t a 0) e) ∙ set-getD t a 0
+-- every other link is as it was
+pub changed-other : (b : Bool) (a l c m : ℕ) (t : List ℕ) → (c ≡ a → m ≡ l → ⊥) → failed (changed b a l t) c m ≡ failed t c m
+unfolding failed
+changed-other b a l c m t h =
+    elim (ℕ-discrete c a) [ yes q ↦ changed-bit b a l c m t (h q) | no q ↦ ap (bit m) (changed-byte b a l c t q) ]
 
 -- marking clears no link, clearing marks none
-pub marked-stays : (a l b m : ℕ) (t : List ℕ) → failed t b m ≡ true → failed (marked a l t) b m ≡ true
-marked-stays a l b m t e =
-    elim (ℕ-discrete b a) [
+pub changed-stays : (b : Bool) (a l c m : ℕ) (t : List ℕ) → failed t c m ≡ b → failed (changed b a l t) c m ≡ b
+changed-stays b a l c m t e =
+    elim (ℕ-discrete c a) [
       | yes p ↦ elim (ℕ-discrete m l) [
-        | yes q ↦ let f : failed t a l ≡ true = ap₂ (failed t) (sym p) (sym q) ∙ e in ap (λ (u : List ℕ). failed u b m) (marked-already a l t f) ∙ e
-        | no q ↦ marked-other a l b m t (λ x. q) ∙ e
+        | yes q ↦ let f : failed t a l ≡ b = ap₂ (failed t) (sym p) (sym q) ∙ e in ap (λ (u : List ℕ). failed u c m) (changed-already b a l t f) ∙ e
+        | no q ↦ changed-other b a l c m t (λ x. q) ∙ e
       ]
-      | no p ↦ marked-other a l b m t (λ x. absurd (p x)) ∙ e
+      | no p ↦ changed-other b a l c m t (λ x. absurd (p x)) ∙ e
     ]
 
-pub cleared-stays : (a l b m : ℕ) (t : List ℕ) → failed t b m ≡ false → failed (cleared a l t) b m ≡ false
-cleared-stays a l b m t e =
-    elim (ℕ-discrete b a) [
-      | yes p ↦ elim (ℕ-discrete m l) [
-        | yes q ↦ let f : failed t a l ≡ false = ap₂ (failed t) (sym p) (sym q) ∙ e in ap (λ (u : List ℕ). failed u b m) (cleared-already a l t f) ∙ e
-        | no q ↦ cleared-other a l b m t (λ x. q) ∙ e
-      ]
-      | no p ↦ cleared-other a l b m t (λ x. absurd (p x)) ∙ e
-    ]
+-- of two changes of one link the later counts; the same again changes nothing
+pub changed-again : (b c : Bool) (a l : ℕ) (t : List ℕ) → changed c a l (changed b a l t) ≡ changed c a l t
+unfolding changed
+changed-again b c a l [] = refl
+changed-again b c zero l (x ∷ t) = ap (λ (y : ℕ). y ∷ t) (put-again b c l x)
+changed-again b c (suc a) l (x ∷ t) = ap (λ (u : List ℕ). x ∷ u) (changed-again b c a l t)
 
 -- ---- what a table that is not refused is
 
--- w is what a byte has to be below
-pub fits-step : (k w i : ℕ) (t : List ℕ) → w ≡ 2 ^ (k + 1) → i < length t → getD t i 0 < w → bitsFit k (drop i t) ≡ bitsFit k (drop (i + 1) t)
-unfolding bitsFit
-fits-step k w i t e h b =
-    let q : getD t i 0 < 2 ^ suc k = rw (e, add-one) at b in rw (add-one, drop-cons t i 0 h) (simp (lt-ltb _ _ q))
+fits-lt : (k x : ℕ) → fitsLevels k x ≡ true → x < 2 ^ suc k
+unfolding fitsLevels
+fits-lt k x e = ltb-true x (2 ^ suc k) e
 
-pub fits-stop : (k w i : ℕ) (t : List ℕ) → w ≡ 2 ^ (k + 1) → i < length t → w ≤ getD t i 0 → bitsFit k (drop i t) ≡ false
-unfolding bitsFit
-fits-stop k w i t e h b =
-    let q : 2 ^ suc k ≤ getD t i 0 = rw (e, add-one) at b in rw (drop-cons t i 0 h) (simp (le-ltb _ _ q))
+pub lt-fits : (k x : ℕ) → x < 2 ^ suc k → fitsLevels k x ≡ true
+unfolding fitsLevels
+lt-fits k x h = lt-ltb x (2 ^ suc k) h
 
-pub fits-done : (k i : ℕ) (t : List ℕ) → length t ≤ i → bitsFit k (drop i t) ≡ true
+fits-at : (k : ℕ) (t : List ℕ) → bitsFit k t ≡ true → (a : ℕ) → fitsLevels k (getD t a 0) ≡ true
 unfolding bitsFit
-fits-done k i t h = rw (drop-of-length-le t h)
+fits-at k [] e a = lt-fits k 0 (one-le-pow (suc k) 2 (lit< tt))
+fits-at k (x ∷ t) e zero = both-held (fitsLevels k x) _ e .0
+fits-at k (x ∷ t) e (suc a) = fits-at k t (both-held (fitsLevels k x) _ e .1) a
 
-fits-at : (k : ℕ) (t : List ℕ) → bitsFit k t ≡ true → (a : ℕ) → getD t a 0 < 2 ^ suc k
-unfolding bitsFit
-fits-at k [] e a = one-le-pow (suc k) 2 (lit< tt)
-fits-at k (x ∷ t) e zero = ltb-true x (2 ^ suc k) (both-held (ltb x (2 ^ suc k)) _ e .0)
-fits-at k (x ∷ t) e (suc a) = fits-at k t (both-held (ltb x (2 ^ suc k)) _ e .1) a
-
-fits-all : (k : ℕ) (t : List ℕ) → ((a : ℕ) → getD t a 0 < 2 ^ suc k) → bitsFit k t ≡ true
+fits-all : (k : ℕ) (t : List ℕ) → ((a : ℕ) → fitsLevels k (getD t a 0) ≡ true) → bitsFit k t ≡ true
 unfolding bitsFit
 fits-all k [] h = refl
-fits-all k (x ∷ t) h = rw (lt-ltb x (2 ^ suc k) (h zero)) (fits-all k t (λ a. h (suc a)))
+fits-all k (x ∷ t) h = rw (h zero) (fits-all k t (λ a. h (suc a)))
 
 -- no refusal 6, and it is a table of the room
 pub table-of : (s : Shape) (t : List ℕ) → tableRefusal s t ≡ 0 → TableOf s t
 unfolding tableRefusal
 table-of s t e =
     let z = both-held (eqb (length t) (serversOf s)) (bitsFit (s .k) t) (test-held _ 5 e) in
-    record { long = eqb-true _ _ (z .0); small = fits-at (s .k) t (z .1) }
+    record { long = eqb-true _ _ (z .0); fits = fits-at (s .k) t (z .1) }
 
 -- a table of the room, and no refusal 6
 pub table-none : {s : Shape} {t : List ℕ} → TableOf s t → 0 ≡ tableRefusal s t
 unfolding tableRefusal
-table-none {s} {t} h = rw (eq-eqb (length t) (serversOf s) (h .long), fits-all (s .k) t (h .small))
+table-none {s} {t} h = rw (eq-eqb (length t) (serversOf s) (h .long), fits-all (s .k) t (h .fits))
 
 pub room-table-of : (s : Shape) (t : List ℕ) → roomTableRefusal s t ≡ 0 → Valid s × TableOf s t
 unfolding roomTableRefusal
@@ -205,6 +129,14 @@ room-table-of s t e = let z = or-else-zero (shapeRefusal s) _ e in (valid-of s (
 pub room-table-none : {s : Shape} {t : List ℕ} → Valid s → TableOf s t → 0 ≡ roomTableRefusal s t
 unfolding roomTableRefusal
 room-table-none v h = chain-goes _ _ _ _ (valid-none v) refl (table-none h)
+
+pub room-of : (s : Shape) (t : List ℕ) (a d : ℕ) → roomRefusal s t a d ≡ 0 → Ends s a d × TableOf s t
+unfolding roomRefusal
+room-of s t a d e = let z = or-else-zero (endsRefusal s a d) _ e in (ends-of s a d (z .0), table-of s t (z .1))
+
+pub room-none : {s : Shape} {t : List ℕ} {a d : ℕ} → Ends s a d → TableOf s t → 0 ≡ roomRefusal s t a d
+unfolding roomRefusal
+room-none h k = chain-goes _ _ _ _ (ends-none h) refl (table-none k)
 
 pub table-link-of : (s : Shape) (t : List ℕ) (a l : ℕ) → tableLinkRefusal s t a l ≡ 0 → Link s a l × TableOf s t
 unfolding tableLinkRefusal
@@ -217,50 +149,33 @@ table-link-none h k = chain-goes _ _ _ _ (link-none h) refl (table-none k)
 -- no bit above k is set
 pub table-above : {s : Shape} {t : List ℕ} → TableOf s t → (a l : ℕ) → s .k < l → failed t a l ≡ false
 unfolding failed
-table-above {s} {t} h a l p = bit-none (suc (s .k)) l (getD t a 0) (h .small a) p
+table-above {s} {t} h a l p = bit-none (suc (s .k)) l (getD t a 0) (fits-lt (s .k) (getD t a 0) (h .fits a)) p
 
 -- every byte is one
 pub table-byte : {s : Shape} {t : List ℕ} → Valid s → TableOf s t → (a : ℕ) → getD t a 0 < 256
 table-byte {s} {t} v h a =
     let p : suc (s .k) ≤ 8 = omega (arith, v .levels) in
     let q : 2 ^ suc (s .k) ≤ 2 ^ 8 = pow-le-pow-right (lit< tt) p in
-    lt-of-lt-of-le (h .small a) q
+    lt-of-lt-of-le (fits-lt (s .k) (getD t a 0) (h .fits a)) q
 
--- marking and clearing a link of the room leave a table of the room
-pub marked-table : {s : Shape} {t : List ℕ} → TableOf s t → (a l : ℕ) → l ≤ s .k → TableOf s (marked a l t)
-marked-table {s} {t} h a l p =
-    record { long = marked-long a l t ∙ h .long; small = marked-small (suc (s .k)) a l t (omega arith) (h .small) }
+-- changing a link of the room leaves a table of the room
+pub changed-table : (b : Bool) {s : Shape} {t : List ℕ} → TableOf s t → (a l : ℕ) → l ≤ s .k → TableOf s (changed b a l t)
+changed-table b {s} {t} h a l p =
+    record {
+      long = changed-long b a l t ∙ h .long;
+      fits = changed-each (λ (x : ℕ). fitsLevels (s .k) x ≡ true) b a l t (λ x e. lt-fits (s .k) _ (put-lt b (suc (s .k)) l x (omega arith) (fits-lt (s .k) x e))) (h .fits);
+    }
 
-pub cleared-table : {s : Shape} {t : List ℕ} → TableOf s t → (a l : ℕ) → TableOf s (cleared a l t)
-cleared-table {s} {t} h a l =
-    record { long = cleared-long a l t ∙ h .long; small = cleared-small (2 ^ suc (s .k)) a l t (h .small) }
-
--- a table that passes refusal 6 passes it again
-pub marked-passes : (s : Shape) (t : List ℕ) (a l : ℕ) → l ≤ s .k → tableRefusal s t ≡ 0 → tableRefusal s (marked a l t) ≡ 0
-marked-passes s t a l p e = sym (table-none (marked-table (table-of s t e) a l p))
-
-pub cleared-passes : (s : Shape) (t : List ℕ) (a l : ℕ) → tableRefusal s t ≡ 0 → tableRefusal s (cleared a l t) ≡ 0
-cleared-passes s t a l e = sym (table-none (cleared-table (table-of s t e) a l))
-
--- every byte stays below 256
-pub marked-byte-fits : (a l : ℕ) (t : List ℕ) → l < 8 → ((b : ℕ) → getD t b 0 < 256) → (b : ℕ) → getD (marked a l t) b 0 < 256
-marked-byte-fits a l t h k = marked-small 8 a l t h k
-
-pub cleared-byte-fits : (a l : ℕ) (t : List ℕ) → ((b : ℕ) → getD t b 0 < 256) → (b : ℕ) → getD (cleared a l t) b 0 < 256
-cleared-byte-fits a l t k = cleared-small 256 a l t k
+-- and every byte stays one
+pub changed-bytes : (b : Bool) (a l : ℕ) (t : List ℕ) → l < 8 → ((c : ℕ) → getD t c 0 < 256) → (c : ℕ) → getD (changed b a l t) c 0 < 256
+changed-bytes b a l t h k = changed-each (λ (x : ℕ). x < 256) b a l t (λ x e. put-lt b 8 l x h e) k
 
 -- ---- live hops
-
-and-swap : (t u : Bool) → t && u ≡ u && t
-and-swap true true = refl
-and-swap true false = refl
-and-swap false true = refl
-and-swap false false = refl
 
 -- the same both ways
 pub live-swap : (t : List ℕ) (l a b : ℕ) → live t l a b ≡ live t l b a
 unfolding live
-live-swap t l a b = and-swap (not (failed t a l)) (not (failed t b l))
+live-swap t l a b = and-comm (not (failed t a l)) (not (failed t b l))
 
 -- live exactly when neither link is failed
 pub live-exactly : (t : List ℕ) (l a b : ℕ) → (live t l a b ≡ true) ↔ ((failed t a l ≡ false) × (failed t b l ≡ false))
@@ -275,29 +190,25 @@ live-sender t l a b e = rw e
 pub live-receiver : (t : List ℕ) (l a b : ℕ) → failed t b l ≡ true → live t l a b ≡ false
 live-receiver t l a b e = live-swap t l a b ∙ live-sender t l b a e
 
-failed-zero : (l x : ℕ) → x ≡ 0 → bit l x ≡ false
-failed-zero l x e = bit-none 0 l x (rw e (one-le-pow 0 2 (lit< tt))) zero-le
+-- the table of a healthy room
+pub zeros-table : (s : Shape) → TableOf s (replicate (serversOf s) 0)
+zeros-table s =
+    record {
+      long = length-replicate {A = ℕ} (serversOf s) 0;
+      fits = λ a. rw (same-at {A = ℕ} 0 (serversOf s) a) (lt-fits (s .k) 0 (one-le-pow (suc (s .k)) 2 (lit< tt)));
+    }
 
-pub failed-empty : (a l : ℕ) → failed [] a l ≡ false
-unfolding failed
-failed-empty a l = failed-zero l 0 refl
-
-zeros-at : (m a : ℕ) → _≡_ {A = ℕ} (getD (replicate m 0) a 0) 0
-zeros-at zero a = refl
-zeros-at (suc m) zero = refl
-zeros-at (suc m) (suc a) = zeros-at m a
-
+-- over zeros every hop is live
 pub failed-zeros : (m a l : ℕ) → failed (replicate m 0) a l ≡ false
 unfolding failed
-failed-zeros m a l = failed-zero l (getD (replicate m 0) a 0) (zeros-at m a)
+failed-zeros m a l = ap (bit l) (same-at 0 m a) ∙ bit-none 0 l 0 (lit< tt) zero-le
 
--- with no byte at all every hop is live
-pub live-empty : (l a b : ℕ) → live [] l a b ≡ true
-live-empty l a b = live-exactly [] l a b .1 (failed-empty a l, failed-empty b l)
-
--- and over zeros
 pub live-zeros : (m l a b : ℕ) → live (replicate m 0) l a b ≡ true
 live-zeros m l a b = live-exactly (replicate m 0) l a b .1 (failed-zeros m a l, failed-zeros m b l)
+
+-- and with no byte at all
+pub live-empty : (l a b : ℕ) → live [] l a b ≡ true
+live-empty l a b = live-zeros 0 l a b
 
 -- no hop to or from a dead server is live
 pub dead-from : {s : Shape} {t : List ℕ} {a : ℕ} → Dead s t a → (l b : ℕ) → l ≤ s .k → live t l a b ≡ false
@@ -313,17 +224,17 @@ killed a (suc k) t = marked a (suc k) (killed a k t)
 
 killed-long : (a k : ℕ) (t : List ℕ) → length (killed a k t) ≡ length t
 unfolding killed
-killed-long a zero t = marked-long a 0 t
-killed-long a (suc k) t = marked-long a (suc k) (killed a k t) ∙ killed-long a k t
+killed-long a zero t = changed-long true a 0 t
+killed-long a (suc k) t = changed-long true a (suc k) (killed a k t) ∙ killed-long a k t
 
 killed-failed : (a k l : ℕ) (t : List ℕ) → a < length t → l ≤ k → failed (killed a k t) a l ≡ true
 unfolding killed
-killed-failed a zero zero t h p = marked-own a 0 t h
+killed-failed a zero zero t h p = changed-own true a 0 t h
 killed-failed a zero (suc l) t h p = let z : ⊥ = omega arith in absurd z
 killed-failed a (suc k) l t h p =
     elim (ℕ-discrete l (suc k)) [
-      | yes q ↦ ap (failed (marked a (suc k) (killed a k t)) a) q ∙ marked-own a (suc k) (killed a k t) (omega (arith, killed-long a k t))
-      | no q ↦ marked-stays a (suc k) a l (killed a k t) (killed-failed a k l t h (omega (arith, q)))
+      | yes q ↦ ap (failed (marked a (suc k) (killed a k t)) a) q ∙ changed-own true a (suc k) (killed a k t) (omega (arith, killed-long a k t))
+      | no q ↦ changed-stays true a (suc k) a l (killed a k t) (killed-failed a k l t h (omega (arith, q)))
     ]
 
 -- marking all its links makes a server dead

@@ -1,7 +1,8 @@
 // The bits of a byte, by division: bit l has the weight 2 to the power l.
 ghost use Prim.Native.Nat.{_^_, _<_};
 ghost use mathlib.Core.Path.{_≡_};
-ghost use Rattle.links.specs.Table.{bit, raised, lowered};
+ghost use mathlib.Core.Bool.{true, false};
+ghost use Rattle.links.specs.Table.{bit, withBit};
 
 // The weight of the bit of a level.
 pub(crate) fn weight(level: usize) -> u8
@@ -45,7 +46,7 @@ pub(crate) fn has_bit(byte: u8, level: usize) -> bool
 // A byte with the bit of a level set.
 pub(crate) fn with_bit(byte: u8, level: usize) -> u8
     requires { ⌜ level < 8 ⌝ }
-    ensures { λ r. ⌜ r ≡ raised level byte ⌝ }
+    ensures { λ r. ⌜ r ≡ withBit true level byte ⌝ }
 {
     if has_bit(byte, level) {
         return byte;
@@ -56,7 +57,7 @@ pub(crate) fn with_bit(byte: u8, level: usize) -> u8
 // A byte with the bit of a level reset.
 pub(crate) fn without_bit(byte: u8, level: usize) -> u8
     requires { ⌜ level < 8 ⌝ }
-    ensures { λ r. ⌜ r ≡ lowered level byte ⌝ }
+    ensures { λ r. ⌜ r ≡ withBit false level byte ⌝ }
 {
     if has_bit(byte, level) {
         return byte - weight(level);

@@ -3,11 +3,11 @@ ghost use mathlib.Core.Path.{_≡_};
 ghost use Rattle.links.specs.Table.{tableLinkRefusal};
 ghost use Rattle.links.specs.Answers.{failedAnswer, linkAnswer, markedTable, clearedTable};
 use crate::Asked;
-use crate::bits::with_bit;
-use crate::bits::without_bit;
+use crate::changes::clear;
+use crate::changes::mark;
 use crate::tables::is_failed;
-use crate::tables::room_refusal;
-use room::Refusal;
+use crate::tables::own_refusal;
+use refusals::Refusal;
 use room::Shape;
 use room::link_refusal;
 
@@ -19,7 +19,7 @@ fn table_link_refusal(shape: Shape, table: &[u8], server: usize, level: usize) -
     if r != 0 {
         return r;
     }
-    room_refusal(shape, table)
+    own_refusal(shape, table)
 }
 
 // Whether the link of a server at a level is failed. Refusals 1, 2, 3, 4, 20, 6.
@@ -48,7 +48,7 @@ pub fn mark_link(shape: Shape, table: &mut [u8], server: usize, level: usize) ->
     if refusal != 0 {
         return Refusal::plain(refusal);
     }
-    table[server] = with_bit(table[server], level);
+    mark(&mut *table, server, level);
     Refusal::none()
 }
 
@@ -61,6 +61,6 @@ pub fn clear_link(shape: Shape, table: &mut [u8], server: usize, level: usize) -
     if refusal != 0 {
         return Refusal::plain(refusal);
     }
-    table[server] = without_bit(table[server], level);
+    clear(&mut *table, server, level);
     Refusal::none()
 }

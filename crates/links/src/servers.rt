@@ -2,8 +2,8 @@
 ghost use mathlib.Core.Path.{_≡_};
 ghost use Rattle.links.specs.Servers.{tableServerRefusal, serverAnswer, markedServer, clearedServer};
 use crate::bits::weight;
-use crate::tables::room_refusal;
-use room::Refusal;
+use crate::tables::own_refusal;
+use refusals::Refusal;
 use room::Shape;
 use room::server_refusal;
 
@@ -15,7 +15,7 @@ fn table_server_refusal(shape: Shape, table: &[u8], server: usize) -> usize
     if r != 0 {
         return r;
     }
-    room_refusal(shape, table)
+    own_refusal(shape, table)
 }
 
 // Marks all links of a server as failed: the server is dead. Refusals 1, 2, 3, 4, 6; the table then keeps its

@@ -2,12 +2,13 @@
 ghost use Prim.Native.Nat.{_≤_};
 ghost use mathlib.Core.Path.{_≡_};
 ghost use Rattle.room.specs.Refusals.{shapeRefusal};
-ghost use Rattle.links.specs.Table.{failed, live, bitsFit, tableRefusal, roomTableRefusal};
+ghost use Rattle.links.specs.Table.{failed, live, bitsFit, tableRefusal, roomTableRefusal, roomRefusal};
 use crate::bits::has_bit;
 use crate::bits::weight;
-use room::Refusal;
+use refusals::Refusal;
 use room::Shape;
-use room::servers_of;
+use room::ends_refusal;
+use room::server_count;
 use room::shape_refusal;
 
 // Whether the link of a server is failed; past the table's end none is.
@@ -33,29 +34,30 @@ pub fn is_live(table: &[u8], level: usize, from: usize, to: usize) -> bool
     true
 }
 
-// Whether no byte has a bit above k set.
+// Whether no byte has a bit above k set: the greatest of all has none. The loop does not stop early, so
+// that many bytes are looked at together.
 fn bits_fit(k: usize, table: &[u8]) -> bool
     requires { ⌜ k ≤ 3 ⌝ }
     ensures { λ r. ⌜ r ≡ bitsFit k (now (table .entry)) ⌝ }
 {
-    let above = weight(k + 1);
+    let mut most: u8 = 0;
     let mut i: usize = 0;
     while i < table.len() {
-        if above <= table[i] {
-            return false;
+        let byte = table[i];
+        if most < byte {
+            most = byte;
         }
         i += 1;
     }
-    true
+    most < weight(k + 1)
 }
 
 // 6 where a table is none of this room, or 0.
-pub(crate) fn room_refusal(shape: Shape, table: &[u8]) -> usize
+pub(crate) fn own_refusal(shape: Shape, table: &[u8]) -> usize
     requires { ⌜ shapeRefusal shape ≡ 0 ⌝ }
     ensures { λ r. ⌜ r ≡ tableRefusal shape (now (table .entry)) ⌝ }
 {
-    let servers = servers_of(shape);
-    if table.len() != servers.value {
+    if table.len() != server_count(shape) {
         return Refusal::TABLE;
     }
     if bits_fit(shape.k, table) {
@@ -72,5 +74,16 @@ pub fn table_refusal(shape: Shape, table: &[u8]) -> usize
     if r != 0 {
         return r;
     }
-    room_refusal(shape, table)
+    own_refusal(shape, table)
+}
+
+// The first of 1, 2, 3, 4, 5, 6 that refuses a room with its ends and its table, or 0.
+pub fn room_refusal(shape: Shape, table: &[u8], source: usize, destination: usize) -> usize
+    ensures { λ r. ⌜ r ≡ roomRefusal shape (now (table .entry)) source destination ⌝ }
+{
+    let r = ends_refusal(shape, source, destination);
+    if r != 0 {
+        return r;
+    }
+    own_refusal(shape, table)
 }

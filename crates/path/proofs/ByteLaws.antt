@@ -5,17 +5,20 @@ use mathlib.Core.Logic.{_≢_}
 use native.Mathlib.Omega.{arith}
 use lib.Dec.{ltb, leb}
 use borrow.Author.Tests.{lt-ltb, le-ltb, le-leb, lt-leb, ltb-true, leb-true}
+use Rattle.refusals.specs.declared.Refusal.{Refusal}
+use Rattle.refusals.specs.Refusals.{none, plain, refusedAt, _or-else_, _unless_, answer}
+use Rattle.refusals.proofs.AnswerLaws.{answered, answer-refused, answer-given, answer-none}
+use Rattle.refusals.proofs.ChainLaws.{or-else-zero, chain-stops, chain-goes, test-held}
 use Rattle.room.specs.declared.Shape.{Shape}
-use Rattle.room.specs.declared.Refusal.{Refusal}
 use Rattle.room.specs.declared.Number.{Number}
-use Rattle.room.specs.Shapes.{bound, Valid}
-use Rattle.room.specs.Refusals.{none, plain, refusedAt, shapeRefusal, levelRefusal, _or-else_, _unless_}
-use Rattle.room.specs.Answers.{answer, noNumber, aNumber, boundAnswer}
-use Rattle.room.proofs.RefusalLaws.{answered, answer-refused, answer-given, answer-none, or-else-zero, chain-stops, chain-goes, test-held, valid-of, valid-none, level-of, level-none}
+use Rattle.room.specs.Shapes.{bound}
+use Rattle.room.specs.Refusals.{shapeRefusal, levelRefusal}
+use Rattle.room.specs.Answers.{noNumber, aNumber, boundAnswer}
+use Rattle.room.proofs.RefusalLaws.{valid-of, valid-none, level-of, level-none}
 use Rattle.room.proofs.RoomLaws.{bound-le}
 use Rattle.room.proofs.AnswerLaws.{bound-answered}
 use Rattle.path.specs.declared.Parts.{Parts}
-use Rattle.path.specs.Routes.{byteOf}
+use Rattle.path.specs.Routes.{byteOf, levelOf, valueOf}
 use Rattle.path.specs.Bytes.{madeRefusal, Made, byteAnswer, partsRefusal, noParts, someParts, partsAnswer}
 
 -- ---- what a passed test tells
@@ -31,16 +34,16 @@ pub made-none : {s : Shape} {l v : ℕ} → Made s l v → 0 ≡ madeRefusal s l
 unfolding madeRefusal
 made-none {s} {l} {v} h = chain-goes _ _ _ _ (level-none (h .valid) (h .level)) refl (rw (lt-ltb v (bound s l) (h .value)))
 
-pub parts-of : (s : Shape) (b : ℕ) → shapeRefusal s ≡ 0 → partsRefusal s b ≡ 0 → Made s (b / 64) (b % 64)
+pub parts-of : (s : Shape) (b : ℕ) → shapeRefusal s ≡ 0 → partsRefusal s b ≡ 0 → Made s (levelOf b) (valueOf b)
 unfolding partsRefusal
 parts-of s b v z =
-    let t = or-else-zero (8 unless leb (b / 64) (s .k)) (9 unless ltb (b % 64) (bound s (b / 64))) z in
-    record { valid = valid-of s v; level = leb-true (b / 64) (s .k) (test-held _ 7 (t .0)); value = ltb-true (b % 64) (bound s (b / 64)) (test-held _ 8 (t .1)) }
+    let t = or-else-zero (8 unless leb (levelOf b) (s .k)) (9 unless ltb (valueOf b) (bound s (levelOf b))) z in
+    record { valid = valid-of s v; level = leb-true (levelOf b) (s .k) (test-held _ 7 (t .0)); value = ltb-true (valueOf b) (bound s (levelOf b)) (test-held _ 8 (t .1)) }
 
-pub parts-none : {s : Shape} (b : ℕ) → Made s (b / 64) (b % 64) → 0 ≡ partsRefusal s b
+pub parts-none : {s : Shape} (b : ℕ) → Made s (levelOf b) (valueOf b) → 0 ≡ partsRefusal s b
 unfolding partsRefusal
 parts-none {s} b h =
-    chain-goes _ _ _ _ (rw (le-leb (b / 64) (s .k) (h .level))) refl (rw (lt-ltb (b % 64) (bound s (b / 64)) (h .value)))
+    chain-goes _ _ _ _ (rw (le-leb (levelOf b) (s .k) (h .level))) refl (rw (lt-ltb (valueOf b) (bound s (levelOf b)) (h .value)))
 
 -- ---- making a byte, from the bound of its level
 
@@ -93,25 +96,23 @@ module _ (s : Shape) (b : ℕ) (q : ℕ) (r : Refusal) (x : Parts) (found : q �
     unfolding partsAnswer
     inside p f n e = answer-given q _ (λ (y : ℕ). noParts (plain y)) x _ found z (answer-refused p _ (λ (y : ℕ). noParts (refusedAt y 1 1)) x _ (made ∙ ap noParts f) e n)
 
-    pub parts-level : r ≡ refusedAt 8 1 1 → s .k < b / 64 → x ≡ partsAnswer s b
-    unfolding partsRefusal
-    parts-level f h = inside 8 f (λ e. omega arith) (chain-stops _ _ _ (rw (lt-leb (b / 64) (s .k) h)) (λ e. omega arith))
+    module _ (l : ℕ) (named : l ≡ levelOf b) where
+      pub parts-level : r ≡ refusedAt 8 1 1 → s .k < l → x ≡ partsAnswer s b
+      unfolding partsRefusal
+      parts-level f h = inside 8 f (λ e. omega arith) (chain-stops _ _ _ (rw (← named, lt-leb l (s .k) h)) (λ e. omega arith))
 
-    pub parts-value : (y : Number) → r ≡ refusedAt 9 1 1 → b / 64 ≤ s .k → y ≡ boundAnswer s (b / 64) → y .value ≤ b % 64 → x ≡ partsAnswer s b
-    unfolding partsRefusal
-    parts-value y f h g k =
-        let e = bound-answered (valid-of s (sym found ∙ z)) h y g in
-        let t : bound s (b / 64) ≤ b % 64 = omega (arith, ap (λ (w : Number). w .value) e) in
-        inside 9 f (λ e. omega arith) (chain-goes _ _ _ _ (rw (le-leb (b / 64) (s .k) h)) refl (rw (le-ltb (b % 64) (bound s (b / 64)) t)))
+      -- y is the bound of the level
+      pub parts-value : (v y : ℕ) → v ≡ valueOf b → r ≡ refusedAt 9 1 1 → l ≤ s .k → y ≡ bound s l → y ≤ v → x ≡ partsAnswer s b
+      unfolding partsRefusal
+      parts-value v y e f h g k =
+          inside 9 f (λ e. omega arith) (chain-goes _ _ _ _ (rw (← named, le-leb l (s .k) h)) refl (rw (← named, ← e, ← g, le-ltb v y k)))
 
-pub parts-given : (s : Shape) (b q : ℕ) (r : Refusal) (y : Number) → q ≡ shapeRefusal s → q ≡ 0 → r ≡ none → b / 64 ≤ s .k → y ≡ boundAnswer s (b / 64) → b % 64 < y .value → _≡_ {A = Parts} (record { refusal = r; level = b / 64; value = b % 64 }) (partsAnswer s b)
+pub parts-given : (s : Shape) (b q l v y : ℕ) (r : Refusal) → q ≡ shapeRefusal s → q ≡ 0 → l ≡ levelOf b → v ≡ valueOf b → r ≡ none → l ≤ s .k → y ≡ bound s l → v < y → _≡_ {A = Parts} (record { refusal = r; level = l; value = v }) (partsAnswer s b)
 unfolding partsAnswer partsRefusal
-parts-given s b q r y found z f h g k =
-    let e = bound-answered (valid-of s (sym found ∙ z)) h y g in
-    let t : b % 64 < bound s (b / 64) = omega (arith, ap (λ (w : Number). w .value) e) in
-    ap (λ (w : Refusal). record { refusal = w; level = b / 64; value = b % 64 }) f
+parts-given s b q l v y r found z named e f h g k =
+    ap (λ (w : Refusal). record { refusal = w; level = l; value = v }) f
     ∙ answer-given q _ (λ (y : ℕ). noParts (plain y)) _ _ found z
-    (answer-given 0 _ (λ (y : ℕ). noParts (refusedAt y 1 1)) _ _ (chain-goes _ _ _ _ (rw (le-leb (b / 64) (s .k) h)) refl (rw (lt-ltb (b % 64) (bound s (b / 64)) t))) refl refl)
+    (answer-given 0 _ (λ (y : ℕ). noParts (refusedAt y 1 1)) _ _ (chain-goes _ _ _ _ (rw (← named, le-leb l (s .k) h)) refl (rw (← named, ← e, ← g, lt-ltb v y k))) refl (ap₂ someParts named e))
 
 -- ---- they undo each other
 
@@ -132,6 +133,6 @@ unfolding partsAnswer byteOf
 parts-made s b z =
     let number : Parts → ℕ = λ x. x .refusal .number in
     let p = answered number (λ r. noParts (plain r)) (λ r. refl) (shapeRefusal s) (partsAnswer s b) _ refl z in
-    let q = answered number (λ r. noParts (refusedAt r 1 1)) (λ r. refl) (partsRefusal s b) _ (someParts (b / 64) (b % 64)) refl (ap number (sym (p .1)) ∙ z) in
-    let e : 64 * (b / 64) + b % 64 ≡ b = omega arith in
+    let q = answered number (λ r. noParts (refusedAt r 1 1)) (λ r. refl) (partsRefusal s b) _ (someParts (levelOf b) (valueOf b)) refl (ap number (sym (p .1)) ∙ z) in
+    let e : 64 * levelOf b + valueOf b ≡ b = omega arith in
     ap (λ (x : Parts). byteAnswer s (x .level) (x .value)) (p .1 ∙ q .1) ∙ made-parts (parts-of s b (p .0) (q .0)) .0 ∙ ap aNumber e

@@ -2,7 +2,7 @@
 use Prim.Native.Nat.{ℕ, zero, suc, _+_, _-_, _≤_, _<_, zero-le, suc-le-suc}
 use mathlib.Core.Path.{_≡_, refl, sym, ap, ap₂, _∙_, subst}
 use mathlib.Core.Logic.{_≢_, _↔_}
-use mathlib.Core.Bool.{Bool, true, not, _&&_}
+use mathlib.Core.Bool.{Bool, true, false≢true, not, _&&_}
 use mathlib.Core.List.{List, [], _∷_, _++_, append-nil, reverse, reverse-reverse}
 use native.Mathlib.Nat.{add-zero, le-of-suc-le-suc}
 use native.Mathlib.Omega.{arith}
@@ -11,24 +11,28 @@ use lib.ListN.{length, getD, take, replicate, length-reverse}
 use lib.Seq.{append-snoc}
 use lib.Dec.{leb, eqb}
 use borrow.Author.Tests.{eq-eqb, ne-eqb, eqb-true, eqb-false, leb-true, le-leb, not-true}
+use Rattle.lists.proofs.ListLaws.{both-held, length-snoc, snoc-last, length-turn, turn-at, length-filled, take-filled, filled-at, filled-past}
+use Rattle.lists.specs.Lists.{isIn, inTurn, filled}
+use Rattle.refusals.specs.declared.Refusal.{Refusal}
+use Rattle.refusals.specs.Refusals.{none, plain, refusedAt, _or-else_, _unless_}
+use Rattle.refusals.proofs.ChainLaws.{or-else-zero, chain-goes, test-held}
+use Rattle.refusals.proofs.AnswerLaws.{answered, answer-none}
 use Rattle.room.specs.declared.Shape.{Shape}
-use Rattle.room.specs.declared.Refusal.{Refusal}
-use Rattle.room.specs.Shapes.{shapeOf, serversOf, bound, Server}
+use Rattle.room.specs.Shapes.{fullRoom, serversOf, bound, Server, Ends}
 use Rattle.room.specs.Digits.{digitsOf, addressOf}
 use Rattle.room.specs.Addresses.{digits, digit, withDigit, switchOf, differing}
-use Rattle.room.specs.Refusals.{none, plain, refusedAt, shapeRefusal, serverRefusal, pairRefusal, _or-else_, _unless_}
-use Rattle.room.proofs.RefusalLaws.{or-else-zero, chain-goes, test-held, both-held, valid-none, server-of, server-none, pair-of, pair-none, answered, answer-none}
+use Rattle.room.specs.Refusals.{shapeRefusal, serverRefusal, pairRefusal, endsRefusal}
+use Rattle.room.proofs.RefusalLaws.{valid-none, server-of, server-none, ends-of, ends-none}
 use Rattle.room.proofs.RoomLaws.{neighbours-exactly}
 use Rattle.links.specs.Table.{bit, failed, live}
+use Rattle.links.proofs.TableLaws.{live-empty}
 use Rattle.path.specs.declared.Walked.{Walked}
 use Rattle.path.specs.declared.Reading.{Reading}
 use Rattle.path.specs.declared.Writing.{Writing}
-use Rattle.path.specs.Lists.{isIn, inTurn, filled}
 use Rattle.path.specs.Routes.{switchAt, levelTo, switchTo, byteTo, switchesOf, encode, Route, Prefix, Encodes}
 use Rattle.path.specs.Walks.{Walk, stopped, arrived, hopTo, hopRefusal, fault, ended, walkFrom, walk, single, writeFault, writeFrom}
-use Rattle.path.specs.Answers.{endsRefusal, arrayRefusal, noWalk, walked, walkAnswer, reading, readAnswer, noWriting, reversed, reverseAnswer, serversRefusal, writeRefusal, written, onTheWay, writeAnswer}
-use Rattle.path.proofs.ListLaws.{length-snoc, snoc-last, length-turn, turn-at, length-filled, take-filled, filled-at, filled-past}
-use Rattle.path.proofs.HopLaws.{byte-small, live-all}
+use Rattle.path.specs.Answers.{arrayRefusal, noWalk, walked, walkAnswer, reading, readAnswer, noWriting, reversed, reverseAnswer, serversRefusal, writeRefusal, written, onTheWay, writeAnswer}
+use Rattle.path.proofs.HopLaws.{byte-small}
 use Rattle.path.proofs.RouteLaws.{lastOf, Step, route-prefix, prefix-route, prefix-one, prefix-front, prefix-step, prefix-snoc, switches-snoc, walk-refused, walk-arrives, walk-goes, read-sound, read-complete}
 use Rattle.path.proofs.ReverseLaws.{source-server, dest-server, ends-differ, first-arrival, route-to-reverse}
 
@@ -43,7 +47,7 @@ pub encode-small : {s : Shape} {t vs : List ℕ} → Route s t vs → (i : ℕ) 
 unfolding encode
 encode-small {s} {t} {vs} h i =
     elim (decLt (suc i) (length vs)) [
-      | yes y ↦ let e : getD (filled 8 (inTurn (byteTo s) vs)) i 0 ≡ byteTo s (getD vs i 0) (getD vs (suc i) 0) = filled-at 8 (inTurn (byteTo s) vs) i (omega (arith, length-turn (byteTo s) vs)) ∙ turn-at (byteTo s) vs i y in
+      | yes y ↦ let e : getD (filled 8 (inTurn (byteTo s) vs)) i 0 ≡ byteTo s (getD vs i 0) (getD vs (suc i) 0) = filled-at 8 (inTurn (byteTo s) vs) i ∙ turn-at (byteTo s) vs i y in
           rw e (byte-small (h .servers i (omega arith)) (h .servers (suc i) y) (h .hops i y))
       | no y ↦ let e : getD (filled 8 (inTurn (byteTo s) vs)) i 0 ≡ 0 = filled-past 8 (inTurn (byteTo s) vs) i (omega (arith, length-turn (byteTo s) vs)) in omega arith
     ]
@@ -70,22 +74,6 @@ encodes-unique {s} {t} {a} {d} {bs} {us} {vs} h g =
 
 -- ---- what is refused before the first hop
 
-pub record Ends (s : Shape) (a d : ℕ) : Type 0 where
-  pub source : Server s a
-  pub dest : Server s d
-  pub differ : a ≢ d
-
-pub ends-of : (s : Shape) (a d : ℕ) → endsRefusal s a d ≡ 0 → Ends s a d
-unfolding endsRefusal
-ends-of s a d e =
-    let z = or-else-zero (pairRefusal s a d) (5 unless not (eqb a d)) e in
-    let p = pair-of s a d (z .0) in
-    record { source = p .0; dest = p .1; differ = eqb-false a d (not-true _ (test-held _ 4 (z .1))) }
-
-pub ends-none : {s : Shape} {a d : ℕ} → Ends s a d → 0 ≡ endsRefusal s a d
-unfolding endsRefusal
-ends-none {s} {a} {d} h = chain-goes _ _ _ _ (pair-none (h .source) (h .dest)) refl (rw (ne-eqb a d (h .differ)))
-
 pub array-of : (s : Shape) (a d : ℕ) (bs : List ℕ) → arrayRefusal s a d bs ≡ 0 → Ends s a d × (length bs ≡ 8)
 unfolding arrayRefusal
 array-of s a d bs e =
@@ -98,7 +86,7 @@ array-none bs h l = chain-goes _ _ _ _ (ends-none h) refl (rw (eq-eqb (length bs
 
 pub encodes-none : {s : Shape} {t : List ℕ} {a d : ℕ} {bs vs : List ℕ} → Encodes s t a d bs vs → 0 ≡ arrayRefusal s a d bs
 encodes-none {s} {t} {a} {d} {bs} {vs} h =
-    array-none bs (record { source = source-server (h .route); dest = dest-server (h .route); differ = ends-differ (h .route) })
+    array-none bs (record { source = source-server (h .route); destination = dest-server (h .route); differ = ends-differ (h .route) })
     (ap (λ (l : List ℕ). length l) (h .bytes) ∙ encode-long s vs (h .route .route .few))
 
 -- ---- a walk that stops has a refusal
@@ -185,10 +173,11 @@ read-exactly s a d bs = walk-exactly s [] a d bs
 
 -- ---- writing answers exactly the routes
 
-single-one : (xs : List ℕ) → single xs ≡ true → xs ≡ getD xs 0 0 ∷ []
-single-one [] e = let z : _≡_ {A = ℕ} 0 1 = cc in let n : ⊥ = omega arith in absurd n
+-- a list of one
+pub single-one : (xs : List ℕ) → single xs ≡ true → xs ≡ getD xs 0 0 ∷ []
+single-one [] e = absurd (false≢true e)
 single-one (x ∷ []) e = refl
-single-one (x ∷ y ∷ ys) e = let z : _≡_ {A = ℕ} 0 1 = cc in let n : ⊥ = omega arith in absurd n
+single-one (x ∷ y ∷ ys) e = absurd (false≢true e)
 
 -- a hop is written exactly when a route goes on by it
 pub write-step : {s : Shape} {a b : ℕ} (vs : List ℕ) → Server s a → Server s b → (writeFault s vs (switchesOf s vs) a b ≡ 0) ↔ Step s [] vs a b
@@ -205,7 +194,7 @@ write-step {s} {a} {b} vs ha hb = (there, back)
         record {
           server = hb;
           hop = neighbours-exactly ha hb (levelTo s a b) .0 (single-one (differing s a b) (test-held _ 22 (z .0)));
-          alive = live-all (levelTo s a b) a b;
+          alive = live-empty (levelTo s a b) a b;
           fresh = not-true _ (w .0);
           unused = not-true _ (w .1);
         }
@@ -346,7 +335,7 @@ way-none : {s : Shape} (vs : List ℕ) → Prefix s [] vs → onTheWay s vs ≡ 
 unfolding writeFrom
 way-none {s} vs p = ap (onTheWay s) (sym (append-nil vs)) ∙ way-along s vs [] p
 
-way-route : {s : Shape} (vs : List ℕ) → Listed s vs → onTheWay s vs .number ≡ 0 → Route s [] vs
+pub way-route : {s : Shape} (vs : List ℕ) → Listed s vs → onTheWay s vs .number ≡ 0 → Route s [] vs
 unfolding onTheWay switchesOf inTurn
 way-route [] h e = let z : ⊥ = omega (arith, h .some) in absurd z
 way-route {s} (v ∷ vs) h e =
@@ -445,13 +434,13 @@ reversed-servers s a d bs e =
 -- ---- eight zeros
 
 -- eight zeros are a route: in the room of two ports and one level, from server 1 to server 0
-pub zeros-read : readAnswer (shapeOf 2 0) 1 0 (replicate 8 0) ≡ record { refusal = none; count = 2; servers = 1 ∷ replicate 8 0 }
+pub zeros-read : readAnswer (fullRoom 2 0) 1 0 (replicate 8 0) ≡ record { refusal = none; count = 2; servers = 1 ∷ replicate 8 0 }
 unfolding readAnswer walkAnswer arrayRefusal endsRefusal pairRefusal serverRefusal shapeRefusal serversOf bound _or-else_ walk walkFrom fault hopRefusal hopTo withDigit digit digits digitsOf addressOf live failed bit isIn switchAt switchOf ended filled
 zeros-read = refl
 
-pub zeros-route : Encodes (shapeOf 2 0) [] 1 0 (replicate 8 0) (1 ∷ 0 ∷ [])
+pub zeros-route : Encodes (fullRoom 2 0) [] 1 0 (replicate 8 0) (1 ∷ 0 ∷ [])
 zeros-route =
-    let p = read-exactly (shapeOf 2 0) 1 0 (replicate 8 0) .0 (ap (λ (x : Reading). x .refusal .number) zeros-read) in
-    subst (Encodes (shapeOf 2 0) [] 1 0 (replicate 8 0))
+    let p = read-exactly (fullRoom 2 0) 1 0 (replicate 8 0) .0 (ap (λ (x : Reading). x .refusal .number) zeros-read) in
+    subst (Encodes (fullRoom 2 0) [] 1 0 (replicate 8 0))
     (sym (take-filled 9 (p .0)) ∙ ap (λ (x : Reading). take (x .count) (x .servers)) (sym (read-given (p .1)) ∙ zeros-read))
     (p .1)

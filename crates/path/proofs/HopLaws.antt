@@ -1,41 +1,57 @@
--- Laws of single hops: which bytes are hops, where they lead, and that neighbours and path bytes answer to each other.
-use Prim.Native.Nat.{ℕ, suc, _+_, _*_, _/_, _%_, _^_, _<_}
-use mathlib.Core.Path.{_≡_, refl, sym, ap, _∙_, subst}
+-- Laws of single hops: which bytes are hops and which test refuses the others, where a hop leads, and that neighbours and path bytes answer to
+-- each other.
+use Prim.Native.Nat.{ℕ, suc, _+_, _-_, _*_, _/_, _%_, _^_, _≤_, _<_}
+use mathlib.Core.Path.{_≡_, refl, sym, ap, ap₂, _∙_, subst}
 use mathlib.Core.Logic.{_≢_, _↔_}
-use mathlib.Core.Bool.{true, not, and-comm}
+use mathlib.Core.Bool.{not}
 use mathlib.Core.List.{List, [], _∷_}
-use native.Mathlib.Nat.{zero-div, div-le-self}
 use native.Mathlib.Omega.{arith}
 use native.Mathlib.Decide.{ℕ-discrete}
 use lib.ListN.{getD}
+use mir.Syntax.{w64}
+use mir.Val.{Fits}
 use lib.Dec.{ltb, leb, eqb}
-use borrow.Author.Tests.{lt-ltb, le-leb, ltb-true, leb-true, eqb-false, eq-eqb, ne-eqb, not-true}
+use borrow.Author.Tests.{lt-ltb, le-ltb, le-leb, lt-leb, ltb-true, leb-true, eqb-false, eq-eqb, ne-eqb, not-true}
+use Rattle.refusals.specs.Refusals.{_or-else_, _unless_}
+use Rattle.refusals.proofs.ChainLaws.{or-else-zero, test-held}
+use Rattle.refusals.proofs.AnswerLaws.{answer-refused, answer-given, answer-number, answered}
 use Rattle.room.specs.declared.Shape.{Shape}
-use Rattle.room.specs.Shapes.{serversOf, bound, Server, Link, Value}
+use Rattle.room.specs.declared.Number.{Number}
+use Rattle.room.specs.declared.Switch.{Switch}
+use Rattle.room.specs.Shapes.{bound, powerOf, Server, Link, Value}
 use Rattle.room.specs.Digits.{differFrom}
-use Rattle.room.specs.Addresses.{digits, digit, withDigit, switchOf, switchesAt, differing, Neighbours}
-use Rattle.room.specs.Refusals.{_or-else_, _unless_}
-use Rattle.room.proofs.RefusalLaws.{or-else-zero, test-held}
-use Rattle.room.proofs.RoomLaws.{bound-le, digit-lt, with-server, with-same, with-beside, beside-with, same-switch, switch-lt, neighbours-exactly}
-use Rattle.links.specs.Table.{bit, failed, live}
-use Rattle.path.specs.Routes.{byteOf, switchAt, levelTo, switchTo, byteTo}
+use Rattle.room.specs.Addresses.{digits, digit, withDigit, switchOf, differing, Neighbours}
+use Rattle.room.specs.Refusals.{serverRefusal}
+use Rattle.room.specs.Answers.{digitAnswer, switchAnswer}
+use Rattle.room.proofs.RefusalLaws.{server-of, server-none}
+use Rattle.room.proofs.AnswerLaws.{digit-answered, switch-answered}
+use Rattle.room.proofs.RoomLaws.{bound-le, digit-lt, digit-closed-at, with-server, with-same, with-beside, beside-with, same-switch, switch-small, neighbours-exactly, weight-pos}
+use Rattle.room.proofs.SideLaws.{Moved, moved, power-link}
+use Rattle.path.specs.declared.Hop.{Hop}
+use Rattle.path.specs.Routes.{byteOf, levelOf, valueOf, switchAt, levelTo, switchTo, byteTo}
 use Rattle.path.specs.Walks.{hopTo, hopRefusal}
+use Rattle.path.specs.Answers.{noHop, aHop, hopAnswer}
+use Rattle.path.specs.Inside.{hopFrom}
+
+-- ---- what the calls of the room found
+
+pub digit-found : {s : Shape} {a l : ℕ} → Link s a l → (x : Number) → x ≡ digitAnswer s a l → x .value ≡ digit s l a
+digit-found h x e = ap (λ (n : Number). n .value) (digit-answered h x e)
+
+pub switch-found : {s : Shape} {a l : ℕ} → Link s a l → (x : Switch) → x ≡ switchAnswer s a l → x .number ≡ switchOf s l a
+switch-found h x e = ap (λ (w : Switch). w .number) (switch-answered h x e)
 
 -- ---- switches as numbers
 
-pub switch-fits : {s : Shape} {a l : ℕ} → Link s a l → switchOf s l a < 4096
-unfolding switchesAt
-switch-fits {s} {a} {l} h = omega (arith, switch-lt h, div-le-self (serversOf s) (bound s l), h .server .valid .small)
-
 pub switch-below : {s : Shape} {a l : ℕ} → Link s a l → switchAt s l a < 16384
 unfolding switchAt
-switch-below {s} {a} {l} h = omega (arith, switch-fits h, h .level, h .server .valid .levels)
+switch-below {s} {a} {l} h = omega (arith, switch-small h, h .level, h .server .valid .levels)
 
 -- two switches have one number exactly when they have one level and one number there
 pub switch-id : {s : Shape} {a b l m : ℕ} → Link s a l → Link s b m → (switchAt s l a ≡ switchAt s m b) ↔ ((l ≡ m) × (switchOf s l a ≡ switchOf s m b))
 unfolding switchAt
 switch-id {s} {a} {b} {l} {m} ha hb =
-    (λ e. (omega (arith, switch-fits ha, switch-fits hb), omega (arith, switch-fits ha, switch-fits hb)), λ p. omega (arith, p .0, p .1))
+    (λ e. (omega (arith, switch-small ha, switch-small hb), omega (arith, switch-small ha, switch-small hb)), λ p. omega (arith, p .0, p .1))
 
 -- ---- both ways
 
@@ -64,71 +80,152 @@ switch-sym {s} {a} {b} h =
     ap (λ (w : ℕ). 4096 * levelTo s a b + w) (same-switch (h .level) (h .beside))
     ∙ ap (λ (l : ℕ). 4096 * l + switchOf s l b) (level-sym s a b)
 
--- and is live where the hop is
-pub live-sym : (t : List ℕ) (l a b : ℕ) → live t l a b ≡ live t l b a
-unfolding live
-live-sym t l a b = and-comm (not (failed t a l)) (not (failed t b l))
-
--- in a table with no bytes no link is failed
-pub live-all : (l a b : ℕ) → live [] l a b ≡ true
-unfolding live failed bit
-live-all l a b = rw (zero-div (2 ^ l))
-
 -- ---- which bytes are hops
 
-pub byte-apart : (l v : ℕ) → v < 64 → (byteOf l v / 64 ≡ l) × (byteOf l v % 64 ≡ v)
+pub byte-apart : (l v : ℕ) → v < 64 → (levelOf (byteOf l v) ≡ l) × (valueOf (byteOf l v) ≡ v)
 unfolding byteOf
 byte-apart l v h = (omega arith, omega arith)
 
--- byte b from server a is a hop exactly when its level and value are the room's and its value is another than a's digit
-pub hop-exactly : {s : Shape} {a : ℕ} → Server s a → (b : ℕ) → (hopRefusal s a b ≡ 0) ↔ (Value s a (b / 64) (b % 64) × (digit s (b / 64) a ≢ b % 64))
+-- byte b names a link of server a, and a value that its digit there can take and has not
+abbrev pub Named : Shape → ℕ → ℕ → Type 0
+Named s a b = Value s a (levelOf b) (valueOf b) × (digit s (levelOf b) a ≢ valueOf b)
+
+-- byte b from server a is a hop exactly when it names a link and another value
+pub hop-exactly : {s : Shape} {a : ℕ} → Server s a → (b : ℕ) → (hopRefusal s a b ≡ 0) ↔ Named s a b
 unfolding hopRefusal _or-else_
 hop-exactly {s} {a} h b = (there, λ p. back (p .0) (p .1))
   where
-    there : hopRefusal s a b ≡ 0 → Value s a (b / 64) (b % 64) × (digit s (b / 64) a ≢ b % 64)
+    l : ℕ
+    l = levelOf b
+
+    v : ℕ
+    v = valueOf b
+
+    there : hopRefusal s a b ≡ 0 → Named s a b
     there e =
-        let x = or-else-zero (8 unless leb (b / 64) (s .k) or-else 9 unless ltb (b % 64) (bound s (b / 64))) (10 unless not (eqb (digit s (b / 64) a) (b % 64))) e in
-        let y = or-else-zero (8 unless leb (b / 64) (s .k)) (9 unless ltb (b % 64) (bound s (b / 64))) (x .0) in (
+        let x = or-else-zero (8 unless leb l (s .k) or-else 9 unless ltb v (bound s l)) (10 unless not (eqb (digit s l a) v)) e in
+        let y = or-else-zero (8 unless leb l (s .k)) (9 unless ltb v (bound s l)) (x .0) in (
           record {
-            link = record { server = h; level = leb-true (b / 64) (s .k) (test-held _ 7 (y .0)) };
-            value = ltb-true (b % 64) (bound s (b / 64)) (test-held _ 8 (y .1));
+            link = record { server = h; level = leb-true l (s .k) (test-held _ 7 (y .0)) };
+            value = ltb-true v (bound s l) (test-held _ 8 (y .1));
           },
-          eqb-false (digit s (b / 64) a) (b % 64) (not-true _ (test-held _ 9 (x .1))),
+          eqb-false (digit s l a) v (not-true _ (test-held _ 9 (x .1))),
         )
 
-    back : Value s a (b / 64) (b % 64) → digit s (b / 64) a ≢ b % 64 → hopRefusal s a b ≡ 0
-    back v q =
-        rw (le-leb (b / 64) (s .k) (v .link .level), lt-ltb (b % 64) (bound s (b / 64)) (v .value), ne-eqb (digit s (b / 64) a) (b % 64) q)
+    back : Value s a l v → digit s l a ≢ v → hopRefusal s a b ≡ 0
+    back k q = rw (le-leb l (s .k) (k .link .level), lt-ltb v (bound s l) (k .value), ne-eqb (digit s l a) v q)
+
+-- ---- one hop as the program makes it: the level l and the value v of its byte, the bound m of the level, the power p of n
+
+module _ (s : Shape) (a b l v : ℕ) (el : l ≡ levelOf b) (ev : v ≡ valueOf b) where
+  refuses : (r : ℕ) (x : Hop) → suc r ≡ hopRefusal s a b → x ≡ noHop (suc r) → x ≡ hopFrom s a b
+  unfolding hopFrom
+  refuses r x e f = answer-refused (suc r) _ noHop x _ f e (λ z. omega arith)
+
+  pub hop-eight : (x : Hop) → s .k < l → x ≡ noHop 8 → x ≡ hopFrom s a b
+  unfolding hopRefusal _or-else_
+  hop-eight x h = refuses 7 x (rw (← el) (simp (lt-leb l (s .k) h)))
+
+  module _ (m : ℕ) (level : l ≤ s .k) (most : m ≡ bound s l) where
+    pub hop-nine : (x : Hop) → m ≤ v → x ≡ noHop 9 → x ≡ hopFrom s a b
+    unfolding hopRefusal _or-else_
+    hop-nine x h = let q : bound s l ≤ v = omega arith in refuses 8 x (rw (← el, ← ev) (simp (le-leb l (s .k) level, le-ltb v (bound s l) q)))
+
+    module _ (q : v < m) (tested : serverRefusal s a ≡ 0) (p : ℕ) (power : p ≡ powerOf (s .n) l) where
+      sets : Value s a l v
+      sets = record { link = record { server = server-of s a tested; level = level }; value = omega arith }
+
+      weight : p ≡ s .n ^ l
+      weight = power ∙ power-link (sets .link)
+
+      own : a / p % s .n ≡ digit s l a
+      own = digit-closed-at (sets .link) p weight
+
+      pub hop-weight : 0 < p
+      hop-weight = weight-pos (sets .link .server .valid) l p weight
+
+      pub hop-ports : 0 < s .n
+      hop-ports = let k = sets .link .server .valid in omega arith
+
+      -- what is taken off and put on
+      abbrev pub Own : ℕ
+      Own = a / p % s .n * p
+
+      fits : Moved s a l v p
+      fits = moved sets p weight
+
+      pub own-fits : Fits w64 Own
+      own-fits = let k = sets .link .server in let f = fits in omega (arith, k .below, k .valid .small)
+
+      pub own-there : Own ≤ a
+      own-there = fits .own
+
+      pub new-fits : Fits w64 (v * p)
+      new-fits = let f = fits in omega arith
+
+      pub next-fits : Fits w64 (a - Own + v * p)
+      next-fits = let k = sets .link .server in let f = fits in omega (arith, k .below, k .valid .small)
+
+      pub hop-ten : (x : Hop) → a / p % s .n ≡ v → x ≡ noHop 10 → x ≡ hopFrom s a b
+      unfolding hopRefusal _or-else_
+      hop-ten x e =
+          refuses 9 x (rw (← el, ← ev) (simp (le-leb l (s .k) level, lt-ltb v (bound s l) (sets .value), eq-eqb (digit s l a) v (sym own ∙ e))))
+
+      pub hop-goes : a / p % s .n ≢ v → aHop (a - Own + v * p) ≡ hopFrom s a b
+      unfolding hopFrom hopTo
+      hop-goes e =
+          let n : Named s a b = (rw (← el, ← ev) sets, rw (← el, ← ev) (λ z. e (own ∙ z))) in
+          answer-given 0 _ noHop _ _ (sym (hop-exactly (sets .link .server) b .1 n)) refl (ap aHop (fits .whole ∙ ap₂ (λ (x y : ℕ). withDigit s x y a) el ev))
+
+-- ---- for a caller: the number is that of the byte, and with none the hop leads where it says
+
+module _ (s : Shape) (a b : ℕ) (x : Hop) (e : x ≡ hopFrom s a b) where
+  pub hop-number : x .number ≡ hopRefusal s a b
+  unfolding hopFrom
+  hop-number = ap (λ (y : Hop). y .number) e ∙ answer-number (λ (y : Hop). y .number) noHop (λ r. refl) (hopRefusal s a b) (aHop (hopTo s a b)) refl
+
+  pub hop-next : x .number ≡ 0 → x .next ≡ hopTo s a b
+  unfolding hopFrom
+  hop-next z =
+      ap (λ (y : Hop). y .next) (answered (λ (y : Hop). y .number) noHop (λ r. refl) (hopRefusal s a b) x (aHop (hopTo s a b)) e z .1)
+
+-- of a server of the room, the tests of the server refuse nothing
+pub hop-tested : {s : Shape} {a : ℕ} → Server s a → (b : ℕ) → hopFrom s a b ≡ hopAnswer s a b
+unfolding hopFrom hopAnswer _or-else_
+hop-tested h b = rw (← server-none h)
+
+pub hop-known : {s : Shape} {a : ℕ} → Server s a → (b : ℕ) (x : Hop) → x ≡ hopAnswer s a b → x ≡ hopFrom s a b
+hop-known h b x e = e ∙ sym (hop-tested h b)
 
 -- ---- where a hop leads
 
 module _ {s : Shape} {a : ℕ} (h : Server s a) (b : ℕ) (none : hopRefusal s a b ≡ 0) where
-  hop-value : Value s a (b / 64) (b % 64)
+  pub hop-value : Value s a (levelOf b) (valueOf b)
   hop-value = hop-exactly h b .0 none .0
 
   pub hop-server : Server s (hopTo s a b)
   unfolding hopTo
   hop-server = with-server hop-value
 
-  hop-digit : digit s (b / 64) (hopTo s a b) ≡ b % 64
+  hop-digit : digit s (levelOf b) (hopTo s a b) ≡ valueOf b
   unfolding hopTo
   hop-digit = with-same hop-value
 
-  pub hop-neighbours : Neighbours s (b / 64) a (hopTo s a b)
+  pub hop-neighbours : Neighbours s (levelOf b) a (hopTo s a b)
   unfolding hopTo
   hop-neighbours =
       record { level = hop-value .link .level; beside = with-beside hop-value; differ = λ e. hop-exactly h b .0 none .1 (e ∙ with-same hop-value) }
 
-  pub hop-level : levelTo s a (hopTo s a b) ≡ b / 64
+  pub hop-level : levelTo s a (hopTo s a b) ≡ levelOf b
   unfolding levelTo
-  hop-level = ap (λ (x : List ℕ). getD x 0 0) (neighbours-exactly h hop-server (b / 64) .1 hop-neighbours)
+  hop-level = ap (λ (x : List ℕ). getD x 0 0) (neighbours-exactly h hop-server (levelOf b) .1 hop-neighbours)
 
   pub hop-byte : byteTo s a (hopTo s a b) ≡ b
   unfolding byteTo byteOf
   hop-byte =
-      ap (λ (l : ℕ). 64 * l + digit s l (hopTo s a b)) hop-level ∙ ap (λ (v : ℕ). 64 * (b / 64) + v) hop-digit ∙ omega arith
+      ap (λ (l : ℕ). 64 * l + digit s l (hopTo s a b)) hop-level ∙ ap (λ (v : ℕ). 64 * levelOf b + v) hop-digit ∙ omega arith
 
-  pub hop-switch : switchTo s a (hopTo s a b) ≡ switchAt s (b / 64) a
+  pub hop-switch : switchTo s a (hopTo s a b) ≡ switchAt s (levelOf b) a
   unfolding switchTo
   hop-switch = ap (λ (l : ℕ). switchAt s l a) hop-level
 
@@ -148,11 +245,11 @@ module _ {s : Shape} {a b : ℕ} (ha : Server s a) (hb : Server s b) (h : Neighb
   to-small : digit s (levelTo s a b) b < 64
   to-small = omega (arith, to-value, bound-le (ha .valid) (levelTo s a b), ha .valid .ports)
 
-  pub byte-level : byteTo s a b / 64 ≡ levelTo s a b
+  pub byte-level : levelOf (byteTo s a b) ≡ levelTo s a b
   unfolding byteTo
   byte-level = byte-apart (levelTo s a b) (digit s (levelTo s a b) b) to-small .0
 
-  pub byte-digit : byteTo s a b % 64 ≡ digit s (levelTo s a b) b
+  pub byte-digit : valueOf (byteTo s a b) ≡ digit s (levelTo s a b) b
   unfolding byteTo
   byte-digit = byte-apart (levelTo s a b) (digit s (levelTo s a b) b) to-small .1
 
@@ -163,7 +260,7 @@ module _ {s : Shape} {a b : ℕ} (ha : Server s a) (hb : Server s b) (h : Neighb
   pub byte-hop : hopTo s a (byteTo s a b) ≡ b
   unfolding hopTo
   byte-hop =
-      ap (λ (l : ℕ). withDigit s l (byteTo s a b % 64) a) byte-level
+      ap (λ (l : ℕ). withDigit s l (valueOf (byteTo s a b)) a) byte-level
       ∙ ap (λ (v : ℕ). withDigit s (levelTo s a b) v a) byte-digit
       ∙ beside-with (record { server = ha; level = h .level }) hb (h .beside)
 
@@ -171,6 +268,6 @@ module _ {s : Shape} {a b : ℕ} (ha : Server s a) (hb : Server s b) (h : Neighb
   byte-taken =
       hop-exactly ha (byteTo s a b) .1 (rw (byte-level, byte-digit) (record { link = record { server = ha; level = h .level }; value = to-value }, h .differ))
 
-  pub byte-switch : switchAt s (byteTo s a b / 64) a ≡ switchTo s a b
+  pub byte-switch : switchAt s (levelOf (byteTo s a b)) a ≡ switchTo s a b
   unfolding switchTo
   byte-switch = ap (λ (l : ℕ). switchAt s l a) byte-level

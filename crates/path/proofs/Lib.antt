@@ -1,12 +1,9 @@
-pub mod ListSteps
-pub mod HopSteps
+pub mod HopLaws
+pub mod RouteLaws
+pub mod ReverseLaws
+pub mod CodecLaws
 pub mod WalkLaws
 pub mod WriteLaws
 pub mod TurnLaws
 pub mod ByteLaws
 pub mod Unique
-pub mod ListLaws
-pub mod HopLaws
-pub mod RouteLaws
-pub mod ReverseLaws
-pub mod CodecLaws

@@ -6,14 +6,15 @@ use mathlib.Core.Bool.{true}
 use mathlib.Core.List.{List, [], reverse}
 use native.Mathlib.Omega.{arith}
 use lib.ListN.{length, getD, length-reverse}
+use Rattle.lists.specs.Lists.{middle}
+use Rattle.lists.proofs.ListLaws.{reverse-at, once-reverse, apart-sym, apart-reverse, turn-same, turn-reverse, middle-reverse}
 use Rattle.room.specs.declared.Shape.{Shape}
 use Rattle.room.specs.Shapes.{Server}
 use Rattle.room.specs.Addresses.{Neighbours}
 use Rattle.links.specs.Table.{live}
-use Rattle.path.specs.Lists.{middle}
+use Rattle.links.proofs.TableLaws.{live-swap, live-empty}
 use Rattle.path.specs.Routes.{levelTo, switchTo, switchesOf, Route, RouteTo, Parallel}
-use Rattle.path.proofs.ListLaws.{reverse-at, once-reverse, apart-sym, apart-reverse, turn-same, turn-reverse, middle-reverse}
-use Rattle.path.proofs.HopLaws.{neighbours-sym, level-sym, switch-sym, live-sym, live-all}
+use Rattle.path.proofs.HopLaws.{neighbours-sym, level-sym, switch-sym}
 use Rattle.path.proofs.RouteLaws.{lastOf}
 
 -- ---- the ends of a route
@@ -37,7 +38,7 @@ first-arrival {s} {t} {a} {d} {vs} h i p e =
 
 pub route-plain : {s : Shape} {t vs : List ℕ} → Route s t vs → Route s [] vs
 route-plain h =
-    record { some = h .some; few = h .few; servers = h .servers; hops = h .hops; alive = λ i p. live-all _ _ _; servers-once = h .servers-once; switches-once = h .switches-once }
+    record { some = h .some; few = h .few; servers = h .servers; hops = h .hops; alive = λ i p. live-empty _ _ _; servers-once = h .servers-once; switches-once = h .switches-once }
 
 pub route-to-plain : {s : Shape} {t : List ℕ} {a d : ℕ} {vs : List ℕ} → RouteTo s t a d vs → RouteTo s [] a d vs
 route-to-plain h = record { route = route-plain (h .route); source = h .source; arrives = h .arrives }
@@ -48,7 +49,7 @@ pub hop-back : {s : Shape} {a b : ℕ} → Neighbours s (levelTo s a b) a b → 
 hop-back {s} {a} {b} h = subst (λ (l : ℕ). Neighbours s l b a) (level-sym s a b) (neighbours-sym h)
 
 pub live-back : (s : Shape) (t : List ℕ) (a b : ℕ) → live t (levelTo s a b) a b ≡ true → live t (levelTo s b a) b a ≡ true
-live-back s t a b h = ap (λ (l : ℕ). live t l b a) (level-sym s b a) ∙ live-sym t (levelTo s a b) b a ∙ h
+live-back s t a b h = ap (λ (l : ℕ). live t l b a) (level-sym s b a) ∙ live-swap t (levelTo s a b) b a ∙ h
 
 -- ---- a route backwards
 

@@ -1,5 +1,5 @@
 -- Reading gives exactly the routes: what a walk arrives with is a route, and a walk over the bytes of a route arrives with it.
-use Prim.Native.Nat.{ℕ, zero, suc, _+_, _-_, _/_, _≤_, _<_, zero-le, suc-le-suc}
+use Prim.Native.Nat.{ℕ, zero, suc, _+_, _-_, _≤_, _<_, zero-le, suc-le-suc}
 use mathlib.Core.Path.{_≡_, refl, sym, ap, ap₂, _∙_, subst}
 use mathlib.Core.Logic.{_≢_, _↔_}
 use mathlib.Core.Bool.{true, false, not, _&&_}
@@ -10,16 +10,16 @@ use native.Mathlib.Decide.{ℕ-discrete}
 use lib.ListN.{length, getD, take, replicate, length-append, drop-of-length-le, List·getD-append}
 use lib.Seq.{getD-append-seam, append-snoc, split-at, length-take-le}
 use borrow.Author.Tests.{eq-eqb, ne-eqb, not-true}
+use Rattle.lists.proofs.ListLaws.{both-held, length-snoc, snoc-last, snoc-at, once-snoc, once-front, length-turn, turn-snoc, turn-front}
+use Rattle.lists.specs.Lists.{isIn, Once, inTurn, filled}
+use Rattle.refusals.specs.Refusals.{_or-else_, _unless_}
+use Rattle.refusals.proofs.ChainLaws.{or-else-zero, test-held}
 use Rattle.room.specs.declared.Shape.{Shape}
 use Rattle.room.specs.Shapes.{Server}
 use Rattle.room.specs.Addresses.{Neighbours}
-use Rattle.room.specs.Refusals.{_or-else_, _unless_}
-use Rattle.room.proofs.RefusalLaws.{or-else-zero, test-held, both-held}
 use Rattle.links.specs.Table.{live}
-use Rattle.path.specs.Lists.{isIn, inTurn, filled}
-use Rattle.path.specs.Routes.{switchAt, levelTo, switchTo, byteTo, switchesOf, encode, Route, Prefix, RouteTo}
+use Rattle.path.specs.Routes.{levelOf, switchAt, levelTo, switchTo, byteTo, switchesOf, encode, Route, Prefix, RouteTo}
 use Rattle.path.specs.Walks.{stopped, arrived, hopTo, hopRefusal, fault, ended, walkFrom, walk}
-use Rattle.path.proofs.ListLaws.{length-snoc, snoc-last, snoc-at, once-snoc, once-front, length-turn, turn-snoc, turn-front}
 use Rattle.path.proofs.HopLaws.{hop-server, hop-neighbours, hop-level, hop-byte, hop-switch, byte-hop, byte-taken, byte-switch, byte-level}
 
 -- the last of a list
@@ -140,14 +140,20 @@ prefix-snoc {s} {t} vs b h st =
 
 -- ---- a hop that is not refused on the way, and back
 
+pub fault-hop : (s : Shape) (t met used : List ℕ) (a b : ℕ) → fault s t met used a b ≡ 0 → hopRefusal s a b ≡ 0
+unfolding fault
+fault-hop s t met used a b e =
+    let p = or-else-zero (hopRefusal s a b or-else 11 unless live t (levelOf b) a (hopTo s a b)) _ e in
+    or-else-zero (hopRefusal s a b) _ (p .0) .0
+
 pub fault-step : {s : Shape} {a : ℕ} → Server s a → (t vs : List ℕ) (x : ℕ) → fault s t vs (switchesOf s vs) a x ≡ 0 → (hopRefusal s a x ≡ 0) × Step s t vs a (hopTo s a x)
 unfolding fault
 fault-step {s} {a} h t vs x e =
     let b = hopTo s a x in
-    let test = not (isIn b vs) && not (isIn (switchAt s (x / 64) a) (switchesOf s vs)) in
-    let p = or-else-zero (hopRefusal s a x or-else 11 unless live t (x / 64) a b) (12 unless test) e in
-    let q = or-else-zero (hopRefusal s a x) (11 unless live t (x / 64) a b) (p .0) in
-    let w = both-held (not (isIn b vs)) (not (isIn (switchAt s (x / 64) a) (switchesOf s vs))) (test-held test 11 (p .1)) in (
+    let test = not (isIn b vs) && not (isIn (switchAt s (levelOf x) a) (switchesOf s vs)) in
+    let p = or-else-zero (hopRefusal s a x or-else 11 unless live t (levelOf x) a b) (12 unless test) e in
+    let q = or-else-zero (hopRefusal s a x) (11 unless live t (levelOf x) a b) (p .0) in
+    let w = both-held (not (isIn b vs)) (not (isIn (switchAt s (levelOf x) a) (switchesOf s vs))) (test-held test 11 (p .1)) in (
       q .0,
       record {
         server = hop-server h x (q .0);
@@ -170,11 +176,11 @@ module _ (s : Shape) (t : List ℕ) (d h : ℕ) (met used : List ℕ) (a b : ℕ
   unfolding walkFrom
   walk-refused r = rw (ne-eqb (fault s t met used a b) 0 r)
 
-  pub walk-arrives : fault s t met used a b ≡ 0 → hopTo s a b ≡ d → walkFrom s t d h met used a (b ∷ bs) ≡ ended (h + 1) (met ++ (hopTo s a b ∷ [])) (used ++ (switchAt s (b / 64) a ∷ [])) bs
+  pub walk-arrives : fault s t met used a b ≡ 0 → hopTo s a b ≡ d → walkFrom s t d h met used a (b ∷ bs) ≡ ended (h + 1) (met ++ (hopTo s a b ∷ [])) (used ++ (switchAt s (levelOf b) a ∷ [])) bs
   unfolding walkFrom
   walk-arrives r e = rw (eq-eqb (fault s t met used a b) 0 r, eq-eqb (hopTo s a b) d e)
 
-  pub walk-goes : fault s t met used a b ≡ 0 → hopTo s a b ≢ d → walkFrom s t d h met used a (b ∷ bs) ≡ walkFrom s t d (h + 1) (met ++ (hopTo s a b ∷ [])) (used ++ (switchAt s (b / 64) a ∷ [])) (hopTo s a b) bs
+  pub walk-goes : fault s t met used a b ≡ 0 → hopTo s a b ≢ d → walkFrom s t d h met used a (b ∷ bs) ≡ walkFrom s t d (h + 1) (met ++ (hopTo s a b ∷ [])) (used ++ (switchAt s (levelOf b) a ∷ [])) (hopTo s a b) bs
   unfolding walkFrom
   walk-goes r e = rw (eq-eqb (fault s t met used a b) 0 r, ne-eqb (hopTo s a b) d e)
 
@@ -270,7 +276,7 @@ walk-came s t d h vs a (b ∷ bs) us ws p l e =
     on : fault s t vs (switchesOf s vs) a b ≡ 0 → Prefix s t (vs ++ (next ∷ []))
     on y = prefix-snoc vs next p (subst (λ (x : ℕ). Step s t vs x next) (sym l) (step y .1))
 
-    used : fault s t vs (switchesOf s vs) a b ≡ 0 → switchesOf s (vs ++ (next ∷ [])) ≡ switchesOf s vs ++ (switchAt s (b / 64) a ∷ [])
+    used : fault s t vs (switchesOf s vs) a b ≡ 0 → switchesOf s (vs ++ (next ∷ [])) ≡ switchesOf s vs ++ (switchAt s (levelOf b) a ∷ [])
     used y =
         switches-snoc s vs next (p .some)
         ∙ ap (λ (x : ℕ). switchesOf s vs ++ (switchTo s x next ∷ [])) l

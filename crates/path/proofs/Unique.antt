@@ -1,16 +1,18 @@
 -- Each public function's contract determines its answer: whatever meets it on some arguments is the one answer to them.
 use mathlib.Core.Path.{_∙_, sym}
-use Rattle.room.specs.Determined.{Determined}
+use Rattle.refusals.specs.Determined.{Determined}
 use Rattle.path.proofs.bytes.byte_of.Reads as byte-of
 use Rattle.path.proofs.bytes.byte_of.Kinds as byte-of-kinds
 use Rattle.path.proofs.bytes.parts_of.Reads as parts-of
 use Rattle.path.proofs.bytes.parts_of.Kinds as parts-of-kinds
 use Rattle.path.proofs.hops.hop_of.Reads as hop-of
 use Rattle.path.proofs.hops.hop_of.Kinds as hop-of-kinds
+use Rattle.path.proofs.hops.level_of.Reads as level-of
+use Rattle.path.proofs.hops.level_of.Kinds as level-of-kinds
+use Rattle.path.proofs.hops.value_of.Reads as value-of
+use Rattle.path.proofs.hops.value_of.Kinds as value-of-kinds
 use Rattle.path.proofs.repeats.is_among.Reads as is-among
 use Rattle.path.proofs.repeats.is_among.Kinds as is-among-kinds
-use Rattle.path.proofs.walks.ends_refusal.Reads as ends-refusal
-use Rattle.path.proofs.walks.ends_refusal.Kinds as ends-refusal-kinds
 use Rattle.path.proofs.walks.walk.Reads as walk
 use Rattle.path.proofs.walks.walk.Kinds as walk-kinds
 use Rattle.path.proofs.readings.read_path.Reads as read-path
@@ -23,8 +25,11 @@ use Rattle.path.proofs.writings.write_path.Kinds as write-path-kinds
 pub hop-of-unique : Determined 0 hop-of-kinds.ps hop-of-kinds.r hop-of.Post
 hop-of-unique κs a x y s t e f = e ∙ sym f
 
-pub ends-refusal-unique : Determined 0 ends-refusal-kinds.ps ends-refusal-kinds.r ends-refusal.Post
-ends-refusal-unique κs a x y s t e f = e ∙ sym f
+pub level-of-unique : Determined 0 level-of-kinds.ps level-of-kinds.r level-of.Post
+level-of-unique κs a x y s t e f = e ∙ sym f
+
+pub value-of-unique : Determined 0 value-of-kinds.ps value-of-kinds.r value-of.Post
+value-of-unique κs a x y s t e f = e ∙ sym f
 
 pub walk-unique : Determined 2 walk-kinds.ps walk-kinds.r walk.Post
 walk-unique κs a x y s t e f = e ∙ sym f

@@ -1,36 +1,38 @@
 -- Laws of writing: the byte of one hop, servers in turn, and what is refused on the way.
-use Prim.Native.Nat.{ℕ, zero, suc, _+_, _-_, _≤_, _<_}
+use Prim.Native.Nat.{ℕ, suc, _+_, _-_, _≤_, _<_}
 use mathlib.Core.Path.{_≡_, refl, sym, ap, _∙_}
-use mathlib.Core.Bool.{true, false, not, _&&_}
+use mathlib.Core.Bool.{true, false, _&&_}
 use mathlib.Core.List.{List, [], _∷_, _++_, append-nil}
 use native.Mathlib.Numerals.{add-one}
 use native.Mathlib.Omega.{arith}
-use native.Mathlib.Decide.{ℕ-discrete}
-use native.Mathlib.Nat.{le-of-suc-le-suc}
-use lib.Dec.{leb, eqb}
+use lib.Dec.{leb}
 use lib.ListN.{length, getD, set, take, drop, replicate, drop-of-length-le, length-set, length-drop}
 use lib.Seq.{take-suc, append-snoc}
-use borrow.Author.Tests.{eq-eqb, ne-eqb, le-leb, lt-leb, leb-true}
+use borrow.Author.Tests.{eq-eqb, ne-eqb, le-leb, lt-leb}
+use Rattle.lists.proofs.ListLaws.{left, filled-is, rest-on, taken-on}
+use Rattle.lists.specs.Lists.{inTurn, filled}
+use Rattle.refusals.specs.declared.Refusal.{Refusal}
+use Rattle.refusals.specs.Refusals.{none, refusedAt, _or-else_, _unless_, answer}
+use Rattle.refusals.proofs.AnswerLaws.{answered, answer-chain, answer-number}
+use Rattle.refusals.proofs.ChainLaws.{or-else-left}
 use Rattle.room.specs.declared.Shape.{Shape}
-use Rattle.room.specs.declared.Refusal.{Refusal}
 use Rattle.room.specs.declared.Number.{Number}
 use Rattle.room.specs.declared.Between.{Between}
 use Rattle.room.specs.Shapes.{Server, Link}
 use Rattle.room.specs.Addresses.{digit, differing}
-use Rattle.room.specs.Refusals.{none, refusedAt, shapeRefusal, serverRefusal, linkRefusal, _or-else_, _unless_}
-use Rattle.room.specs.Answers.{answer, onlyLevel, betweenAnswer, digitAnswer}
-use Rattle.room.proofs.RefusalLaws.{answered, or-else-zero, or-else-left, test-held, both-held, server-of, link-none}
+use Rattle.room.specs.Refusals.{serverRefusal, linkRefusal}
+use Rattle.room.specs.Answers.{onlyLevel, betweenAnswer, digitAnswer}
+use Rattle.room.proofs.RefusalLaws.{link-none}
 use Rattle.room.proofs.AnswerLaws.{between-answered}
 use Rattle.room.proofs.RoomLaws.{digit-lt, bound-le, neighbours-exactly}
 use Rattle.path.specs.declared.Tried.{Tried}
-use Rattle.path.specs.Lists.{inTurn, filled}
-use Rattle.path.specs.Routes.{levelTo, switchAt, switchTo, byteTo, encode}
-use Rattle.path.specs.Inside.{Next, Chain}
+use Rattle.path.specs.Routes.{levelTo, switchAt, switchTo, byteTo, encode, Route}
+use Rattle.path.specs.Inside.{Next}
 use Rattle.path.specs.Walks.{single, writeFault, writeFrom}
-use Rattle.path.specs.Answers.{serversRefusal, writeRefusal, noWriting, aWriting, written, onTheWay}
+use Rattle.path.specs.Answers.{serversRefusal, noWriting, aWriting, written, onTheWay}
 use Rattle.path.specs.Inside.{noTry, adds, newly, triedTo}
-use Rattle.path.proofs.ListSteps.{left, filled-is, rest-on, taken-on}
-use Rattle.path.proofs.HopSteps.{answer-chain, digit-found}
+use Rattle.path.proofs.HopLaws.{digit-found}
+use Rattle.path.proofs.CodecLaws.{Listed, single-one}
 
 -- ---- two servers in a row
 
@@ -61,13 +63,17 @@ byte-found {s} {a} {b} n x e y f =
       small = omega (arith, digit-lt (n .to) (levelTo s a b) (n .hop .level), bound-le (n .to .valid) (levelTo s a b), n .to .valid .ports);
     }
 
+-- two in a row on a route
+pub route-next : {s : Shape} {t vs : List ℕ} → Route s t vs → (i : ℕ) → i + 1 < length vs → Next s (getD vs i 0) (getD vs (i + 1) 0)
+route-next h i p = rw add-one (record { from = h .servers i (omega arith); to = h .servers (suc i) (rw add-one at p); hop = h .hops i (rw add-one at p) })
+
 -- ---- one after the other
 
 turn-on : (f : ℕ → ℕ → ℕ) (vs : List ℕ) (i : ℕ) → i + 1 < length vs → inTurn f (drop i vs) ≡ f (getD vs i 0) (getD vs (i + 1) 0) ∷ inTurn f (drop (i + 1) vs)
 unfolding inTurn
 turn-on f vs i h =
     let p : i < length vs = omega arith in
-    rw (left vs i p, left vs (i + 1) h)
+    rw (left vs i 0 p, left vs (i + 1) 0 h)
 
 turn-end : (f : ℕ → ℕ → ℕ) (xs : List ℕ) → length xs ≤ 1 → inTurn f xs ≡ []
 unfolding inTurn
@@ -108,21 +114,15 @@ put-end {s} {vs} {bytes} {i} g h =
 module _ (s : Shape) (vs : List ℕ) where
   pub servers-stop : (i r : ℕ) → i < length vs → r ≡ serverRefusal s (getD vs i 0) → (r ≡ 0 → ⊥) → r ≡ serversRefusal s (drop i vs)
   unfolding serversRefusal
-  servers-stop i r h e n = rw (left vs i h, ← e) (sym (or-else-left r _ n))
+  servers-stop i r h e n = rw (left vs i 0 h, ← e) (sym (or-else-left r _ n))
 
   pub servers-step : (i r : ℕ) → i < length vs → r ≡ serverRefusal s (getD vs i 0) → r ≡ 0 → serversRefusal s (drop (i + 1) vs) ≡ serversRefusal s (drop i vs)
   unfolding serversRefusal _or-else_
-  servers-step i r h e z = sym (rw (left vs i h, ← e, z))
+  servers-step i r h e z = sym (rw (left vs i 0 h, ← e, z))
 
   pub servers-end : (i : ℕ) → length vs ≤ i → 0 ≡ serversRefusal s (drop i vs)
   unfolding serversRefusal
   servers-end i h = rw (drop-of-length-le vs h)
-
-servers-all : (s : Shape) (vs : List ℕ) → serversRefusal s vs ≡ 0 → (i : ℕ) → i < length vs → Server s (getD vs i 0)
-unfolding serversRefusal
-servers-all s [] e i h = let z : ⊥ = omega arith in absurd z
-servers-all s (v ∷ vs) e zero h = server-of s v (or-else-zero (serverRefusal s v) _ e .0)
-servers-all s (v ∷ vs) e (suc i) h = servers-all s vs (or-else-zero (serverRefusal s v) _ e .1) i (le-of-suc-le-suc h)
 
 module _ (n : ℕ) where
   pub few-refused : n < 2 → 22 ≡ 22 unless (leb 2 n && leb n 9)
@@ -134,22 +134,6 @@ module _ (n : ℕ) where
   pub count-passed : 2 ≤ n → n ≤ 9 → 0 ≡ 22 unless (leb 2 n && leb n 9)
   count-passed h p = simp (le-leb 2 n h, le-leb n 9 p)
 
--- servers that are not refused before the way
-pub record Writable (s : Shape) (vs : List ℕ) : Type 0 where
-  pub some : 2 ≤ length vs
-  pub few : length vs ≤ 9
-  pub servers : (i : ℕ) → i < length vs → Server s (getD vs i 0)
-
-pub write-fine : (s : Shape) (vs : List ℕ) → writeRefusal s vs ≡ 0 → Writable s vs
-unfolding writeRefusal
-write-fine s vs e =
-    let n = length vs in
-    let x = or-else-zero _ (5 unless not (eqb (getD vs 0 0) (getD vs (length vs - 1) 0))) e in
-    let y = or-else-zero _ (serversRefusal s vs) (x .0) in
-    let z = or-else-zero (shapeRefusal s) (22 unless (leb 2 (length vs) && leb (length vs) 9)) (y .0) in
-    let b = both-held (leb 2 (length vs)) (leb (length vs) 9) (test-held _ 21 (z .1)) in
-    record { some = leb-true 2 (length vs) (b .0); few = leb-true (length vs) 9 (b .1); servers = servers-all s vs (y .1) }
-
 -- ---- one hop: 23, then 12
 
 level-single : (ls : List ℕ) → onlyLevel ls .adjacent ≡ single ls
@@ -157,15 +141,10 @@ level-single [] = refl
 level-single (l ∷ []) = refl
 level-single (l ∷ m ∷ ls) = refl
 
-single-is : (ls : List ℕ) → single ls ≡ true → ls ≡ getD ls 0 0 ∷ []
-single-is [] e = let z : _≡_ {A = ℕ} 0 1 = cc in let n : ⊥ = omega arith in absurd n
-single-is (l ∷ []) e = refl
-single-is (l ∷ m ∷ ls) e = let z : _≡_ {A = ℕ} 0 1 = cc in let n : ⊥ = omega arith in absurd n
-
 single-next : {s : Shape} {a b : ℕ} → Server s a → Server s b → single (differing s a b) ≡ true → Next s a b
 unfolding levelTo
 single-next {s} {a} {b} ha hb e =
-    record { from = ha; to = hb; hop = neighbours-exactly ha hb (getD (differing s a b) 0 0) .0 (single-is (differing s a b) e) }
+    record { from = ha; to = hb; hop = neighbours-exactly ha hb (getD (differing s a b) 0 0) .0 (single-one (differing s a b) e) }
 
 module _ {s : Shape} {a b : ℕ} (ha : Server s a) (hb : Server s b) (x : Between) (e : x ≡ betweenAnswer s a b) where
   adjacent-single : x .adjacent ≡ single (differing s a b)
@@ -201,11 +180,7 @@ module _ {s : Shape} {a b : ℕ} (ha : Server s a) (hb : Server s b) (x : Betwee
 module _ (s : Shape) (met used : List ℕ) (a b : ℕ) (x : Tried) (e : x ≡ triedTo s met used a b) where
   to-number : x .number ≡ writeFault s met used a b
   unfolding triedTo
-  to-number = ap (λ (y : Tried). y .number) e ∙ go (writeFault s met used a b)
-    where
-      go : (q : ℕ) → answer q noTry (adds b (switchTo s a b)) .number ≡ q
-      go zero = refl
-      go (suc q) = refl
+  to-number = ap (λ (y : Tried). y .number) e ∙ answer-number (λ (y : Tried). y .number) noTry (λ r. refl) (writeFault s met used a b) _ refl
 
   to-switch : x .number ≡ 0 → x .switch ≡ switchTo s a b
   unfolding triedTo
@@ -220,7 +195,7 @@ module _ (s : Shape) (vs used : List ℕ) (i : ℕ) (h : i + 1 < length vs) (x :
   unfolding writeFrom
   way-refused n =
       let r = to-number s (take (i + 1) vs) (take i used) (getD vs i 0) (getD vs (i + 1) 0) x e in
-      sym (rw (left vs (i + 1) h, ← r, ne-eqb (x .number) 0 n))
+      sym (rw (left vs (i + 1) 0 h, ← r, ne-eqb (x .number) 0 n))
 
   way-on : i < length used → x .number ≡ 0 → writeFrom s (i + 1) (take (i + 1 + 1) vs) (take (i + 1) (set used i (x .switch))) (getD vs (i + 1) 0) (drop (i + 1 + 1) vs) ≡ writeFrom s i (take (i + 1) vs) (take i used) (getD vs i 0) (drop (i + 1) vs)
   unfolding writeFrom
@@ -228,16 +203,16 @@ module _ (s : Shape) (vs used : List ℕ) (i : ℕ) (h : i + 1 < length vs) (x :
       let r = to-number s (take (i + 1) vs) (take i used) (getD vs i 0) (getD vs (i + 1) 0) x e in
       let w = to-switch s (take (i + 1) vs) (take i used) (getD vs i 0) (getD vs (i + 1) 0) x e z in
       let m : take (i + 1 + 1) vs ≡ take (i + 1) vs ++ (getD vs (i + 1) 0 ∷ []) = rw (add-one (i + 1)) (take-suc vs (i + 1) 0 h) in
-      rw (m, taken-on used i (x .switch) u) (sym (rw (left vs (i + 1) h, ← r, eq-eqb (x .number) 0 z, ← w)))
+      rw (m, taken-on used i (x .switch) u) (sym (rw (left vs (i + 1) 0 h, ← r, eq-eqb (x .number) 0 z, ← w)))
 
 -- the loop's invariant: what is left to write from here gives the whole answer
 pub record Way (s : Shape) (vs used : List ℕ) (i : ℕ) : Type 0 where
-  pub fine : Writable s vs
+  pub fine : Listed s vs
   pub within : i < length vs
   pub wide : length used ≡ 8
   pub same : writeFrom s i (take (i + 1) vs) (take i used) (getD vs i 0) (drop (i + 1) vs) ≡ onTheWay s vs
 
-pub way-start : (s : Shape) (vs : List ℕ) → Writable s vs → Way s vs (replicate 8 0) 0
+pub way-start : (s : Shape) (vs : List ℕ) → Listed s vs → Way s vs (replicate 8 0) 0
 unfolding onTheWay
 way-start s [] h = let z : ⊥ = omega (arith, h .some) in absurd z
 way-start s (v ∷ vs) h = record { fine = h; within = omega (arith, h .some); wide = refl; same = refl }
@@ -260,32 +235,7 @@ module _ {s : Shape} {vs used : List ℕ} {i : ℕ} (g : Way s vs used i) where
           same = way-on s vs used i h x e (omega (arith, g .fine .few)) z ∙ g .same;
         }
 
--- ---- servers with no refusal on the way are neighbours in turn
-
-way-first : (s : Shape) (h : ℕ) (met used : List ℕ) (a b : ℕ) (bs : List ℕ) → writeFrom s h met used a (b ∷ bs) .number ≡ 0 → (writeFault s met used a b ≡ 0) × (writeFrom s (h + 1) (met ++ (b ∷ [])) (used ++ (switchTo s a b ∷ [])) b bs .number ≡ 0)
-unfolding writeFrom
-way-first s h met used a b bs e =
-    elim (ℕ-discrete (writeFault s met used a b) 0) [
-      | yes y ↦ (y, rw (eq-eqb (writeFault s met used a b) 0 y) at e)
-      | no y ↦ absurd (y (rw (ne-eqb (writeFault s met used a b) 0 y) at e))
-    ]
-
-way-single : (s : Shape) (h : ℕ) (met used : List ℕ) (a : ℕ) (bs : List ℕ) → writeFrom s h met used a bs .number ≡ 0 → (i : ℕ) → i < length bs → single (differing s (getD (a ∷ bs) i 0) (getD bs i 0)) ≡ true
-unfolding writeFault
-way-single s h met used a [] e i p = let z : ⊥ = omega arith in absurd z
-way-single s h met used a (b ∷ bs) e zero p =
-    test-held _ 22 (or-else-zero (23 unless single (differing s a b)) _ (way-first s h met used a b bs e .0) .0)
-way-single s h met used a (b ∷ bs) e (suc i) p =
-    way-single s (h + 1) (met ++ (b ∷ [])) (used ++ (switchTo s a b ∷ [])) b bs (way-first s h met used a b bs e .1) i (le-of-suc-le-suc p)
-
-pub way-chain : (s : Shape) (vs : List ℕ) → Writable s vs → onTheWay s vs .number ≡ 0 → Chain s vs
-unfolding onTheWay
-way-chain s [] h e = let z : ⊥ = omega (arith, h .some) in absurd z
-way-chain s (v ∷ vs) h e =
-    record {
-      few = h .few;
-      next = λ i p. single-next (h .servers i (omega arith)) (h .servers (suc i) p) (way-single s 0 (v ∷ []) [] v vs e i (le-of-suc-le-suc p));
-    }
+-- ---- what is answered
 
 module _ (s : Shape) (vs : List ℕ) (r : Refusal) where
   pub written-refused : (r .number ≡ 0 → ⊥) → noWriting r ≡ written s vs r

@@ -1,18 +1,18 @@
 -- What each call on path bytes answers. On a refusal all but the refusal is zero.
-use Prim.Native.Nat.{ℕ, zero, _-_}
+use Prim.Native.Nat.{ℕ, _-_}
 use mathlib.Core.List.{List, [], _∷_, reverse}
 use mathlib.Core.Bool.{not, cond, _&&_}
 use lib.Dec.{leb, eqb}
 use lib.ListN.{length, getD, replicate}
+use Rattle.lists.specs.Lists.{filled}
+use Rattle.refusals.specs.declared.Refusal.{Refusal}
+use Rattle.refusals.specs.Refusals.{none, plain, refusedAt, _or-else_, _unless_, answer}
 use Rattle.room.specs.declared.Shape.{Shape}
-use Rattle.room.specs.declared.Refusal.{Refusal}
-use Rattle.room.specs.Refusals.{none, plain, refusedAt, serverRefusal, pairRefusal, shapeRefusal, _or-else_, _unless_}
-use Rattle.room.specs.Answers.{answer}
+use Rattle.room.specs.Refusals.{shapeRefusal, serverRefusal, endsRefusal}
 use Rattle.path.specs.declared.Hop.{Hop}
 use Rattle.path.specs.declared.Walked.{Walked}
 use Rattle.path.specs.declared.Reading.{Reading}
 use Rattle.path.specs.declared.Writing.{Writing}
-use Rattle.path.specs.Lists.{filled}
 use Rattle.path.specs.Routes.{encode}
 use Rattle.path.specs.Walks.{Walk, stopped, arrived, hopTo, hopRefusal, walk, writeFrom}
 
@@ -29,11 +29,7 @@ hopAnswer s a b = answer (serverRefusal s a or-else hopRefusal s a b) noHop (aHo
 
 -- ---- walking an array: 1 to 3, 4, 5, 7, then hop after hop
 
--- source and destination: 1 to 3, 4, 5
-unfoldable pub endsRefusal : Shape → ℕ → ℕ → ℕ
-endsRefusal s a d = pairRefusal s a d or-else 5 unless not (eqb a d)
-
--- and one array: 7
+-- one array of eight bytes: 7
 unfoldable pub arrayRefusal : Shape → ℕ → ℕ → List ℕ → ℕ
 arrayRefusal s a d bs = endsRefusal s a d or-else 7 unless eqb (length bs) 8
 

@@ -1,4 +1,3 @@
-pub mod Lists
 pub mod Routes
 pub mod Walks
 pub mod Answers

@@ -1,18 +1,24 @@
 -- Routes, declaratively: servers in turn, the switches and path bytes of their hops, and when two routes are parallel.
-use Prim.Native.Nat.{ℕ, suc, _+_, _-_, _*_, _≤_, _<_}
+use Prim.Native.Nat.{ℕ, suc, _+_, _-_, _*_, _/_, _%_, _≤_, _<_}
 use mathlib.Core.Path.{_≡_}
 use mathlib.Core.List.{List}
 use mathlib.Core.Bool.{true}
 use lib.ListN.{length, getD}
+use Rattle.lists.specs.Lists.{Once, Apart, inTurn, middle, filled}
 use Rattle.room.specs.declared.Shape.{Shape}
 use Rattle.room.specs.Shapes.{Server}
 use Rattle.room.specs.Addresses.{digit, switchOf, differing, Neighbours}
 use Rattle.links.specs.Table.{live}
-use Rattle.path.specs.Lists.{Once, Apart, inTurn, middle, filled}
 
--- a path byte: the level in its two high bits, the new value in the six low ones
+-- a path byte: the level in its two high bits, the new value in the six low ones; and what it names
 unfoldable pub byteOf : ℕ → ℕ → ℕ
 byteOf l v = 64 * l + v
+
+abbrev pub levelOf : ℕ → ℕ
+levelOf b = b / 64
+
+abbrev pub valueOf : ℕ → ℕ
+valueOf b = b % 64
 
 -- a switch as one number: its level, and its number there, which is below 4,096
 unfoldable pub switchAt : Shape → ℕ → ℕ → ℕ

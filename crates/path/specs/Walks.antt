@@ -1,16 +1,16 @@
 -- The reading rule: from the source, byte after byte, to the first arrival; the bytes after that are zero.
-use Prim.Native.Nat.{ℕ, zero, _+_, _/_, _%_}
+use Prim.Native.Nat.{ℕ, _+_}
 use mathlib.Core.List.{List, [], _∷_, _++_}
 use mathlib.Core.Bool.{Bool, true, false, not, cond, _&&_}
 use lib.Dec.{ltb, leb, eqb}
+use Rattle.lists.specs.Lists.{isIn}
+use Rattle.refusals.specs.declared.Refusal.{Refusal}
+use Rattle.refusals.specs.Refusals.{none, refusedAt, _or-else_, _unless_}
 use Rattle.room.specs.declared.Shape.{Shape}
-use Rattle.room.specs.declared.Refusal.{Refusal}
 use Rattle.room.specs.Shapes.{bound}
 use Rattle.room.specs.Addresses.{digit, withDigit, differing}
-use Rattle.room.specs.Refusals.{none, refusedAt, _or-else_, _unless_}
 use Rattle.links.specs.Table.{live}
-use Rattle.path.specs.Lists.{isIn}
-use Rattle.path.specs.Routes.{switchAt, switchTo}
+use Rattle.path.specs.Routes.{levelOf, valueOf, switchAt, switchTo}
 
 -- what a walk comes to: a refusal, by its number and hop; or arrival, with the servers met and the switches used
 pub data Walk : Type 0 where
@@ -19,17 +19,17 @@ pub data Walk : Type 0 where
 
 -- where the hop by byte b from server a leads
 unfoldable pub hopTo : Shape → ℕ → ℕ → ℕ
-hopTo s a b = withDigit s (b / 64) (b % 64) a
+hopTo s a b = withDigit s (levelOf b) (valueOf b) a
 
 -- why byte b is no hop from server a: 8, 9, 10
 unfoldable pub hopRefusal : Shape → ℕ → ℕ → ℕ
 hopRefusal s a b =
-    8 unless leb (b / 64) (s .k) or-else 9 unless ltb (b % 64) (bound s (b / 64)) or-else 10 unless not (eqb (digit s (b / 64) a) (b % 64))
+    8 unless leb (levelOf b) (s .k) or-else 9 unless ltb (valueOf b) (bound s (levelOf b)) or-else 10 unless not (eqb (digit s (levelOf b) a) (valueOf b))
 
 -- why a walk that has met these servers and used these switches does not take the hop by byte b from a: 8, 9, 10, 11, 12
 unfoldable pub fault : Shape → List ℕ → List ℕ → List ℕ → ℕ → ℕ → ℕ
 fault s t met used a b =
-    hopRefusal s a b or-else 11 unless live t (b / 64) a (hopTo s a b) or-else 12 unless (not (isIn (hopTo s a b) met) && not (isIn (switchAt s (b / 64) a) used))
+    hopRefusal s a b or-else 11 unless live t (levelOf b) a (hopTo s a b) or-else 12 unless (not (isIn (hopTo s a b) met) && not (isIn (switchAt s (levelOf b) a) used))
 
 -- arrived after h hops, with these bytes left: each must be zero, else 14 at the first that is not
 unfoldable pub ended : ℕ → List ℕ → List ℕ → List ℕ → Walk
@@ -43,7 +43,7 @@ walkFrom s t d h met used a (b ∷ bs) =
     let r = fault s t met used a b in
     let next = hopTo s a b in
     let met' = met ++ (next ∷ []) in
-    let used' = used ++ (switchAt s (b / 64) a ∷ []) in
+    let used' = used ++ (switchAt s (levelOf b) a ∷ []) in
     cond (eqb r 0)
     (cond (eqb next d) (ended (h + 1) met' used' bs) (walkFrom s t d (h + 1) met' used' next bs))
     (stopped r (h + 1))

@@ -2,10 +2,13 @@
 ghost use mathlib.Core.Path.{_≡_};
 ghost use Rattle.path.specs.Bytes.{byteAnswer, noParts, partsAnswer};
 use crate::Parts;
+use crate::hops::level_of;
+use crate::hops::value_of;
+use refusals::Refusal;
 use room::Number;
-use room::Refusal;
 use room::Shape;
 use room::bound_of;
+use room::digit_bound;
 use room::shape_refusal;
 
 // The path byte of a level and a value. Refusals 1, 2, 3, 20, 21.
@@ -47,13 +50,12 @@ pub fn parts_of(shape: Shape, byte: usize) -> Parts
     if number != 0 {
         return no_parts(Refusal::plain(number));
     }
-    let level = byte / 64;
+    let level = level_of(byte);
     if shape.k < level {
         return no_parts(Refusal::at(Refusal::POSITION, 1, 1));
     }
-    let value = byte % 64;
-    let bound = bound_of(shape, level);
-    if bound.value <= value {
+    let value = value_of(byte);
+    if digit_bound(shape, level) <= value {
         return no_parts(Refusal::at(Refusal::VALUE, 1, 1));
     }
     Parts {

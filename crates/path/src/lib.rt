@@ -1,11 +1,9 @@
 // Path bytes: one hop, and whole arrays read, written and reversed.
-use room::Refusal;
+use refusals::Refusal;
 // bytes.rt: one path byte by itself
 mod bytes;
 // hops.rt: one hop, by its byte
 mod hops;
-// powers.rt: powers of n
-mod powers;
 // readings.rt: plain reading
 mod readings;
 // repeats.rt: servers and switches already on the route
@@ -20,10 +18,11 @@ mod writings;
 pub use bytes::byte_of;
 pub use bytes::parts_of;
 pub use hops::hop_of;
+pub use hops::level_of;
+pub use hops::value_of;
 pub use readings::read_path;
 pub use repeats::is_among;
 pub use turns::reverse_path;
-pub use walks::ends_refusal;
 pub use walks::walk;
 pub use writings::write_path;
 

@@ -1,11 +1,11 @@
 // Servers and switches already on the route.
 ghost use mathlib.Core.Path.{_≡_};
+ghost use Rattle.lists.specs.Lists.{isIn};
 ghost use Rattle.room.specs.Refusals.{linkRefusal};
-ghost use Rattle.path.specs.Lists.{isIn};
 ghost use Rattle.path.specs.Routes.{switchAt};
 ghost use Rattle.path.specs.Inside.{noTry, newly};
 use crate::Tried;
-use room::Refusal;
+use refusals::Refusal;
 use room::Shape;
 use room::switch_of;
 

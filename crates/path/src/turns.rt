@@ -3,7 +3,7 @@ ghost use mathlib.Core.Path.{_≡_};
 ghost use mathlib.Core.List.{reverse};
 ghost use Prim.Native.Nat.{_≤_};
 ghost use lib.ListN.{take};
-ghost use Rattle.path.specs.Lists.{filled};
+ghost use Rattle.lists.specs.Lists.{filled};
 ghost use Rattle.path.specs.Answers.{reverseAnswer};
 use crate::Writing;
 use crate::readings::plain_walk;

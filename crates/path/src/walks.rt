@@ -2,39 +2,22 @@
 ghost use mathlib.Core.Path.{_≡_};
 ghost use Prim.Native.Nat.{_+_, _≤_};
 ghost use lib.ListN.{length, take, drop};
+ghost use Rattle.lists.specs.Lists.{filled};
 ghost use Rattle.room.specs.Refusals.{serverRefusal};
-ghost use Rattle.path.specs.Lists.{filled};
 ghost use Rattle.path.specs.Walks.{ended, walk};
-ghost use Rattle.path.specs.Answers.{endsRefusal, arrayRefusal, noWalk, walked, walkAnswer};
+ghost use Rattle.path.specs.Answers.{arrayRefusal, noWalk, walked, walkAnswer};
 ghost use Rattle.path.specs.Inside.{tried};
 use crate::Tried;
 use crate::Walked;
 use crate::hops::hop_from;
+use crate::hops::level_of;
 use crate::repeats::add_hop;
 use crate::repeats::no_try;
 use crate::repeats::switch_at;
 use links::is_live;
-use room::Refusal;
+use refusals::Refusal;
 use room::Shape;
-use room::server_refusal;
-
-// The first of 1, 2, 3, 4, 5 that refuses a source and a destination, or 0.
-pub fn ends_refusal(shape: Shape, source: usize, destination: usize) -> usize
-    ensures { λ r. ⌜ r ≡ endsRefusal shape source destination ⌝ }
-{
-    let one = server_refusal(shape, source);
-    if one != 0 {
-        return one;
-    }
-    let other = server_refusal(shape, destination);
-    if other != 0 {
-        return other;
-    }
-    if source == destination {
-        return Refusal::SAME_ENDS;
-    }
-    0
-}
+use room::ends_refusal;
 
 // The first of 1, 2, 3, 4, 5, 7 that refuses the ends and the length of an array, or 0.
 fn array_refusal(shape: Shape, source: usize, destination: usize, path: &[u8]) -> usize
@@ -77,7 +60,7 @@ fn try_hop(
     if hop.number != 0 {
         return no_try(hop.number);
     }
-    let level = byte as usize / 64;
+    let level = level_of(byte as usize);
     if is_live(table, level, server, hop.next) {
         return add_hop(met, used, hop.next, switch_at(shape, level, server));
     }

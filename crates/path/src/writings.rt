@@ -1,16 +1,16 @@
 // The bytes of servers in turn.
 ghost use mathlib.Core.Path.{_≡_};
+ghost use mathlib.Core.List.{[]};
 ghost use Rattle.room.specs.Refusals.{pairRefusal};
-ghost use Rattle.path.specs.Routes.{byteTo, encode};
-ghost use Rattle.path.specs.Inside.{Next, Chain};
+ghost use Rattle.path.specs.Routes.{byteTo, encode, Route};
+ghost use Rattle.path.specs.Inside.{Next, triedTo};
 ghost use Rattle.path.specs.Answers.{noWriting, aWriting, serversRefusal, writeRefusal, onTheWay, writeAnswer};
-ghost use Rattle.path.specs.Inside.{triedTo};
 use crate::Tried;
 use crate::Writing;
 use crate::repeats::add_hop;
 use crate::repeats::no_try;
 use crate::repeats::switch_at;
-use room::Refusal;
+use refusals::Refusal;
 use room::Shape;
 use room::digit_of;
 use room::level_between;
@@ -38,7 +38,7 @@ fn byte_to(shape: Shape, from: usize, to: usize) -> u8
 
 // The bytes of servers in turn, and zeros after them.
 fn put_bytes(shape: Shape, servers: &[usize]) -> [u8; 8]
-    requires { ⌜ Chain shape (now servers) ⌝ }
+    requires { ⌜ Route shape [] (now servers) ⌝ }
     ensures { λ r. ⌜ r ≡ encode shape (now (servers .entry)) ⌝ }
 {
     let mut bytes: [u8; 8] = [0; 8];
@@ -52,7 +52,7 @@ fn put_bytes(shape: Shape, servers: &[usize]) -> [u8; 8]
 }
 
 pub(crate) fn a_writing(shape: Shape, servers: &[usize]) -> Writing
-    requires { ⌜ Chain shape (now servers) ⌝ }
+    requires { ⌜ Route shape [] (now servers) ⌝ }
     ensures { λ r. ⌜ r ≡ aWriting (encode shape (now (servers .entry))) ⌝ }
 {
     Writing {

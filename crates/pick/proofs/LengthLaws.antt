@@ -5,10 +5,10 @@ use mathlib.Core.Bool.{Bool, true, false, _&&_}
 use mathlib.Core.List.{List}
 use lib.Dec.{leb}
 use borrow.Author.Tests.{eq-eqb, ne-eqb}
+use Rattle.refusals.specs.Refusals.{_unless_}
+use Rattle.refusals.proofs.ChainLaws.{or-else-zero}
 use Rattle.room.specs.declared.Shape.{Shape}
-use Rattle.room.specs.Refusals.{_unless_}
-use Rattle.room.proofs.RefusalLaws.{or-else-zero}
-use Rattle.verdict.specs.Checks.{roomRefusal}
+use Rattle.links.specs.Table.{roomRefusal}
 use Rattle.pick.specs.Picks.{fits, listsRefusal}
 
 pub fits-not : (s : Shape) (n : ℕ) → (n % 8 ≡ 0 → ⊥) → false ≡ fits s n

@@ -1,14 +1,14 @@
 -- What picking answers: one law for each way through the code.
-use Prim.Native.Nat.{ℕ, zero, suc, _+_, _-_, _/_, _≤_, _<_}
+use Prim.Native.Nat.{ℕ, zero, suc, _+_, _/_, _≤_, _<_}
 use mathlib.Core.Path.{_≡_, refl, ap, _∙_}
 use mathlib.Core.List.{List, []}
 use native.Mathlib.Nat.{zero-add}
 use lib.ListN.{length}
 use borrow.Author.Tests.{lt-ltb, le-ltb}
+use Rattle.refusals.specs.Refusals.{plain, _or-else_, answer}
+use Rattle.refusals.proofs.ChainLaws.{chain-stops, chain-goes}
+use Rattle.refusals.proofs.AnswerLaws.{answer-refused, answer-given}
 use Rattle.room.specs.declared.Shape.{Shape}
-use Rattle.room.specs.Refusals.{plain, _or-else_}
-use Rattle.room.specs.Answers.{answer}
-use Rattle.room.proofs.RefusalLaws.{chain-stops, chain-goes, answer-refused, answer-given}
 use Rattle.pick.specs.Picks.{firstIn, Source, inFresh, inKept, nowhere, found, listsRefusal, pickSource, missing, pickRefusal, pickAnswer, pickedBytes, pickedAt}
 use Rattle.pick.specs.declared.Place.{Place}
 use Rattle.pick.specs.Places.{noPlace, aPlace, placeOf, placeAnswer}

@@ -8,13 +8,12 @@ use native.Mathlib.Omega.{arith}
 use native.Mathlib.Decide.{decLt, ℕ-discrete}
 use lib.Dec.{ltb, leb, eqb}
 use lib.ListN.{length}
+use Rattle.refusals.specs.Refusals.{_or-else_, _unless_}
+use Rattle.refusals.proofs.ChainLaws.{or-else-zero, or-else-left, chain-goes}
 use Rattle.room.specs.declared.Shape.{Shape}
 use Rattle.room.specs.Shapes.{serversOf}
-use Rattle.room.specs.Refusals.{shapeRefusal, serverRefusal, pairRefusal, _or-else_, _unless_}
-use Rattle.room.proofs.RefusalLaws.{or-else-zero, or-else-left, chain-goes}
-use Rattle.links.specs.Table.{bitsFit, tableRefusal}
-use Rattle.path.specs.Answers.{endsRefusal}
-use Rattle.verdict.specs.Checks.{roomRefusal}
+use Rattle.room.specs.Refusals.{shapeRefusal, serverRefusal, pairRefusal, endsRefusal}
+use Rattle.links.specs.Table.{bitsFit, tableRefusal, roomRefusal}
 use Rattle.verdict.specs.Accepted.{Accepted}
 use Rattle.pick.specs.Picks.{usable, firstIn, Source, inFresh, inKept, nowhere, found, fits, listsRefusal, pickSource, missing, pickRefusal, arrayAt, pickedBytes}
 use Rattle.pick.specs.Chosen.{FirstUsable, NoneUsable, Chosen}

@@ -5,7 +5,7 @@ use borrow.Fn.Kinds.{Dens, endedOf, resT}
 use denote.Triple.Clauses.{AtExit}
 use denote.Ref.{now, ptr}
 use contract.Lifetimes.{Lfts}
-use Rattle.room.specs.Determined.{Determined}
+use Rattle.refusals.specs.Determined.{Determined}
 use Rattle.pick.proofs.picks.pick_route.Reads as pick-route
 use Rattle.pick.proofs.picks.pick_route.Kinds as pick-route-kinds
 use Rattle.pick.proofs.picks.pick_place.Reads as pick-place

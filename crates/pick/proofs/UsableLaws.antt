@@ -10,13 +10,15 @@ use lib.Dec.{eqb}
 use lib.ListN.{length, take, drop, length-drop}
 use lib.Seq.{take-all, drop-drop, length-take-le}
 use borrow.Author.Tests.{eq-eqb, ne-eqb, eqb-true, le-leb}
+use Rattle.refusals.specs.declared.Refusal.{Refusal}
+use Rattle.refusals.specs.Refusals.{none, plain, refusedAt}
+use Rattle.refusals.proofs.ChainLaws.{chain-goes}
+use Rattle.refusals.proofs.AnswerLaws.{answer-none}
 use Rattle.room.specs.declared.Shape.{Shape}
-use Rattle.room.specs.declared.Refusal.{Refusal}
-use Rattle.room.specs.Refusals.{none, plain, refusedAt}
-use Rattle.room.proofs.RefusalLaws.{chain-goes, answer-none}
+use Rattle.links.specs.Table.{roomRefusal}
 use Rattle.path.specs.declared.Walked.{Walked}
 use Rattle.path.specs.Answers.{walkAnswer}
-use Rattle.verdict.specs.Checks.{arrays, firstStop, firstMeeting, firstOf, firstPair, roomRefusal, listRefusal, walksOf, checkAnswer}
+use Rattle.verdict.specs.Checks.{arrays, firstStop, firstMeeting, firstOf, firstPair, listRefusal, walksOf, checkAnswer}
 use Rattle.verdict.specs.Accepted.{Accepted}
 use Rattle.verdict.proofs.AcceptLaws.{accepted-of}
 use Rattle.pick.specs.Picks.{usable, firstUsable, firstIn, arrayAt}

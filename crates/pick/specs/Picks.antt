@@ -6,11 +6,11 @@ use mathlib.Core.Bool.{Bool, cond, _&&_}
 use lib.Dec.{ltb, leb, eqb}
 use lib.ListN.{length, take, drop}
 use denote.Ref.{RefT, now, ptr}
+use Rattle.refusals.specs.declared.Refusal.{Refusal}
+use Rattle.refusals.specs.Refusals.{plain, _or-else_, _unless_, answer}
 use Rattle.room.specs.declared.Shape.{Shape}
-use Rattle.room.specs.declared.Refusal.{Refusal}
-use Rattle.room.specs.Refusals.{plain, _or-else_, _unless_}
-use Rattle.room.specs.Answers.{answer}
-use Rattle.verdict.specs.Checks.{arrays, roomRefusal, checkAnswer}
+use Rattle.links.specs.Table.{roomRefusal}
+use Rattle.verdict.specs.Checks.{arrays, checkAnswer}
 
 -- whether checking takes an array as a list of one
 unfoldable pub usable : Shape → List ℕ → ℕ → ℕ → List ℕ → Bool

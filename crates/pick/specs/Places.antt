@@ -1,8 +1,8 @@
 -- Where the picked route stands: the list, 1 the fresh and 2 the kept one, and its place there, counted from 1.
 use Prim.Native.Nat.{ℕ, _+_}
 use mathlib.Core.List.{List}
+use Rattle.refusals.specs.Refusals.{none, plain}
 use Rattle.room.specs.declared.Shape.{Shape}
-use Rattle.room.specs.Refusals.{none, plain}
 use Rattle.pick.specs.declared.Place.{Place}
 use Rattle.pick.specs.Picks.{Source, inFresh, inKept, nowhere, pickSource, pickRefusal}
 

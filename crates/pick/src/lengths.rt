@@ -1,21 +1,10 @@
 // What is tested before any reading.
 ghost use mathlib.Core.Path.{_≡_};
 ghost use Prim.Native.Nat.{_≤_};
-ghost use Rattle.verdict.specs.Checks.{roomRefusal};
 ghost use Rattle.pick.specs.Picks.{fits, listsRefusal};
-use room::Refusal;
+use links::room_refusal;
+use refusals::Refusal;
 use room::Shape;
-
-// The first of 1, 2, 3, 4, 5, 6 that refuses a room with its ends and its table, or 0.
-fn room_refusal(shape: Shape, table: &[u8], source: usize, destination: usize) -> usize
-    ensures { λ r. ⌜ r ≡ roomRefusal shape (now (table .entry)) source destination ⌝ }
-{
-    let r = path::ends_refusal(shape, source, destination);
-    if r != 0 {
-        return r;
-    }
-    links::table_refusal(shape, table)
-}
 
 // Whether so many bytes are whole arrays, at most k + 1 of them; none will do.
 fn are_arrays(shape: Shape, bytes: usize) -> bool

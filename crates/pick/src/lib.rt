@@ -1,5 +1,5 @@
 // Picking a usable route from a fresh list and a kept one.
-use room::Refusal;
+use refusals::Refusal;
 // lengths.rt: what is tested before any reading
 mod lengths;
 // picks.rt: the route picked, its place, and the companion question

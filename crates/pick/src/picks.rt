@@ -1,11 +1,11 @@
 // The route picked, and the companion question.
 ghost use mathlib.Core.Path.{_≡_};
-ghost use Rattle.verdict.specs.Checks.{roomRefusal};
+ghost use Rattle.links.specs.Table.{roomRefusal};
 ghost use Rattle.pick.specs.Picks.{firstIn, pickAnswer, PickedPart};
 ghost use Rattle.pick.specs.Places.{noPlace, aPlace, placeAnswer};
 use crate::Place;
 use crate::lengths::lists_refusal;
-use room::Refusal;
+use refusals::Refusal;
 use room::Shape;
 
 // The place of the first usable array of a list, or the number of its arrays. The room, its ends and

@@ -1,6 +1,6 @@
 // Lines of text and numbers on standard output.
+use refusals::Refusal;
 use room::Number;
-use room::Refusal;
 use room::Shape;
 
 pub fn text(t: &[u8]) {

@@ -3,17 +3,19 @@ use Prim.Native.Nat.{ℕ, suc, _-_, _≤_}
 use mathlib.Core.Path.{_≡_, refl, ap, _∙_}
 use mathlib.Core.List.{List}
 use lib.ListN.{length, take}
+use Rattle.lists.specs.Lists.{filled}
+use Rattle.refusals.proofs.AnswerLaws.{answer-none}
 use Rattle.room.specs.declared.Shape.{Shape}
 use Rattle.room.specs.declared.Number.{Number}
 use Rattle.room.specs.declared.Digits.{Digits}
 use Rattle.room.specs.declared.Switch.{Switch}
 use Rattle.room.specs.declared.Between.{Between}
-use Rattle.room.specs.Digits.{addressOf, padded}
+use Rattle.room.specs.Digits.{addressOf}
 use Rattle.room.specs.Shapes.{serversOf, bound, Valid, Server, Link, Value}
 use Rattle.room.specs.Addresses.{digits, digit, withDigit, switchOf, differing}
 use Rattle.room.specs.Answers.{noNumber, aNumber, noDigits, someDigits, noSwitch, aSwitch, noBetween, onlyLevel, serversAnswer, boundAnswer, digitsAnswer, digitAnswer, addressAnswer, switchAnswer, neighbourAnswer, betweenAnswer}
 use Rattle.room.proofs.DigitLaws.{address-padded}
-use Rattle.room.proofs.RefusalLaws.{Places, valid-none, level-none, server-none, pair-none, link-none, value-none, places-none, answer-none}
+use Rattle.room.proofs.RefusalLaws.{Places, valid-none, level-none, server-none, pair-none, link-none, value-none, places-none}
 use Rattle.room.proofs.RoomLaws.{read-back, write-back, written-server, places-digits, places-written, places-padded, places-address}
 
 -- ---- where nothing is refused, an answer is what was asked for
@@ -26,7 +28,7 @@ pub bound-answered : {s : Shape} {l : ℕ} → Valid s → l ≤ s .k → (x : N
 unfolding boundAnswer
 bound-answered h p x e = e ∙ answer-none _ noNumber _ (level-none h p)
 
-pub digits-answered : {s : Shape} {a : ℕ} → Server s a → (x : Digits) → x ≡ digitsAnswer s a → x ≡ someDigits (padded (digits s a))
+pub digits-answered : {s : Shape} {a : ℕ} → Server s a → (x : Digits) → x ≡ digitsAnswer s a → x ≡ someDigits (filled 4 (digits s a))
 unfolding digitsAnswer
 digits-answered h x e = e ∙ answer-none _ noDigits _ (server-none h)
 
@@ -53,8 +55,8 @@ between-answered ha hb x e = e ∙ answer-none _ noBetween _ (pair-none ha hb)
 -- ---- digits and address undo each other, as the two calls answer
 
 -- the digits of a server, read back as an address, are that server
-pub address-of-digits : {s : Shape} {a : ℕ} → Server s a → addressAnswer s (padded (digits s a)) ≡ aNumber a
-unfolding padded
+pub address-of-digits : {s : Shape} {a : ℕ} → Server s a → addressAnswer s (filled 4 (digits s a)) ≡ aNumber a
+unfolding filled
 address-of-digits {s} {a} h =
     address-answered (places-digits h) _ refl
     ∙ ap aNumber (address-padded (s .n) (digits s a) (4 - length (digits s a)) ∙ read-back h)
@@ -65,4 +67,4 @@ digits-of-address {s} {ds} h l =
     let w = places-written h l in
     let e = places-address h l in
     let v : Server s (addressOf (s .n) (take (suc (s .k)) ds)) = written-server (h .valid) w in
-    ap (digitsAnswer s) e ∙ digits-answered v _ refl ∙ ap someDigits (ap padded (write-back (h .valid) w) ∙ places-padded h l)
+    ap (digitsAnswer s) e ∙ digits-answered v _ refl ∙ ap someDigits (ap (filled 4) (write-back (h .valid) w) ∙ places-padded h l)

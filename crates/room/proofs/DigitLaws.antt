@@ -11,7 +11,8 @@ use lib.Dec.{lit<}
 use lib.Arith.{mod-mul, lt-one}
 use lib.ListN.{length, getD, take, drop, set, replicate, length-set, length-drop}
 use lib.Seq.{ext-getD, set-split, getD-set-same, getD-set-other, length-take-le, getD-drop, drop-cons}
-use Rattle.room.specs.Digits.{digitsOf, addressOf, strike, padded, Below}
+use Rattle.lists.specs.Lists.{filled}
+use Rattle.room.specs.Digits.{digitsOf, addressOf, strike, Below}
 
 below-head : {n d : ℕ} {ds : List ℕ} → Below n (d ∷ ds) → d < n
 below-head h = h .at zero (suc-le-suc zero-le)
@@ -205,6 +206,15 @@ pow-small n l h k = le-trans (pow-le-pow-left h l) (pow-le-pow-right (lit< tt) k
 pub next-power : (n i p : ℕ) → p ≡ n ^ i → p * n ≡ n ^ (i + 1)
 next-power n i p e = rw (add-one, pow-suc) (ap (λ (x : ℕ). x * n) e)
 
+pub power-one : (n : ℕ) → n ≡ n ^ 1
+power-one n = sym (one-mul n) ∙ next-power n 0 1 (sym (pow-zero n))
+
+pub power-two : (n : ℕ) → n * n ≡ n ^ 2
+power-two n = next-power n 1 n (power-one n)
+
+pub power-three : (n : ℕ) → n * n * n ≡ n ^ 3
+power-three n = next-power n 2 (n * n) (power-two n)
+
 -- ---- four places
 
 pub drop-below : (n j : ℕ) (ds : List ℕ) → Below n ds → Below n (drop j ds)
@@ -233,8 +243,8 @@ digits-more n zero j a p h = rw (zero-add, lt-one (rw pow-zero at h)) (zeros-of 
 digits-more n (suc m) j a p h =
     rw suc-add (ap (λ (x : List ℕ). a % n ∷ x) (digits-more n m j (a / n) p (rest-lt n m a p h)))
 
-pub padded-digits : (n m a : ℕ) → 0 < n → m ≤ 4 → a < n ^ m → digitsOf n 4 a ≡ padded (digitsOf n m a)
-unfolding padded
+pub padded-digits : (n m a : ℕ) → 0 < n → m ≤ 4 → a < n ^ m → digitsOf n 4 a ≡ filled 4 (digitsOf n m a)
+unfolding filled
 padded-digits n m a p q h =
     let e : 4 ≡ m + (4 - m) = omega arith in
     ap (λ (x : ℕ). digitsOf n x a) e ∙ rw (length-digits n m a) (digits-more n m (4 - m) a p h)

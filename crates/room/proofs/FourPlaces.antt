@@ -8,9 +8,9 @@ use native.Mathlib.Nat.{mul-zero, add-zero}
 use lib.ListN.{length, getD, drop}
 use lib.Dec.{eqb}
 use borrow.Author.Tests.{eq-eqb, ne-eqb}
+use Rattle.refusals.specs.Refusals.{none}
 use Rattle.room.specs.declared.Between.{Between}
 use Rattle.room.specs.Digits.{addressOf, strike, Below}
-use Rattle.room.specs.Refusals.{none}
 use Rattle.room.specs.Answers.{onlyLevel, noBetween}
 use Rattle.room.proofs.DigitLaws.{address-small}
 

@@ -1,7 +1,10 @@
 pub mod DigitLaws
+pub mod PowerLaws
 pub mod RefusalLaws
+pub mod NumberLaws
 pub mod RoomLaws
 pub mod WiringLaws
 pub mod FourPlaces
+pub mod SideLaws
 pub mod AnswerLaws
 pub mod Unique

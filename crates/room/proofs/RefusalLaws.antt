@@ -1,62 +1,22 @@
--- Laws of refusals: chains of tests, what no refusal means, and answers.
+-- Laws of refusals: which test refuses, and what no refusal means.
 use Prim.Native.Nat.{ℕ, zero, suc, _+_, _≤_, _<_, suc-le-suc}
 use mathlib.Core.Path.{_≡_, refl, sym, ap, _∙_}
-use mathlib.Core.Bool.{Bool, true, false, _&&_}
+use mathlib.Core.Bool.{true, false, not, _&&_}
 use mathlib.Core.List.{List, [], _∷_}
 use native.Mathlib.Numerals.{add-one}
 use native.Mathlib.Omega.{arith}
 use native.Mathlib.Nat.{add-zero, zero-add, add-suc, suc-add, le-of-suc-le-suc}
 use lib.ListN.{length, getD, drop, drop-of-length-le}
 use lib.Seq.{drop-cons}
-use lib.Dec.{ltb, leb}
-use borrow.Author.Tests.{lt-ltb, le-ltb, le-leb, lt-leb, ltb-true, leb-true}
+use lib.Dec.{ltb, leb, eqb}
+use borrow.Author.Tests.{lt-ltb, le-ltb, le-leb, lt-leb, ltb-true, leb-true, eqb-false, ne-eqb, not-true}
+use Rattle.lists.proofs.ListLaws.{both-held}
+use Rattle.refusals.specs.Refusals.{_or-else_, _unless_}
+use Rattle.refusals.proofs.ChainLaws.{or-else-zero, chain-goes, test-held}
 use Rattle.room.specs.declared.Shape.{Shape}
-use Rattle.room.specs.Shapes.{serversOf, bound, Valid, Server, Link, Value}
-use Rattle.room.specs.Refusals.{shapeRefusal, levelRefusal, serverRefusal, pairRefusal, linkRefusal, valueRefusal, placeBound, placesFit, placesRefusal, _or-else_, _unless_}
-use Rattle.room.specs.Answers.{answer}
-
--- ---- chains: an earlier refusal is the whole chain's; with none it is the next test's
-
-pub or-else-left : (p q : ℕ) → (p ≡ 0 → ⊥) → p or-else q ≡ p
-unfolding _or-else_
-or-else-left zero q h = absurd (h refl)
-or-else-left (suc p) q h = refl
-
-pub or-else-zero : (p q : ℕ) → p or-else q ≡ 0 → (p ≡ 0) × (q ≡ 0)
-unfolding _or-else_
-or-else-zero zero q e = (refl, e)
-or-else-zero (suc p) q e = omega arith
-
-pub chain-stops : (r p q : ℕ) → r ≡ p → (r ≡ 0 → ⊥) → r ≡ p or-else q
-chain-stops r p q e h = rw (← e) (sym (or-else-left r q h))
-
-pub chain-goes : (r p q x : ℕ) → r ≡ p → r ≡ 0 → x ≡ q → x ≡ p or-else q
-unfolding _or-else_
-chain-goes r p q x e z g = rw (← e, z) g
-
--- ---- tests
-
-pub test-held : (t : Bool) (r : ℕ) → suc r unless t ≡ 0 → t ≡ true
-test-held true r e = refl
-test-held false r e = let z : ⊥ = omega arith in absurd z
-
-pub both-held : (t u : Bool) → t && u ≡ true → (t ≡ true) × (u ≡ true)
-both-held true u e = (refl, e)
-both-held false u e = let z : _≡_ {A = ℕ} 0 1 = cc in let n : ⊥ = omega arith in absurd n
-
--- a test against what a call gave
-pub under : (a p q r : ℕ) → p ≡ q → a < p → 0 ≡ r unless ltb a q
-under a p q r e h = let k : a < q = omega arith in simp (lt-ltb a q k)
-
-pub over : (a p q r : ℕ) → p ≡ q → p ≤ a → r ≡ r unless ltb a q
-over a p q r e h = let k : q ≤ a = omega arith in simp (le-ltb a q k)
-
--- a test that a call made
-pub passed : (r : ℕ) (t u : Bool) → t ≡ u → t ≡ true → 0 ≡ r unless u
-passed r t u e h = rw (← e, h)
-
-pub failed : (r : ℕ) (t u : Bool) → t ≡ u → t ≡ false → r ≡ r unless u
-failed r t u e h = rw (← e, h)
+use Rattle.room.specs.Shapes.{serversOf, bound, serverCount, Valid, Server, Ends, Link, Value}
+use Rattle.room.specs.Refusals.{shapeRefusal, levelRefusal, serverRefusal, pairRefusal, endsRefusal, linkRefusal, valueRefusal, placeBound, placesFit, placesRefusal}
+use Rattle.room.proofs.PowerLaws.{count-servers}
 
 -- ---- shapes
 
@@ -122,6 +82,17 @@ pub pair-none : {s : Shape} {a b : ℕ} → Server s a → Server s b → 0 ≡ 
 unfolding pairRefusal
 pair-none ha hb = chain-goes _ _ _ _ (server-none ha) refl (server-none hb)
 
+pub ends-of : (s : Shape) (a d : ℕ) → endsRefusal s a d ≡ 0 → Ends s a d
+unfolding endsRefusal
+ends-of s a d e =
+    let z = or-else-zero (pairRefusal s a d) (5 unless not (eqb a d)) e in
+    let p = pair-of s a d (z .0) in
+    record { source = p .0; destination = p .1; differ = eqb-false a d (not-true _ (test-held _ 4 (z .1))) }
+
+pub ends-none : {s : Shape} {a d : ℕ} → Ends s a d → 0 ≡ endsRefusal s a d
+unfolding endsRefusal
+ends-none {s} {a} {d} h = chain-goes _ _ _ _ (pair-none (h .source) (h .destination)) refl (rw (ne-eqb a d (h .differ)))
+
 pub link-of : (s : Shape) (a l : ℕ) → linkRefusal s a l ≡ 0 → Link s a l
 unfolding linkRefusal
 link-of s a l e =
@@ -141,6 +112,36 @@ value-of s a l v e =
 pub value-none : {s : Shape} {a l v : ℕ} → Value s a l v → 0 ≡ valueRefusal s a l v
 unfolding valueRefusal
 value-none {s} {a} {l} {v} h = chain-goes _ _ _ _ (link-none (h .link)) refl (simp (lt-ltb v (bound s l) (h .value)))
+
+-- ---- as the program tests: r is what it found of the tests before, x the number of servers that it counted
+
+pub counted : (s : Shape) (r x : ℕ) → r ≡ shapeRefusal s → r ≡ 0 → x ≡ serverCount s → x ≡ serversOf s
+counted s r x e z f = f ∙ count-servers (valid-of s (sym e ∙ z))
+
+module _ (s : Shape) (a b r x : ℕ) (e : r ≡ serverRefusal s a) (z : r ≡ 0) (f : x ≡ serverCount s) where
+  second : (y : ℕ) → y ≡ 4 unless ltb b x → y ≡ pairRefusal s a b
+  unfolding pairRefusal serverRefusal
+  second y g =
+      let v = server-of s a (sym e ∙ z) .valid in
+      let h : x ≡ serversOf s = f ∙ count-servers v in
+      chain-goes r _ _ y e z (chain-goes _ _ _ y (valid-none v) refl (g ∙ ap (λ (m : ℕ). 4 unless ltb b m) h))
+
+  pub second-passed : b < x → 0 ≡ pairRefusal s a b
+  second-passed h = second 0 (rw (lt-ltb b x h))
+
+  pub second-failed : x ≤ b → 4 ≡ pairRefusal s a b
+  second-failed h = second 4 (rw (le-ltb b x h))
+
+module _ (s : Shape) (a l r : ℕ) (e : r ≡ serverRefusal s a) (z : r ≡ 0) where
+  level-tested : (y : ℕ) → y ≡ 20 unless leb l (s .k) → y ≡ linkRefusal s a l
+  unfolding linkRefusal levelRefusal
+  level-tested y g = chain-goes r _ _ y e z (chain-goes _ _ _ y (valid-none (server-of s a (sym e ∙ z) .valid)) refl g)
+
+  pub link-passed : l ≤ s .k → 0 ≡ linkRefusal s a l
+  link-passed h = level-tested 0 (rw (le-leb l (s .k) h))
+
+  pub link-failed : s .k < l → 20 ≡ linkRefusal s a l
+  link-failed h = level-tested 20 (rw (lt-leb l (s .k) h))
 
 -- ---- four places
 
@@ -185,22 +186,3 @@ pub places-none : {s : Shape} {ds : List ℕ} → Places s ds → 0 ≡ placesRe
 unfolding placesRefusal
 places-none {s} {ds} h =
     chain-goes _ _ _ _ (valid-none (h .valid)) refl (rw (fit-all s 0 ds (λ i p. rw zero-add (h .at i p))))
-
--- ---- answers: a refusal and zeros, or what was asked for
-
-module _ {X : Type 0} where
-  pub answer-refused : (r q : ℕ) (refused : ℕ → X) (x y : X) → x ≡ refused r → r ≡ q → (r ≡ 0 → ⊥) → x ≡ answer q refused y
-  answer-refused zero q refused x y e g h = absurd (h refl)
-  answer-refused (suc r) q refused x y e g h = rw (← g) e
-
-  pub answer-given : (r q : ℕ) (refused : ℕ → X) (x y : X) → r ≡ q → r ≡ 0 → x ≡ y → x ≡ answer q refused y
-  answer-given r q refused x y g z e = rw (← g, z) e
-
-  -- for a caller: where the answer's number is 0 there is no refusal, and it is what was asked for
-  pub answered : (number : X → ℕ) (refused : ℕ → X) → ((r : ℕ) → number (refused r) ≡ r) → (q : ℕ) (x y : X) → x ≡ answer q refused y → number x ≡ 0 → (q ≡ 0) × (x ≡ y)
-  answered number refused same zero x y e z = (refl, e)
-  answered number refused same (suc q) x y e z = let w : suc q ≡ 0 = sym (same (suc q)) ∙ ap number (sym e) ∙ z in let n : ⊥ = omega arith in absurd n
-
-  -- and where there is none, the answer is what was asked for
-  pub answer-none : (q : ℕ) (refused : ℕ → X) (y : X) → 0 ≡ q → answer q refused y ≡ y
-  answer-none q refused y e = rw (← e)

@@ -7,14 +7,16 @@ use mathlib.Core.List.{List, [], _∷_, _++_}
 use native.Mathlib.Numerals.{add-one}
 use native.Mathlib.Omega.{arith}
 use native.Mathlib.Decide.{decLe, decLt, ℕ-discrete}
-use native.Mathlib.Nat.{one-le-pow, pow-suc, le-refl, mul-div-cancel, le-of-suc-le-suc, add-zero, zero-add, add-suc, suc-add}
-use lib.ListN.{length, getD, set, take, drop, replicate, length-set, length-take, length-append, length-replicate, drop-of-length-le, List·getD-eq-default}
+use native.Mathlib.Nat.{one-le-pow, div-le-self, pow-suc, le-refl, mul-div-cancel, le-of-suc-le-suc, add-zero, zero-add, add-suc, suc-add}
+use lib.ListN.{length, getD, set, take, drop, replicate, length-set, length-take, drop-of-length-le, List·getD-eq-default}
 use lib.Seq.{getD-set-same, getD-set-other, set-getD, set-append-left, ext-getD, length-take-le, drop-cons, getD-take}
 use lib.Dec.{leb, lit<}
 use lib.Arith.{lt-one}
 use borrow.Author.Tests.{le-leb, lt-leb, eq-eqb, ne-eqb}
+use Rattle.lists.specs.Lists.{filled}
+use Rattle.lists.proofs.ListLaws.{pad-at, filled-at, length-filled}
 use Rattle.room.specs.declared.Shape.{Shape}
-use Rattle.room.specs.Digits.{digitsOf, addressOf, strike, padded, differFrom, Below}
+use Rattle.room.specs.Digits.{digitsOf, addressOf, strike, differFrom, Below}
 use Rattle.room.specs.Shapes.{serversOf, bound, Valid, Server, Link, Value}
 use Rattle.room.specs.Addresses.{digits, digit, withDigit, switchOf, switchesAt, differing, Written, Beside, Neighbours}
 use Rattle.room.specs.Refusals.{placeBound}
@@ -35,7 +37,6 @@ bound-two v l = v .two
 pub positive : {s : Shape} → Valid s → 0 < s .n
 positive v = omega arith
 
--- as the program computes it
 pub servers-power : (s : Shape) → s .n ^ (s .k + 1) ≡ serversOf s
 unfolding serversOf
 servers-power s = ap (λ (x : ℕ). s .n ^ x) (add-one (s .k))
@@ -193,64 +194,9 @@ switch-lt {s} {a} {l} h =
       address-lt (s .n) (strike l (digits s a)) (strike-keeps (s .n) l (digits s a) (written-below v (written-digits (h .server))) q),
     )
 
--- a list with x put in at place l, the rest moved up
-pub put-in : ℕ → ℕ → List ℕ → List ℕ
-put-in l x ds = take l ds ++ (x ∷ drop l ds)
-
-strike-put : (l x : ℕ) (ds : List ℕ) → l ≤ length ds → strike l (put-in l x ds) ≡ ds
-unfolding put-in
-strike-put zero x ds h = refl
-strike-put (suc l) x [] h = let z : ⊥ = omega arith in absurd z
-strike-put (suc l) x (d ∷ ds) h = ap (λ (y : List ℕ). d ∷ y) (strike-put l x ds (le-of-suc-le-suc h))
-
-put-long : (l x : ℕ) (ds : List ℕ) → length (put-in l x ds) ≡ suc (length ds)
-unfolding put-in
-put-long zero x ds = refl
-put-long (suc l) x [] = refl
-put-long (suc l) x (d ∷ ds) = ap suc (put-long l x ds)
-
-put-small : (n l : ℕ) (ds : List ℕ) → 0 < n → Below n ds → (i : ℕ) → i < length (put-in l 0 ds) → getD (put-in l 0 ds) i 0 < n
-unfolding put-in
-put-small n zero ds p b zero h = p
-put-small n zero ds p b (suc i) h = b .at i (le-of-suc-le-suc h)
-put-small n (suc l) [] p b zero h = p
-put-small n (suc l) [] p b (suc i) h = let z : ⊥ = omega arith in absurd z
-put-small n (suc l) (d ∷ ds) p b zero h = b .at zero (suc-le-suc zero-le)
-put-small n (suc l) (d ∷ ds) p b (suc i) h =
-    put-small n l ds p (record { at = λ j q. b .at (suc j) (suc-le-suc q) }) i (le-of-suc-le-suc h)
-
--- a server that has switch w at level l
-pub record Joins (s : Shape) (l w : ℕ) : Type 0 where
-  pub who : ℕ
-  pub server : Server s who
-  pub there : switchOf s l who ≡ w
-
--- and every number below it is that of a switch of the level
-pub switch-all : {s : Shape} {l : ℕ} → Valid s → l ≤ s .k → (w : ℕ) → w < switchesAt s l → Joins s l w
-unfolding switchOf bound
-switch-all {s} {l} v h w p = record { who = addressOf (s .n) whole; server = written-server v written; there = there }
-  where
-    low : List ℕ
-    low = digitsOf (s .n) (s .k) w
-
-    whole : List ℕ
-    whole = put-in l 0 low
-
-    fits : w < s .n ^ s .k
-    fits = omega (arith, switches-power v l)
-
-    written : Written s whole
-    written =
-        record {
-          long = put-long l 0 low ∙ ap suc (length-digits (s .n) (s .k) w);
-          small = λ i q. put-small (s .n) l low (positive v) (digits-below (s .n) (s .k) w (positive v)) i (omega (arith, put-long l 0 low, length-digits (s .n) (s .k) w));
-        }
-
-    there : addressOf (s .n) (strike l (digits s (addressOf (s .n) whole))) ≡ w
-    there =
-        ap (λ (x : List ℕ). addressOf (s .n) (strike l x)) (write-back v written)
-        ∙ ap (addressOf (s .n)) (strike-put l 0 low (omega (arith, length-digits (s .n) (s .k) w)))
-        ∙ address-digits (s .n) (s .k) w (positive v) fits
+pub switch-small : {s : Shape} {a l : ℕ} → Link s a l → switchOf s l a < 4096
+unfolding switchesAt
+switch-small {s} {a} {l} h = omega (arith, switch-lt h, div-le-self (serversOf s) (bound s l), h .server .valid .small)
 
 -- ---- neighbours
 
@@ -347,33 +293,14 @@ neighbours-exactly {s} {a} {b} ha hb l = (there, back)
 
 -- ---- four places
 
-pub digits-four : {s : Shape} {a : ℕ} → Server s a → digitsOf (s .n) 4 a ≡ padded (digits s a)
+pub digits-four : {s : Shape} {a : ℕ} → Server s a → digitsOf (s .n) 4 a ≡ filled 4 (digits s a)
 unfolding digits
 digits-four {s} {a} h =
     padded-digits (s .n) (suc (s .k)) a (positive (h .valid)) (omega (arith, h .valid .levels)) (omega (arith, h .below, servers-le (h .valid)))
 
-zeros-at : (n i : ℕ) → _≡_ {A = ℕ} (getD (replicate n 0) i 0) 0
-zeros-at zero i = refl
-zeros-at (suc n) zero = refl
-zeros-at (suc n) (suc i) = zeros-at n i
-
--- zeros past the end are not seen
-pub pad-at : (ds : List ℕ) (n i : ℕ) → getD (ds ++ replicate n 0) i 0 ≡ getD ds i 0
-pad-at [] n i = zeros-at n i
-pad-at (d ∷ ds) n zero = refl
-pad-at (d ∷ ds) n (suc i) = pad-at ds n i
-
-pub padded-at : (ds : List ℕ) (i : ℕ) → getD (padded ds) i 0 ≡ getD ds i 0
-unfolding padded
-padded-at ds i = pad-at ds (4 - length ds) i
-
-pub padded-long : (ds : List ℕ) → length ds ≤ 4 → length (padded ds) ≡ 4
-unfolding padded
-padded-long ds h = rw (length-append, length-replicate {A = ℕ} (4 - length ds) 0) (omega arith)
-
-pub place-digit : (s : Shape) (a l : ℕ) → getD (padded (digits s a)) l 0 ≡ digit s l a
+pub place-digit : (s : Shape) (a l : ℕ) → getD (filled 4 (digits s a)) l 0 ≡ digit s l a
 unfolding digit
-place-digit s a l = padded-at (digits s a) l
+place-digit s a l = filled-at 4 (digits s a) l
 
 -- every digit of a list with zeros behind it is below n
 pub below-padded : (n : ℕ) (ds : List ℕ) (m : ℕ) → 0 < n → Below n ds → Below n (ds ++ replicate m 0)
@@ -384,22 +311,22 @@ below-padded n ds m p b =
           (elim (decLt i (length ds)) [ yes y ↦ b .at i y | no y ↦ let z : length ds ≤ i = omega arith in rw (List·getD-eq-default ds 0 z) p ]);
     }
 
-pub padded-below : {s : Shape} {ds : List ℕ} → Valid s → Written s ds → Below (s .n) (padded ds)
-unfolding padded
+pub padded-below : {s : Shape} {ds : List ℕ} → Valid s → Written s ds → Below (s .n) (filled 4 ds)
+unfolding filled
 padded-below {s} {ds} v w = below-padded (s .n) ds (4 - length ds) (positive v) (written-below v w)
 
 -- setting a digit among four places
-pub with-four : {s : Shape} {a l v : ℕ} → Value s a l v → addressOf (s .n) (set (padded (digits s a)) l v) ≡ withDigit s l v a
-unfolding withDigit padded
+pub with-four : {s : Shape} {a l v : ℕ} → Value s a l v → addressOf (s .n) (set (filled 4 (digits s a)) l v) ≡ withDigit s l v a
+unfolding withDigit filled
 with-four {s} {a} {l} {v} h =
     let q : l < length (digits s a) = rw digits-long (omega arith) in
     let z = 4 - length (digits s a) in
     ap (addressOf (s .n)) (set-append-left (digits s a) (replicate z 0) l v q)
     ∙ address-padded (s .n) (set (digits s a) l v) z
 
-pub with-four-below : {s : Shape} {a l v : ℕ} → Value s a l v → Below (s .n) (set (padded (digits s a)) l v)
+pub with-four-below : {s : Shape} {a l v : ℕ} → Value s a l v → Below (s .n) (set (filled 4 (digits s a)) l v)
 with-four-below {s} {a} {l} {v} h =
-    set-keeps (s .n) l v (padded (digits s a)) (padded-below (h .link .server .valid) (written-digits (h .link .server)))
+    set-keeps (s .n) l v (filled 4 (digits s a)) (padded-below (h .link .server .valid) (written-digits (h .link .server)))
     (omega (arith, h .value, bound-le (h .link .server .valid) l))
 
 strike-padded : (l : ℕ) (ds zs : List ℕ) → l < length ds → strike l (ds ++ zs) ≡ strike l ds ++ zs
@@ -408,22 +335,22 @@ strike-padded zero (d ∷ ds) zs h = refl
 strike-padded (suc l) (d ∷ ds) zs h = ap (λ (x : List ℕ). d ∷ x) (strike-padded l ds zs (le-of-suc-le-suc h))
 
 -- striking a digit out of four places
-pub strike-four : {s : Shape} {a l : ℕ} → Link s a l → addressOf (s .n) (strike l (padded (digits s a)) ++ (0 ∷ [])) ≡ switchOf s l a
-unfolding switchOf padded
+pub strike-four : {s : Shape} {a l : ℕ} → Link s a l → addressOf (s .n) (strike l (filled 4 (digits s a)) ++ (0 ∷ [])) ≡ switchOf s l a
+unfolding switchOf filled
 strike-four {s} {a} {l} h =
     let q : l < length (digits s a) = rw digits-long (omega arith) in
     let z = 4 - length (digits s a) in
-    address-padded (s .n) (strike l (padded (digits s a))) 1
+    address-padded (s .n) (strike l (filled 4 (digits s a))) 1
     ∙ ap (addressOf (s .n)) (strike-padded l (digits s a) (replicate z 0) q)
     ∙ address-padded (s .n) (strike l (digits s a)) z
 
-pub strike-four-below : {s : Shape} {a l : ℕ} → Link s a l → Below (s .n) (strike l (padded (digits s a)) ++ (0 ∷ []))
+pub strike-four-below : {s : Shape} {a l : ℕ} → Link s a l → Below (s .n) (strike l (filled 4 (digits s a)) ++ (0 ∷ []))
 strike-four-below {s} {a} {l} h =
     let v = h .server .valid in
     let w = written-digits (h .server) in
     let q : length (digits s a) ≤ 4 = rw digits-long (omega arith) in
-    below-padded (s .n) (strike l (padded (digits s a))) 1 (positive v)
-    (strike-keeps (s .n) l (padded (digits s a)) (padded-below v w) (rw (padded-long (digits s a) q) (omega arith)))
+    below-padded (s .n) (strike l (filled 4 (digits s a))) 1 (positive v)
+    (strike-keeps (s .n) l (filled 4 (digits s a)) (padded-below v w) (rw (length-filled 4 (digits s a) q) (omega arith)))
 
 differ-padded : (o : ℕ) (ds es zs : List ℕ) → length ds ≡ length es → differFrom o (ds ++ zs) (es ++ zs) ≡ differFrom o ds es
 unfolding differFrom
@@ -433,8 +360,8 @@ differ-padded o (d ∷ ds) [] zs h = let z : ⊥ = omega arith in absurd z
 differ-padded o (d ∷ ds) (e ∷ es) zs h =
     let r : length ds ≡ length es = omega arith in rw (differ-padded (suc o) ds es zs r)
 
-pub differ-four : (s : Shape) (a b : ℕ) → differFrom 0 (padded (digits s a)) (padded (digits s b)) ≡ differing s a b
-unfolding differing padded
+pub differ-four : (s : Shape) (a b : ℕ) → differFrom 0 (filled 4 (digits s a)) (filled 4 (digits s b)) ≡ differing s a b
+unfolding differing filled
 differ-four s a b =
     rw (digits-long s a, digits-long s b)
     (differ-padded 0 (digits s a) (digits s b) (replicate (4 - suc (s .k)) 0) (digits-long s a ∙ sym (digits-long s b)))
@@ -452,11 +379,11 @@ places-below {s} {ds} p = record { at = at }
           | no y ↦ let b : getD ds i 0 < 1 = rw (lt-leb i (s .k) (omega arith)) at (p .at i h) in omega (arith, positive (p .valid))
         ]
 
-pub places-digits : {s : Shape} {a : ℕ} → Server s a → Places s (padded (digits s a))
+pub places-digits : {s : Shape} {a : ℕ} → Server s a → Places s (filled 4 (digits s a))
 unfolding placeBound
 places-digits {s} {a} h = record { valid = h .valid; at = at }
   where
-    at : (i : ℕ) → i < length (padded (digits s a)) → getD (padded (digits s a)) i 0 < cond (leb i (s .k)) (bound s i) 1
+    at : (i : ℕ) → i < length (filled 4 (digits s a)) → getD (filled 4 (digits s a)) i 0 < cond (leb i (s .k)) (bound s i) 1
     at i p =
         elim (decLe i (s .k)) [
           | yes y ↦ rw (le-leb i (s .k) y, place-digit s a i) (digit-lt h i y)
@@ -473,26 +400,26 @@ places-written {s} {ds} h l =
           (rw (le-leb i (s .k) p) at (h .at i (omega (arith, h .valid .levels))));
     }
 
-pub places-padded : {s : Shape} {ds : List ℕ} → Places s ds → length ds ≡ 4 → padded (take (suc (s .k)) ds) ≡ ds
+pub places-padded : {s : Shape} {ds : List ℕ} → Places s ds → length ds ≡ 4 → filled 4 (take (suc (s .k)) ds) ≡ ds
 unfolding placeBound
-places-padded {s} {ds} h l = ext-getD 0 (padded T) ds (padded-long T (omega (arith, length-take (suc (s .k)) ds, h .valid .levels)) ∙ sym l) at
+places-padded {s} {ds} h l = ext-getD 0 (filled 4 T) ds (length-filled 4 T (omega (arith, length-take (suc (s .k)) ds, h .valid .levels)) ∙ sym l) at
   where
     T : List ℕ
     T = take (suc (s .k)) ds
 
-    at : (i : ℕ) → i < length (padded T) → getD (padded T) i 0 ≡ getD ds i 0
+    at : (i : ℕ) → i < length (filled 4 T) → getD (filled 4 T) i 0 ≡ getD ds i 0
     at i p =
-        padded-at T i
+        filled-at 4 T i
         ∙ (elim (decLt i (suc (s .k))) as (λ x. getD T i 0 ≡ getD ds i 0) [
           | yes y ↦ getD-take (suc (s .k)) ds i 0 y
           | no y ↦ let z : length T ≤ i = omega (arith, length-take (suc (s .k)) ds) in
-              let q : i < length ds = omega (arith, padded-long T (omega (arith, length-take (suc (s .k)) ds, h .valid .levels))) in
+              let q : i < length ds = omega (arith, length-filled 4 T (omega (arith, length-take (suc (s .k)) ds, h .valid .levels))) in
               let b : getD ds i 0 < 1 = rw (lt-leb i (s .k) (omega arith)) at (h .at i q) in
               List·getD-eq-default T 0 z ∙ sym (lt-one b)
         ])
 
 pub places-address : {s : Shape} {ds : List ℕ} → Places s ds → length ds ≡ 4 → addressOf (s .n) ds ≡ addressOf (s .n) (take (suc (s .k)) ds)
-unfolding padded
+unfolding filled
 places-address {s} {ds} h l =
     ap (addressOf (s .n)) (sym (places-padded h l))
     ∙ address-padded (s .n) (take (suc (s .k)) ds) (4 - length (take (suc (s .k)) ds))

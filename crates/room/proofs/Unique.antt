@@ -1,24 +1,28 @@
 -- Each public function's contract determines its answer: whatever meets it on some arguments is the one answer to them.
 use mathlib.Core.Path.{_∙_, sym}
-use Rattle.room.specs.Determined.{Determined}
-use Rattle.room.proofs.Shape.new.Reads as new
-use Rattle.room.proofs.Shape.new.Kinds as new-kinds
-use Rattle.room.proofs.Refusal.none.Reads as none
-use Rattle.room.proofs.Refusal.none.Kinds as none-kinds
-use Rattle.room.proofs.Refusal.plain.Reads as plain
-use Rattle.room.proofs.Refusal.plain.Kinds as plain-kinds
-use Rattle.room.proofs.Refusal.at.Reads as at
-use Rattle.room.proofs.Refusal.at.Kinds as at-kinds
-use Rattle.room.proofs.refusals.shape_refusal.Reads as shape-refusal
-use Rattle.room.proofs.refusals.shape_refusal.Kinds as shape-refusal-kinds
-use Rattle.room.proofs.refusals.server_refusal.Reads as server-refusal
-use Rattle.room.proofs.refusals.server_refusal.Kinds as server-refusal-kinds
-use Rattle.room.proofs.refusals.link_refusal.Reads as link-refusal
-use Rattle.room.proofs.refusals.link_refusal.Kinds as link-refusal-kinds
-use Rattle.room.proofs.shapes.servers_of.Reads as servers-of
-use Rattle.room.proofs.shapes.servers_of.Kinds as servers-of-kinds
-use Rattle.room.proofs.shapes.bound_of.Reads as bound-of
-use Rattle.room.proofs.shapes.bound_of.Kinds as bound-of-kinds
+use Rattle.refusals.specs.Determined.{Determined}
+use Rattle.room.proofs.Shape.full.Reads as full
+use Rattle.room.proofs.Shape.full.Kinds as full-kinds
+use Rattle.room.proofs.tests.shape_refusal.Reads as shape-refusal
+use Rattle.room.proofs.tests.shape_refusal.Kinds as shape-refusal-kinds
+use Rattle.room.proofs.tests.server_refusal.Reads as server-refusal
+use Rattle.room.proofs.tests.server_refusal.Kinds as server-refusal-kinds
+use Rattle.room.proofs.tests.pair_refusal.Reads as pair-refusal
+use Rattle.room.proofs.tests.pair_refusal.Kinds as pair-refusal-kinds
+use Rattle.room.proofs.tests.ends_refusal.Reads as ends-refusal
+use Rattle.room.proofs.tests.ends_refusal.Kinds as ends-refusal-kinds
+use Rattle.room.proofs.tests.link_refusal.Reads as link-refusal
+use Rattle.room.proofs.tests.link_refusal.Kinds as link-refusal-kinds
+use Rattle.room.proofs.shapes.power.Reads as power
+use Rattle.room.proofs.shapes.power.Kinds as power-kinds
+use Rattle.room.proofs.shapes.server_count.Reads as server-count
+use Rattle.room.proofs.shapes.server_count.Kinds as server-count-kinds
+use Rattle.room.proofs.shapes.digit_bound.Reads as digit-bound
+use Rattle.room.proofs.shapes.digit_bound.Kinds as digit-bound-kinds
+use Rattle.room.proofs.measures.servers_of.Reads as servers-of
+use Rattle.room.proofs.measures.servers_of.Kinds as servers-of-kinds
+use Rattle.room.proofs.measures.bound_of.Reads as bound-of
+use Rattle.room.proofs.measures.bound_of.Kinds as bound-of-kinds
 use Rattle.room.proofs.addresses.digits_of.Reads as digits-of
 use Rattle.room.proofs.addresses.digits_of.Kinds as digits-of-kinds
 use Rattle.room.proofs.addresses.digit_of.Reads as digit-of
@@ -31,22 +35,15 @@ use Rattle.room.proofs.wiring.server_at.Reads as server-at
 use Rattle.room.proofs.wiring.server_at.Kinds as server-at-kinds
 use Rattle.room.proofs.switches.switch_of.Reads as switch-of
 use Rattle.room.proofs.switches.switch_of.Kinds as switch-of-kinds
+use Rattle.room.proofs.sides.side_of.Reads as side-of
+use Rattle.room.proofs.sides.side_of.Kinds as side-of-kinds
 use Rattle.room.proofs.neighbours.neighbour_of.Reads as neighbour-of
 use Rattle.room.proofs.neighbours.neighbour_of.Kinds as neighbour-of-kinds
 use Rattle.room.proofs.neighbours.level_between.Reads as level-between
 use Rattle.room.proofs.neighbours.level_between.Kinds as level-between-kinds
 
-pub new-unique : Determined 0 new-kinds.ps new-kinds.r new.Post
-new-unique κs a x y s t e f = e ∙ sym f
-
-pub none-unique : Determined 0 none-kinds.ps none-kinds.r none.Post
-none-unique κs a x y s t e f = e ∙ sym f
-
-pub plain-unique : Determined 0 plain-kinds.ps plain-kinds.r plain.Post
-plain-unique κs a x y s t e f = e ∙ sym f
-
-pub at-unique : Determined 0 at-kinds.ps at-kinds.r at.Post
-at-unique κs a x y s t e f = e ∙ sym f
+pub full-unique : Determined 0 full-kinds.ps full-kinds.r full.Post
+full-unique κs a x y s t e f = e ∙ sym f
 
 pub shape-refusal-unique : Determined 0 shape-refusal-kinds.ps shape-refusal-kinds.r shape-refusal.Post
 shape-refusal-unique κs a x y s t e f = e ∙ sym f
@@ -54,8 +51,23 @@ shape-refusal-unique κs a x y s t e f = e ∙ sym f
 pub server-refusal-unique : Determined 0 server-refusal-kinds.ps server-refusal-kinds.r server-refusal.Post
 server-refusal-unique κs a x y s t e f = e ∙ sym f
 
+pub pair-refusal-unique : Determined 0 pair-refusal-kinds.ps pair-refusal-kinds.r pair-refusal.Post
+pair-refusal-unique κs a x y s t e f = e ∙ sym f
+
+pub ends-refusal-unique : Determined 0 ends-refusal-kinds.ps ends-refusal-kinds.r ends-refusal.Post
+ends-refusal-unique κs a x y s t e f = e ∙ sym f
+
 pub link-refusal-unique : Determined 0 link-refusal-kinds.ps link-refusal-kinds.r link-refusal.Post
 link-refusal-unique κs a x y s t e f = e ∙ sym f
+
+pub power-unique : Determined 0 power-kinds.ps power-kinds.r power.Post
+power-unique κs a x y s t e f = e ∙ sym f
+
+pub server-count-unique : Determined 0 server-count-kinds.ps server-count-kinds.r server-count.Post
+server-count-unique κs a x y s t e f = e ∙ sym f
+
+pub digit-bound-unique : Determined 0 digit-bound-kinds.ps digit-bound-kinds.r digit-bound.Post
+digit-bound-unique κs a x y s t e f = e ∙ sym f
 
 pub servers-of-unique : Determined 0 servers-of-kinds.ps servers-of-kinds.r servers-of.Post
 servers-of-unique κs a x y s t e f = e ∙ sym f
@@ -74,6 +86,9 @@ address-of-unique κs a x y s t e f = e ∙ sym f
 
 pub switch-of-unique : Determined 0 switch-of-kinds.ps switch-of-kinds.r switch-of.Post
 switch-of-unique κs a x y s t e f = e ∙ sym f
+
+pub side-of-unique : Determined 0 side-of-kinds.ps side-of-kinds.r side-of.Post
+side-of-unique κs a x y s t e f = e ∙ sym f
 
 pub neighbour-of-unique : Determined 0 neighbour-of-kinds.ps neighbour-of-kinds.r neighbour-of.Post
 neighbour-of-unique κs a x y s t e f = e ∙ sym f

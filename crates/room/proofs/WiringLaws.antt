@@ -2,22 +2,26 @@
 use Prim.Native.Nat.{ℕ, zero, suc, _+_, _*_, _/_, _%_, _^_, _≤_, _<_, suc-le-suc, zero-le}
 use mathlib.Core.Path.{_≡_, refl, sym, ap, ap₂, _∙_}
 use mathlib.Core.Bool.{Bool, true, false, _&&_}
-use mathlib.Core.List.{List, [], _∷_, _++_}
+use mathlib.Core.List.{List, [], _∷_}
 use native.Mathlib.Omega.{arith}
-use native.Mathlib.Nat.{le-of-suc-le-suc, one-le-pow, mul-le-mul-left, one-mul, mul-comm}
+use native.Mathlib.Nat.{le-of-suc-le-suc, one-le-pow, mul-le-mul-left, mul-comm}
 use lib.ListN.{length, getD, take, drop}
 use lib.Seq.{length-take-le}
 use lib.Dec.{ltb}
 use borrow.Author.Tests.{ltb-true, lt-ltb, le-ltb}
+use Rattle.lists.proofs.ListLaws.{both-held}
+use Rattle.refusals.specs.Refusals.{_unless_}
+use Rattle.refusals.proofs.ChainLaws.{or-else-zero, chain-goes, test-held}
 use Rattle.room.specs.declared.Shape.{Shape}
 use Rattle.room.specs.Digits.{digitsOf, addressOf, strike, Below}
-use Rattle.room.specs.Shapes.{serversOf, bound, Valid, Server, Link}
+use Rattle.room.specs.Shapes.{bound, powerOf, serverCount, Valid, Server, Link}
 use Rattle.room.specs.Addresses.{digits, digit, switchOf, switchesAt, Written}
-use Rattle.room.specs.Refusals.{levelRefusal, _or-else_, _unless_}
+use Rattle.room.specs.Refusals.{shapeRefusal, levelRefusal}
 use Rattle.room.specs.Wiring.{putIn, serverAt, Port, portRefusal}
 use Rattle.room.proofs.DigitLaws.{length-digits, digits-below, address-digits, digits-address, address-append, address-take, address-drop, length-strike, strike-keeps}
-use Rattle.room.proofs.RefusalLaws.{or-else-zero, chain-stops, chain-goes, test-held, both-held, level-of, level-none}
-use Rattle.room.proofs.RoomLaws.{positive, bound-le, digits-long, digit-lt, written-digits, written-below, read-back, write-back, written-server, switches-power, switch-lt}
+use Rattle.room.proofs.PowerLaws.{power-within, count-servers}
+use Rattle.room.proofs.RefusalLaws.{valid-of, level-of, level-none}
+use Rattle.room.proofs.RoomLaws.{positive, bound-two, digits-long, digit-lt, written-digits, written-below, read-back, write-back, written-server, switches-power, switch-lt}
 
 -- ---- a list with a place put in
 
@@ -130,6 +134,22 @@ module _ {s : Shape} {l w v : ℕ} (h : Port s l w v) where
       (ap₂ (λ (x y : ℕ). s .n ^ x * (v + s .n * y)) t (address-drop (s .n) (s .k) l w q fits (h .level))
       ∙ ap (λ (x : ℕ). x * (v + s .n * (w / x))) (sym e)))
 
+  -- the power that the program found
+  pub port-power : (p : ℕ) → p ≡ powerOf (s .n) l → p ≡ s .n ^ l
+  port-power p e = let v = h .valid in e ∙ power-within (s .n) l (omega arith) (v .ports) (omega (arith, h .level, v .levels))
+
+-- a server that has switch w at level l
+pub record Joins (s : Shape) (l w : ℕ) : Type 0 where
+  pub who : ℕ
+  pub server : Server s who
+  pub there : switchOf s l who ≡ w
+
+-- every number below that of the switches of a level is that of one: the server at its port 0 has it
+pub switch-all : {s : Shape} {l : ℕ} → Valid s → l ≤ s .k → (w : ℕ) → w < switchesAt s l → Joins s l w
+switch-all {s} {l} v h w p =
+    let q : Port s l w 0 = record { valid = v; level = h; switch = p; port = omega (arith, bound-two v l) } in
+    record { who = serverAt s l w 0; server = port-server q; there = port-switch q }
+
 -- a server is at the port of its digit of its switch
 pub port-back : {s : Shape} {a l : ℕ} → Link s a l → Port s l (switchOf s l a) (digit s l a) × (serverAt s l (switchOf s l a) (digit s l a) ≡ a)
 unfolding serverAt switchOf digit
@@ -166,3 +186,13 @@ port-sums {s} {l} {w} {v} h p e =
       weighed = omega (arith, a .below, a .valid .small);
       whole = omega (arith, a .below, a .valid .small);
     }
+
+-- ---- how many switches a level has: x servers, y at each
+
+module _ (s : Shape) (l x y : ℕ) (z : shapeRefusal s ≡ 0) (f : y ≡ bound s l) where
+  pub switches-some : 0 < y
+  switches-some = omega (arith, bound-two (valid-of s z) l)
+
+  pub switches-made : x ≡ serverCount s → x / y ≡ switchesAt s l
+  unfolding switchesAt
+  switches-made e = ap₂ (λ (u v : ℕ). u / v) (e ∙ count-servers (valid-of s z)) f

@@ -1,22 +1,19 @@
 -- What each call of the room answers. On a refusal all but the refusal is zero.
-use Prim.Native.Nat.{ℕ, zero, suc}
+use Prim.Native.Nat.{ℕ}
 use mathlib.Core.List.{List, [], _∷_}
 use mathlib.Core.Bool.{true, false}
 use lib.ListN.{replicate}
+use Rattle.lists.specs.Lists.{filled}
+use Rattle.refusals.specs.Refusals.{none, plain, answer}
 use Rattle.room.specs.declared.Shape.{Shape}
 use Rattle.room.specs.declared.Number.{Number}
 use Rattle.room.specs.declared.Digits.{Digits}
 use Rattle.room.specs.declared.Switch.{Switch}
 use Rattle.room.specs.declared.Between.{Between}
-use Rattle.room.specs.Digits.{addressOf, padded}
+use Rattle.room.specs.Digits.{addressOf}
 use Rattle.room.specs.Shapes.{serversOf, bound}
 use Rattle.room.specs.Addresses.{digits, digit, withDigit, switchOf, differing}
-use Rattle.room.specs.Refusals.{none, plain, shapeRefusal, levelRefusal, serverRefusal, pairRefusal, linkRefusal, valueRefusal, placesRefusal}
-
--- the answer x where the refusal number is 0, else what `refused` makes of the number
-abbrev pub answer : {X : Type 0} → ℕ → (ℕ → X) → X → X
-answer zero refused x = x
-answer (suc r) refused x = refused (suc r)
+use Rattle.room.specs.Refusals.{shapeRefusal, levelRefusal, serverRefusal, pairRefusal, linkRefusal, valueRefusal, placesRefusal}
 
 abbrev pub noNumber : ℕ → Number
 noNumber r = record { refusal = plain r; value = 0 }
@@ -52,7 +49,7 @@ unfoldable pub boundAnswer : Shape → ℕ → Number
 boundAnswer s l = answer (levelRefusal s l) noNumber (aNumber (bound s l))
 
 unfoldable pub digitsAnswer : Shape → ℕ → Digits
-digitsAnswer s a = answer (serverRefusal s a) noDigits (someDigits (padded (digits s a)))
+digitsAnswer s a = answer (serverRefusal s a) noDigits (someDigits (filled 4 (digits s a)))
 
 unfoldable pub digitAnswer : Shape → ℕ → ℕ → Number
 digitAnswer s a l = answer (linkRefusal s a l) noNumber (aNumber (digit s l a))

@@ -1,9 +1,9 @@
 -- Numbers written to a base, least digit first.
-use Prim.Native.Nat.{ℕ, zero, suc, _+_, _-_, _*_, _/_, _%_, _<_}
+use Prim.Native.Nat.{ℕ, zero, suc, _+_, _*_, _/_, _%_, _<_}
 use mathlib.Core.List.{List, [], _∷_, _++_}
 use mathlib.Core.Bool.{cond}
 use lib.Dec.{eqb}
-use lib.ListN.{length, getD, take, drop, replicate}
+use lib.ListN.{length, getD, take, drop}
 
 -- the m lowest digits of a to the base n
 unfoldable pub digitsOf : ℕ → ℕ → ℕ → List ℕ
@@ -18,10 +18,6 @@ addressOf n (d ∷ ds) = d + n * addressOf n ds
 -- a list with place l struck out and the rest closed up
 abbrev pub strike : ℕ → List ℕ → List ℕ
 strike l ds = take l ds ++ drop (suc l) ds
-
--- a list in four places, with zeros past its end
-unfoldable pub padded : List ℕ → List ℕ
-padded ds = ds ++ replicate (4 - length ds) 0
 
 -- the places, the first counted as l, in which two lists differ
 unfoldable pub differFrom : ℕ → List ℕ → List ℕ → List ℕ

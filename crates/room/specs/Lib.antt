@@ -4,4 +4,4 @@ pub mod Addresses
 pub mod Refusals
 pub mod Answers
 pub mod Wiring
-pub mod Determined
+pub mod Sides

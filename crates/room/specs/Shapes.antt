@@ -1,9 +1,13 @@
 -- Shapes: how many servers a room has, what a digit is below, and which servers, links and values a room has.
-use Prim.Native.Nat.{ℕ, suc, _^_, _≤_, _<_}
+use Prim.Native.Nat.{ℕ, suc, _*_, _^_, _≤_, _<_}
+use mathlib.Core.Logic.{_≢_}
+use mathlib.Core.Bool.{cond, _&&_}
+use lib.Dec.{leb}
 use Rattle.room.specs.declared.Shape.{Shape}
 
-abbrev pub shapeOf : ℕ → ℕ → Shape
-shapeOf n k = record { n = n; k = k }
+-- the full room of n ports a switch and levels 0 to k
+abbrev pub fullRoom : ℕ → ℕ → Shape
+fullRoom n k = record { n = n; k = k }
 
 -- N, the number of servers
 unfoldable pub serversOf : Shape → ℕ
@@ -12,6 +16,14 @@ serversOf s = s .n ^ suc (s .k)
 -- digit l of an address is below this
 unfoldable pub bound : Shape → ℕ → ℕ
 bound s l = s .n
+
+-- n to the power of a level where n is among 1 to 64 and the level at most 3, else 0: what a program computes with no test of a shape
+unfoldable pub powerOf : ℕ → ℕ → ℕ
+powerOf n l = cond (leb 1 n && (leb n 64 && leb l 3)) (n ^ l) 0
+
+-- N, where the power is there
+unfoldable pub serverCount : Shape → ℕ
+serverCount s = s .n * powerOf (s .n) (s .k)
 
 -- the shapes that a room can have
 pub record Valid (s : Shape) : Type 0 where
@@ -24,6 +36,12 @@ pub record Valid (s : Shape) : Type 0 where
 pub record Server (s : Shape) (a : ℕ) : Type 0 where
   pub valid : Valid s
   pub below : a < serversOf s
+
+-- a and d are two servers of the room
+pub record Ends (s : Shape) (a d : ℕ) : Type 0 where
+  pub source : Server s a
+  pub destination : Server s d
+  pub differ : a ≢ d
 
 -- server a has a link at level l
 pub record Link (s : Shape) (a l : ℕ) : Type 0 where

@@ -1,25 +1,26 @@
 // The digits of an address, and the address of digits.
 ghost use mathlib.Core.Path.{_≡_};
 ghost use Prim.Native.Nat.{_≤_};
-ghost use Rattle.room.specs.Digits.{addressOf, padded, Below};
-ghost use Rattle.room.specs.Addresses.{digits, digit};
+ghost use Rattle.lists.specs.Lists.{filled};
+ghost use Rattle.room.specs.Digits.{addressOf, Below};
+ghost use Rattle.room.specs.Addresses.{digits};
 ghost use Rattle.room.specs.Refusals.{serverRefusal};
 ghost use Rattle.room.specs.Answers.{digitsAnswer, digitAnswer, addressAnswer};
 use crate::Digits;
 use crate::Number;
-use crate::Refusal;
 use crate::Shape;
 use crate::answers::a_number;
 use crate::answers::no_digits;
 use crate::answers::no_number;
-use crate::refusals::link_refusal;
-use crate::refusals::places_refusal;
-use crate::refusals::server_refusal;
+use crate::tests::link_refusal;
+use crate::tests::places_refusal;
+use crate::tests::server_refusal;
+use refusals::Refusal;
 
 // The four places of an address; those above k are zero, since the address is below N.
 pub(crate) fn digit_places(shape: Shape, server: usize) -> [usize; 4]
     requires { ⌜ serverRefusal shape server ≡ 0 ⌝ }
-    ensures { λ r. ⌜ r ≡ padded (digits shape server) ⌝ }
+    ensures { λ r. ⌜ r ≡ filled 4 (digits shape server) ⌝ }
 {
     let n = shape.n;
     let once = server / n;

@@ -4,8 +4,8 @@ ghost use Rattle.room.specs.Answers.{noNumber, noDigits, noSwitch, noBet
 use crate::Between;
 use crate::Digits;
 use crate::Number;
-use crate::Refusal;
 use crate::Switch;
+use refusals::Refusal;
 
 pub(crate) fn no_number(refusal: usize) -> Number
     ensures { λ r. ⌜ r ≡ noNumber refusal ⌝ }

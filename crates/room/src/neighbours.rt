@@ -6,15 +6,15 @@ ghost use Rattle.room.specs.Refusals.{valueRefusal};
 ghost use Rattle.room.specs.Answers.{neighbourAnswer, betweenAnswer, onlyLevel};
 use crate::Between;
 use crate::Number;
-use crate::Refusal;
 use crate::Shape;
 use crate::addresses::digit_places;
 use crate::addresses::number_of;
 use crate::answers::a_number;
 use crate::answers::no_between;
 use crate::answers::no_number;
-use crate::refusals::pair_refusal;
-use crate::refusals::value_refusal;
+use crate::tests::pair_refusal;
+use crate::tests::value_refusal;
+use refusals::Refusal;
 
 // The server with one digit set to a value, the others as they are.
 fn with_digit(shape: Shape, server: usize, level: usize, value: usize) -> usize

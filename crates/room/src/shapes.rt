@@ -1,63 +1,47 @@
-// How many servers a room has, and what a digit is below.
+// What a shape comes to, with no test of it: powers of n, the number of servers, what a digit is below.
 ghost use mathlib.Core.Path.{_≡_};
-ghost use Prim.Native.Nat.{_^_, _≤_};
-ghost use Rattle.room.specs.Shapes.{serversOf, bound};
-ghost use Rattle.room.specs.Refusals.{shapeRefusal};
-ghost use Rattle.room.specs.Answers.{serversAnswer, boundAnswer};
-use crate::Number;
+ghost use mathlib.Core.Bool.{cond};
+ghost use Rattle.room.specs.Shapes.{bound, powerOf, serverCount};
 use crate::Shape;
-use crate::answers::a_number;
-use crate::answers::no_number;
-use crate::refusals::level_refusal;
-use crate::refusals::shape_refusal;
 
-// n to the power l.
-pub(crate) fn power(n: usize, l: usize) -> usize
-    requires { ⌜ (n ≤ 64) × (l ≤ 4) ⌝ }
-    ensures { λ r. ⌜ r ≡ n ^ l ⌝ }
+// A factor where it is wanted, else 1.
+fn factor(x: usize, wanted: bool) -> usize
+    ensures { λ r. ⌜ r ≡ cond wanted x 1 ⌝ }
 {
-    let mut p: usize = 1;
-    let mut i: usize = 0;
-    while i < l {
-        p = p * n;
-        i += 1;
+    if wanted {
+        return x;
     }
-    p
+    1
 }
 
-pub(crate) fn server_count(shape: Shape) -> usize
-    requires { ⌜ shapeRefusal shape ≡ 0 ⌝ }
-    ensures { λ r. ⌜ r ≡ serversOf shape ⌝ }
+// n to the power of a level, where n is among 1 to 64 and the level is at most 3; else 0. It has no
+// loop and no choice of a way, so that the compiler sees where it has the same power already.
+pub fn power(n: usize, level: usize) -> usize
+    ensures { λ r. ⌜ r ≡ powerOf n level ⌝ }
 {
-    power(shape.n, shape.k + 1)
+    if n < 1 {
+        return 0;
+    }
+    if Shape::MOST_PORTS < n {
+        return 0;
+    }
+    if Shape::MOST_LEVEL < level {
+        return 0;
+    }
+    factor(n, level % 2 == 1) * factor(n * n, 2 <= level)
+}
+
+// The number of servers, where n is among 1 to 64 and k is at most 3; else 0.
+pub fn server_count(shape: Shape) -> usize
+    ensures { λ r. ⌜ r ≡ serverCount shape ⌝ }
+{
+    shape.n * power(shape.n, shape.k)
 }
 
 // The digit of a level is below this.
-pub(crate) fn digit_bound(shape: Shape, level: usize) -> usize
+pub fn digit_bound(shape: Shape, level: usize) -> usize
     ensures { λ r. ⌜ r ≡ bound shape level ⌝ }
 {
     let _level = level;
     shape.n
-}
-
-// N, the number of servers. Refusals 1, 2, 3.
-pub fn servers_of(shape: Shape) -> Number
-    ensures { λ r. ⌜ r ≡ serversAnswer shape ⌝ }
-{
-    let refusal = shape_refusal(shape);
-    if refusal != 0 {
-        return no_number(refusal);
-    }
-    a_number(server_count(shape))
-}
-
-// The bound of the digit of a level: the digit runs below it. Refusals 1, 2, 3, 20.
-pub fn bound_of(shape: Shape, level: usize) -> Number
-    ensures { λ r. ⌜ r ≡ boundAnswer shape level ⌝ }
-{
-    let refusal = level_refusal(shape, level);
-    if refusal != 0 {
-        return no_number(refusal);
-    }
-    a_number(digit_bound(shape, level))
 }

@@ -6,13 +6,13 @@ ghost use Rattle.room.specs.Digits.{strike};
 ghost use Rattle.room.specs.Addresses.{switchOf};
 ghost use Rattle.room.specs.Refusals.{linkRefusal};
 ghost use Rattle.room.specs.Answers.{switchAnswer};
-use crate::Refusal;
 use crate::Shape;
 use crate::Switch;
 use crate::addresses::digit_places;
 use crate::addresses::number_of;
 use crate::answers::no_switch;
-use crate::refusals::link_refusal;
+use crate::tests::link_refusal;
+use refusals::Refusal;
 
 // Four places with one struck out and those above it moved down; the last is then 0.
 fn struck(places: [usize; 4], level: usize) -> [usize; 4]

@@ -4,14 +4,14 @@ ghost use Rattle.room.specs.Addresses.{switchesAt};
 ghost use Rattle.room.specs.Refusals.{shapeRefusal};
 ghost use Rattle.room.specs.Wiring.{serverAt, portRefusal, switchesAnswer, serverAtAnswer};
 use crate::Number;
-use crate::Refusal;
 use crate::Shape;
 use crate::answers::a_number;
 use crate::answers::no_number;
-use crate::refusals::level_refusal;
 use crate::shapes::digit_bound;
 use crate::shapes::power;
 use crate::shapes::server_count;
+use crate::tests::level_refusal;
+use refusals::Refusal;
 
 // How many switches a level has.
 fn switch_count(shape: Shape, level: usize) -> usize

@@ -5,9 +5,10 @@ use mathlib.Core.Logic.{_⊎_, ⊎-elim, ⊎-map}
 use mathlib.Core.List.{List, [], map, List·Memᴰ as In, List·Memᴰ·head, List·Memᴰ·tail, List·Memᴰ·not-nil, List·Memᴰ·append-cases, Memᴰ·append-left, Memᴰ·append-right}
 use native.Mathlib.Omega.{arith}
 use native.Mathlib.Decide.{ℕ-discrete}
+use Rattle.lists.specs.Lists.{downFrom}
 use Rattle.room.specs.declared.Shape.{Shape}
 use Rattle.path.specs.Routes.{Parallel}
-use Rattle.build.specs.Built.{downFrom, builtRoute}
+use Rattle.build.specs.Built.{builtRoute}
 use Rattle.laying.specs.Laid.{Laid}
 use Rattle.laying.specs.Avoids.{Avoids}
 use Rattle.laying.proofs.LaidLaws.{laid-both}

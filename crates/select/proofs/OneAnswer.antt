@@ -5,9 +5,10 @@ use mathlib.Core.Logic.{⊎-elim}
 use mathlib.Core.List.{List, [], _∷_, _++_}
 use native.Mathlib.Decide.{ℕ-discrete}
 use Rattle.room.specs.declared.Shape.{Shape}
+use Rattle.links.specs.Table.{roomRefusal}
 use Rattle.finder.proofs.OneAlternate.{route-order}
 use Rattle.select.specs.declared.Selection.{Selection}
-use Rattle.select.specs.Selection.{Replaces, Slot, kept, replaced, nothing, SlotBySlot, selectRefusal, selection, Selecting}
+use Rattle.select.specs.Selection.{Replaces, Slot, kept, replaced, nothing, SlotBySlot, selection, Selecting}
 
 -- ---- one alternate
 
@@ -40,7 +41,7 @@ slots-unique s t a d (suc i) settled us vs c e =
 
 pub selecting-unique : {s : Shape} {t : List ℕ} {a d : ℕ} {q r : Selection} → Selecting s t a d q → Selecting s t a d r → q ≡ r
 selecting-unique {s} {t} {a} {d} {q} {r} h k =
-    elim (ℕ-discrete (selectRefusal s t a d) 0) [
+    elim (ℕ-discrete (roomRefusal s t a d) 0) [
       | yes e ↦ let x = h .given e in
           let y = k .given e in
           x .answer ∙ ap (selection s) (slots-unique s t a d (suc (s .k)) [] (x .routes) (y .routes) (x .slots) (y .slots)) ∙ sym (y .answer)

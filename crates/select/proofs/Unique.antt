@@ -1,5 +1,5 @@
 -- The contract of selection determines its answer: whatever meets it on some arguments is the one answer to them.
-use Rattle.room.specs.Determined.{Determined}
+use Rattle.refusals.specs.Determined.{Determined}
 use Rattle.select.proofs.OneAnswer.{selecting-unique}
 use Rattle.select.proofs.selecting.select_routes.Reads as select-routes
 use Rattle.select.proofs.selecting.select_routes.Kinds as select-routes-kinds

@@ -4,13 +4,14 @@ use mathlib.Core.Path.{_≡_}
 use mathlib.Core.List.{List, [], map, List·Memᴰ as In}
 use lib.ListN.{length, getD}
 use Rattle.room.specs.declared.Shape.{Shape}
+use Rattle.links.specs.Table.{roomRefusal}
 use Rattle.path.specs.Routes.{encode, RouteTo, Parallel}
 use Rattle.build.specs.declared.RouteSet.{RouteSet}
 use Rattle.build.specs.Built.{builtRoute}
 use Rattle.build.specs.Sets.{setOf}
-use Rattle.finder.specs.declared.Found.{Found}
 use Rattle.laying.specs.Avoids.{Avoids}
-use Rattle.select.specs.Selection.{Unbroken, Replaces, SlotBySlot, selectRefusal}
+use Rattle.finder.specs.declared.Found.{Found}
+use Rattle.select.specs.Selection.{Unbroken, Replaces, SlotBySlot}
 
 -- a set holds these routes from a to d
 pub record Holds (s : Shape) (a d : ℕ) (set : RouteSet) (routes : List (List ℕ)) : Type 0 where
@@ -28,7 +29,7 @@ pub record Settled (s : Shape) (t : List ℕ) (a d i : ℕ) (routes : List (List
 -- what a set holds with slots i-1, .. , 0 to come: what they will come to after its routes, all slots come to; and the numbers that the
 -- program computes with
 pub record SoFar (s : Shape) (t : List ℕ) (a d i : ℕ) (set : RouteSet) : Type 0 where
-  pub refusal : selectRefusal s t a d ≡ 0
+  pub refusal : roomRefusal s t a d ≡ 0
   pub routes : List (List ℕ)
   pub written : set ≡ setOf (map (encode s) routes)
   pub settled : Settled s t a d i routes

@@ -5,15 +5,14 @@ use mathlib.Core.Logic.{_≢_}
 use mathlib.Core.List.{List, [], _∷_, _++_, map}
 use mathlib.Core.Bool.{true}
 use lib.ListN.{length, getD}
+use Rattle.refusals.specs.Refusals.{none, plain}
 use Rattle.room.specs.declared.Shape.{Shape}
-use Rattle.room.specs.Refusals.{none, plain, _or-else_}
-use Rattle.links.specs.Table.{live, tableRefusal}
+use Rattle.links.specs.Table.{live, roomRefusal}
 use Rattle.path.specs.Routes.{levelTo, encode, RouteTo}
-use Rattle.path.specs.Answers.{endsRefusal}
 use Rattle.build.specs.Built.{builtRoute}
 use Rattle.build.specs.Sets.{emptySet, setOf}
-use Rattle.finder.specs.Alternates.{Before}
 use Rattle.laying.specs.Avoids.{Avoids}
+use Rattle.finder.specs.Alternates.{Before}
 use Rattle.select.specs.declared.Selection.{Selection}
 use Rattle.select.specs.Avoided.{avoided}
 
@@ -39,10 +38,6 @@ SlotBySlot s t a d zero settled routes = settled ≡ routes
 SlotBySlot s t a d (suc i) settled routes =
     (given : List (List ℕ)) × Slot s t a d i settled given × SlotBySlot s t a d i (settled ++ given) routes
 
--- 1 to 3, 4, 5, 6
-unfoldable pub selectRefusal : Shape → List ℕ → ℕ → ℕ → ℕ
-selectRefusal s t a d = endsRefusal s a d or-else tableRefusal s t
-
 abbrev pub noSelection : ℕ → Selection
 noSelection r = record { refusal = plain r; routes = emptySet }
 
@@ -59,5 +54,5 @@ pub record GivesRoutes (s : Shape) (t : List ℕ) (a d : ℕ) (r : Selection) : 
 
 -- what selection answers
 pub record Selecting (s : Shape) (t : List ℕ) (a d : ℕ) (r : Selection) : Type 0 where
-  pub refused : selectRefusal s t a d ≢ 0 → r ≡ noSelection (selectRefusal s t a d)
-  pub given : selectRefusal s t a d ≡ 0 → GivesRoutes s t a d r
+  pub refused : roomRefusal s t a d ≢ 0 → r ≡ noSelection (roomRefusal s t a d)
+  pub given : roomRefusal s t a d ≡ 0 → GivesRoutes s t a d r

@@ -1,6 +1,6 @@
 // Selection: the built routes that no failed link breaks, and alternates for the others.
 use build::RouteSet;
-use room::Refusal;
+use refusals::Refusal;
 // alternates.rt: the alternate for a slot
 mod alternates;
 // arrays.rt: the arrays of a route set, and their routes laid into a copy of the failed-link table

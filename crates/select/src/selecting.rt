@@ -1,22 +1,12 @@
 // Selection.
 ghost use mathlib.Core.Path.{_≡_};
-ghost use Rattle.select.specs.Selection.{selectRefusal, noSelection, Selecting};
+ghost use Rattle.select.specs.Selection.{noSelection, Selecting};
 use crate::Selection;
 use crate::slots::settle_slots;
 use build::RouteSet;
-use room::Refusal;
+use links::room_refusal;
+use refusals::Refusal;
 use room::Shape;
-
-// The first of 1, 2, 3, 4, 5, 6 that refuses a room with its ends and its table, or 0.
-fn select_refusal(shape: Shape, table: &[u8], source: usize, destination: usize) -> usize
-    ensures { λ r. ⌜ r ≡ selectRefusal shape (now (table .entry)) source destination ⌝ }
-{
-    let r = path::ends_refusal(shape, source, destination);
-    if r != 0 {
-        return r;
-    }
-    links::table_refusal(shape, table)
-}
 
 // The answer that carries a refusal and zeros.
 fn no_selection(refusal: usize) -> Selection
@@ -33,7 +23,7 @@ fn no_selection(refusal: usize) -> Selection
 pub fn select_routes(shape: Shape, table: &[u8], source: usize, destination: usize) -> Selection
     ensures { λ r. ⌜ Selecting shape (now (table .entry)) source destination r ⌝ }
 {
-    let refusal = select_refusal(shape, table, source, destination);
+    let refusal = room_refusal(shape, table, source, destination);
     if refusal != 0 {
         return no_selection(refusal);
     }

@@ -1,9 +1,9 @@
 // The slots, one after another: a built route kept, an alternate, or nothing.
 ghost use mathlib.Core.Path.{_≡_};
 ghost use Prim.Native.Nat.{suc};
+ghost use Rattle.links.specs.Table.{roomRefusal};
 ghost use Rattle.build.specs.Built.{builtArrays};
 ghost use Rattle.build.specs.Sets.{setOf};
-ghost use Rattle.select.specs.Selection.{selectRefusal};
 ghost use Rattle.select.specs.Inside.{SoFar};
 use crate::alternates::alternate;
 use crate::arrays::array_at;
@@ -44,7 +44,7 @@ pub(crate) fn settle_slots(
     destination: usize,
     built: RouteSet,
 ) -> RouteSet
-    requires { ⌜ (built ≡ setOf (builtArrays shape source destination)) × (selectRefusal shape (now table) source destination ≡ 0) ⌝ }
+    requires { ⌜ (built ≡ setOf (builtArrays shape source destination)) × (roomRefusal shape (now table) source destination ≡ 0) ⌝ }
     ensures { λ r. ⌜ SoFar shape (now (table .entry)) source destination 0 r ⌝ }
 {
     let mut settled = RouteSet::new();

@@ -8,16 +8,15 @@ use native.Mathlib.Numerals.{add-one}
 use native.Mathlib.Nat.{add-zero, zero-add}
 use lib.ListN.{length, getD}
 use borrow.Author.Tests.{eq-eqb, ne-eqb}
+use Rattle.lists.specs.Lists.{inTurn}
+use Rattle.lists.proofs.ListLaws.{turn-at, filled-at}
+use Rattle.refusals.specs.Refusals.{none, _or-else_}
 use Rattle.room.specs.declared.Shape.{Shape}
 use Rattle.room.specs.Shapes.{Server}
-use Rattle.room.specs.Refusals.{none, _or-else_}
-use Rattle.links.specs.Table.{live}
 use Rattle.path.specs.declared.Walked.{Walked}
-use Rattle.path.specs.Lists.{inTurn}
 use Rattle.path.specs.Routes.{byteTo, encode, Encodes}
 use Rattle.path.specs.Walks.{hopTo, hopRefusal}
 use Rattle.path.specs.Answers.{walkAnswer}
-use Rattle.path.proofs.ListLaws.{length-turn, turn-at, filled-at}
 use Rattle.path.proofs.HopLaws.{byte-small, byte-taken, byte-level, byte-hop}
 use Rattle.path.proofs.ReverseLaws.{dest-server, first-arrival}
 use Rattle.path.proofs.CodecLaws.{encode-long, walk-given, walk-exactly}
@@ -34,7 +33,7 @@ module _ {s : Shape} {t : List ℕ} {a d : ℕ} {bs vs : List ℕ} {tables : ℕ
   unfolding encode
   byte i h =
       ap (λ (l : List ℕ). getD l i 0) (route .bytes)
-      ∙ filled-at 8 (inTurn (byteTo s) vs) i (omega (arith, length-turn (byteTo s) vs))
+      ∙ filled-at 8 (inTurn (byteTo s) vs) i
       ∙ turn-at (byteTo s) vs i h
 
   given : (i : ℕ) → i < length vs → Given s (getD vs i 0) d bs (tables (getD vs i 0))
@@ -124,7 +123,7 @@ accepted-delivered s t a d bs tables z agreed =
     let route = p .1 in
     subst (Forwarded s d bs tables a) (sym (walk-given route))
     (record {
-      next = λ i h. ap (λ (x : Step). x .next) (each-hop route agreed i h) ∙ sym (filled-at 9 vs (suc i) h);
+      next = λ i h. ap (λ (x : Step). x .next) (each-hop route agreed i h) ∙ sym (filled-at 9 vs (suc i));
       index = λ i h. ap (λ (x : Step). x .index) (each-hop route agreed i h);
       taken = λ i h. ap (λ (x : Step). x .refusal) (each-hop route agreed i h);
       going = λ i h. ap (λ (x : Step). x .delivered) (each-hop route agreed i h);

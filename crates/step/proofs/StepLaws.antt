@@ -1,5 +1,5 @@
 -- Laws of one step: what each test tells, which refusals arise at the hop, and the step from the next server.
-use Prim.Native.Nat.{ℕ, zero, suc, _+_, _/_, _%_, _≤_, _<_}
+use Prim.Native.Nat.{ℕ, zero, suc, _+_, _≤_, _<_}
 use mathlib.Core.Path.{_≡_, refl, sym, ap, _∙_}
 use mathlib.Core.Logic.{_≢_}
 use mathlib.Core.List.{List}
@@ -9,33 +9,21 @@ use native.Mathlib.Decide.{decLt}
 use lib.ListN.{length, getD}
 use lib.Dec.{ltb, leb, eqb}
 use borrow.Author.Tests.{lt-ltb, le-ltb, ltb-true, eq-eqb, ne-eqb, eqb-true}
+use Rattle.refusals.specs.declared.Refusal.{Refusal}
+use Rattle.refusals.specs.Refusals.{none, plain, refusedAt, _or-else_, _unless_, answer}
+use Rattle.refusals.proofs.ChainLaws.{or-else-zero, chain-stops, chain-goes, test-held}
+use Rattle.refusals.proofs.AnswerLaws.{answered}
 use Rattle.room.specs.declared.Shape.{Shape}
-use Rattle.room.specs.declared.Refusal.{Refusal}
 use Rattle.room.specs.declared.Number.{Number}
-use Rattle.room.specs.Shapes.{serversOf, bound, Valid, Server}
+use Rattle.room.specs.Shapes.{serversOf, bound, Server}
 use Rattle.room.specs.Addresses.{digit}
-use Rattle.room.specs.Refusals.{none, plain, refusedAt, shapeRefusal, serverRefusal, pairRefusal, _or-else_, _unless_}
-use Rattle.room.specs.Answers.{answer, aNumber}
-use Rattle.room.proofs.RefusalLaws.{or-else-zero, chain-stops, chain-goes, test-held, valid-none, server-none, pair-of, pair-none, answered}
+use Rattle.room.specs.Refusals.{shapeRefusal, serverRefusal, pairRefusal}
+use Rattle.room.specs.Answers.{aNumber}
+use Rattle.room.proofs.RefusalLaws.{pair-of, pair-none}
+use Rattle.path.specs.Routes.{levelOf, valueOf}
 use Rattle.path.specs.Walks.{hopTo, hopRefusal}
 use Rattle.step.specs.declared.Step.{Step}
 use Rattle.step.specs.Steps.{macAt, portAt, flagAt, givenRefusal, byteRefusal, awayRefusal, stepRefusal, atHop, placed, stopped, noStep, delivery, forwarded, stepAnswer, nextAnswer}
-
--- ---- both ends: 1 to 3, 4
-
-pub ends-shape : (s : Shape) (a d r : ℕ) → r ≡ shapeRefusal s → r ≢ 0 → r ≡ pairRefusal s a d
-unfolding pairRefusal serverRefusal
-ends-shape s a d r e h = chain-stops _ _ _ (chain-stops _ _ _ e h) h
-
-pub ends-here : {s : Shape} (a d : ℕ) → Valid s → serversOf s ≤ a → 4 ≡ pairRefusal s a d
-unfolding pairRefusal serverRefusal
-ends-here {s} a d v h =
-    chain-stops _ _ _ (chain-goes _ _ _ _ (valid-none v) refl (simp (le-ltb a (serversOf s) h))) (λ z. omega arith)
-
-pub ends-there : {s : Shape} {a : ℕ} (d : ℕ) → Server s a → serversOf s ≤ d → 4 ≡ pairRefusal s a d
-unfolding pairRefusal serverRefusal
-ends-there {s} {a} d v h =
-    chain-goes _ _ _ _ (server-none v) refl (chain-goes _ _ _ _ (valid-none (v .valid)) refl (simp (le-ltb d (serversOf s) h)))
 
 -- ---- what a step is given
 
@@ -90,7 +78,7 @@ given-plain s a d bs e =
 
 pub hop-placed : (s : Shape) (a b : ℕ) → hopRefusal s a b ≢ 0 → atHop (hopRefusal s a b) ≡ true
 unfolding hopRefusal atHop _or-else_
-hop-placed s a b h = go (leb (b / 64) (s .k)) (ltb (b % 64) (bound s (b / 64))) (not (eqb (digit s (b / 64) a) (b % 64))) h
+hop-placed s a b h = go (leb (levelOf b) (s .k)) (ltb (valueOf b) (bound s (levelOf b))) (not (eqb (digit s (levelOf b) a) (valueOf b))) h
   where
     go : (t u v : Bool) → 8 unless t or-else 9 unless u or-else 10 unless v ≢ 0 → atHop (8 unless t or-else 9 unless u or-else 10 unless v) ≡ true
     go true true true h = absurd (h refl)

@@ -1,6 +1,6 @@
 -- Each public function's contract determines its answer: whatever meets it on some arguments is the one answer to them.
 use mathlib.Core.Path.{_∙_, sym}
-use Rattle.room.specs.Determined.{Determined}
+use Rattle.refusals.specs.Determined.{Determined}
 use Rattle.step.proofs.steps.step_once.Reads as step-once
 use Rattle.step.proofs.steps.step_once.Kinds as step-once-kinds
 

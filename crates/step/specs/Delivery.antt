@@ -1,5 +1,5 @@
 -- Forwarding a packet from server to server, step after step, over neighbour tables that agree with a failed-link table.
-use Prim.Native.Nat.{ℕ, zero, suc, _/_, _<_}
+use Prim.Native.Nat.{ℕ, zero, suc, _<_}
 use mathlib.Core.Path.{_≡_}
 use mathlib.Core.Logic.{_↔_}
 use mathlib.Core.List.{List}
@@ -8,6 +8,7 @@ use lib.ListN.{length}
 use Rattle.room.specs.declared.Shape.{Shape}
 use Rattle.room.specs.Shapes.{Server}
 use Rattle.links.specs.Table.{live}
+use Rattle.path.specs.Routes.{levelOf}
 use Rattle.path.specs.Walks.{hopTo, hopRefusal}
 use Rattle.step.specs.declared.Step.{Step}
 use Rattle.step.specs.Steps.{flagAt, stepAnswer}
@@ -15,7 +16,7 @@ use Rattle.step.specs.Steps.{flagAt, stepAnswer}
 -- the neighbour table e of server a agrees with the failed-link table t: for each neighbour, by its path byte b, the flag is 1
 -- exactly if both links of that hop are live
 pub record Agrees (s : Shape) (t : List ℕ) (a : ℕ) (e : List ℕ) : Type 0 where
-  pub flags : (b : ℕ) → b < 256 → hopRefusal s a b ≡ 0 → (flagAt e b ≡ 1) ↔ (live t (b / 64) a (hopTo s a b) ≡ true)
+  pub flags : (b : ℕ) → b < 256 → hopRefusal s a b ≡ 0 → (flagAt e b ≡ 1) ↔ (live t (levelOf b) a (hopTo s a b) ≡ true)
 
 -- every server's neighbour table, given by the server, has its length and agrees
 pub record Tables (s : Shape) (t : List ℕ) (tables : ℕ → List ℕ) : Type 0 where

@@ -1,11 +1,7 @@
 // One forwarding step: where a packet goes next, by its path bytes and its server's neighbour table.
-use room::Refusal;
-// hops.rt: one hop, from a server that was tested
-mod hops;
+use refusals::Refusal;
 // next.rt: the next server
 mod next;
-// powers.rt: powers of n
-mod powers;
 // steps.rt: the step
 mod steps;
 // tests.rt: what is tested before a step answers

@@ -2,10 +2,10 @@
 ghost use mathlib.Core.Path.{_≡_};
 ghost use Rattle.step.specs.Steps.{stopped, nextAnswer};
 use crate::Step;
-use crate::hops::hop_from;
 use crate::tests::given_refusal;
+use path::hop_of;
+use refusals::Refusal;
 use room::Number;
-use room::Refusal;
 use room::Shape;
 
 fn stop(refusal: Refusal) -> Number
@@ -37,7 +37,7 @@ pub(crate) fn next_server(
         return stop(Refusal::plain(Refusal::HOP_INDEX));
     }
     let byte = path[index];
-    let hop = hop_from(shape, here, byte);
+    let hop = hop_of(shape, here, byte);
     if hop.number != 0 {
         return stop(Refusal::at(hop.number, 1, index + 1));
     }

@@ -4,7 +4,7 @@ ghost use lib.ListN.{length};
 ghost use Rattle.step.specs.Steps.{macAt, standing, stepAnswer};
 use crate::Step;
 use crate::next::next_server;
-use room::Refusal;
+use refusals::Refusal;
 use room::Shape;
 
 // A step that goes nowhere: refused, or delivered.

@@ -1,5 +1,5 @@
 -- A list is accepted exactly when it is the encoding of 1 to k + 1 parallel routes over live links.
-use Prim.Native.Nat.{ℕ, zero, suc, _+_, _-_, _*_, _/_, _%_, _≤_, _<_, suc-le-suc, zero-le}
+use Prim.Native.Nat.{ℕ, zero, suc, _+_, _*_, _/_, _%_, _≤_, _<_, suc-le-suc, zero-le}
 use mathlib.Core.Path.{_≡_, refl, sym, ap, ap₂, _∙_}
 use mathlib.Core.Logic.{_≢_, _↔_}
 use mathlib.Core.Bool.{Bool, true, false, not, cond}
@@ -10,19 +10,21 @@ use native.Mathlib.Decide.{ℕ-discrete}
 use lib.Dec.{leb, eqb}
 use lib.ListN.{length, getD, take, drop, length-append, length-drop, take-append-drop}
 use lib.Seq.{take-at, drop-at}
-use borrow.Author.Tests.{eq-eqb, ne-eqb, eqb-true, leb-true, le-leb}
+use borrow.Author.Tests.{eq-eqb, ne-eqb, eqb-true, leb-true, le-leb, not-true}
+use Rattle.lists.proofs.ListLaws.{both-held, Missing, in-missing, missing-in, length-turn, take-filled}
+use Rattle.lists.specs.Lists.{isIn, middle, filled, inTurn, Apart}
+use Rattle.refusals.specs.declared.Refusal.{Refusal}
+use Rattle.refusals.specs.Refusals.{none, plain, refusedAt}
+use Rattle.refusals.proofs.ChainLaws.{or-else-zero, chain-goes, test-held}
+use Rattle.refusals.proofs.AnswerLaws.{answered, answer-none}
 use Rattle.room.specs.declared.Shape.{Shape}
-use Rattle.room.specs.declared.Refusal.{Refusal}
-use Rattle.room.specs.Refusals.{none, plain, refusedAt, _or-else_}
-use Rattle.room.proofs.RefusalLaws.{or-else-zero, chain-goes, test-held, both-held, answered, answer-none}
+use Rattle.links.specs.Table.{roomRefusal}
 use Rattle.path.specs.declared.Walked.{Walked}
-use Rattle.path.specs.Lists.{isIn, middle, filled, inTurn, Apart}
 use Rattle.path.specs.Routes.{RouteTo, Parallel, encode, switchesOf, switchTo}
 use Rattle.path.specs.Answers.{walkAnswer}
-use Rattle.path.proofs.ListLaws.{Missing, in-missing, missing-in, length-turn, take-filled}
 use Rattle.path.proofs.CodecLaws.{walk-given, walk-exactly, encode-long}
 use Rattle.path.specs.Routes.{Encodes}
-use Rattle.verdict.specs.Checks.{arrays, disjoint, switchesIn, between, parallel, firstStop, firstMeeting, firstOf, firstPair, roomRefusal, listRefusal, walksOf, checkAnswer}
+use Rattle.verdict.specs.Checks.{arrays, disjoint, switchesIn, between, parallel, firstStop, firstMeeting, firstOf, firstPair, listRefusal, walksOf, checkAnswer}
 use Rattle.verdict.specs.Accepted.{encodeAll, Accepted}
 
 -- ---- sharing nothing
@@ -32,12 +34,8 @@ unfolding disjoint
 disjoint-apart [] ys e = record { apart = λ i j p q. omega arith }
 disjoint-apart (x ∷ xs) ys e =
     let z = both-held (not (isIn x ys)) (disjoint xs ys) e in
-    record { apart = at (in-missing x ys (not-held (isIn x ys) (z .0))) (disjoint-apart xs ys (z .1)) }
+    record { apart = at (in-missing x ys (not-true (isIn x ys) (z .0))) (disjoint-apart xs ys (z .1)) }
   where
-    not-held : (b : Bool) → not b ≡ true → b ≡ false
-    not-held true h = let n : _≡_ {A = ℕ} 0 1 = cc in let w : ⊥ = omega arith in absurd w
-    not-held false h = refl
-
     at : Missing x ys → Apart xs ys → (i j : ℕ) → i < length (x ∷ xs) → j < length ys → getD (x ∷ xs) i 0 ≢ getD ys j 0
     at m h zero j p q = λ e. m .not-at j q (sym e)
     at m h (suc i) j p q = h .apart i j (le-of-suc-le-suc p) q
@@ -214,7 +212,7 @@ list-encoded {s} {t} {a} {d} (suc m) bs (vs ∷ vss) l r =
     ∙ ap₂ (λ (x y : List ℕ). x ++ y) (r .each zero (suc-le-suc zero-le) .bytes)
     (list-encoded m (drop 8 bs) vss (length-drop 8 bs ∙ omega arith) (read-tail r))
 
-arrays-long : (m : ℕ) (bs : List ℕ) → length (arrays m bs) ≡ m
+pub arrays-long : (m : ℕ) (bs : List ℕ) → length (arrays m bs) ≡ m
 unfolding arrays
 arrays-long zero bs = refl
 arrays-long (suc m) bs = ap suc (arrays-long m (drop 8 bs))

@@ -7,20 +7,14 @@ use native.Mathlib.Omega.{arith}
 use lib.Dec.{leb, eqb}
 use borrow.Author.Tests.{eq-eqb, ne-eqb, le-leb, lt-leb, eqb-true, leb-true}
 use lib.ListN.{length}
+use Rattle.lists.proofs.ListLaws.{both-held}
+use Rattle.refusals.specs.Refusals.{_unless_}
+use Rattle.refusals.proofs.ChainLaws.{or-else-zero, test-held}
 use Rattle.room.specs.declared.Shape.{Shape}
-use Rattle.room.specs.Refusals.{_or-else_, _unless_}
-use Rattle.room.proofs.RefusalLaws.{valid-none, chain-goes, or-else-zero, test-held, both-held}
-use Rattle.links.specs.Table.{tableRefusal, roomTableRefusal}
-use Rattle.path.specs.Answers.{endsRefusal}
-use Rattle.path.proofs.CodecLaws.{ends-of}
-use Rattle.verdict.specs.Checks.{roomRefusal, listRefusal}
-
--- with ends that are not refused the shape is not either
-pub table-alone : (s : Shape) (t : List ℕ) (a d r x : ℕ) → r ≡ endsRefusal s a d → r ≡ 0 → x ≡ roomTableRefusal s t → x ≡ endsRefusal s a d or-else tableRefusal s t
-unfolding roomTableRefusal
-table-alone s t a d r x e z g =
-    let h = ends-of s a d (sym e ∙ z) in
-    chain-goes r _ _ _ e z (g ∙ sym (chain-goes _ _ _ _ (valid-none (h .source .valid)) refl refl))
+use Rattle.room.proofs.RefusalLaws.{ends-of}
+use Rattle.room.specs.Refusals.{endsRefusal}
+use Rattle.links.specs.Table.{roomRefusal}
+use Rattle.verdict.specs.Checks.{listRefusal}
 
 -- the length of a list: whole arrays, at least one, at most k + 1
 abbrev pub lengthRefusal : ℕ → ℕ → ℕ

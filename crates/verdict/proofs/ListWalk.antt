@@ -1,26 +1,28 @@
 -- Walking the arrays of a list in turn: what the loop keeps.
 use Prim.Native.Nat.{ℕ, zero, suc, _+_, _-_, _*_, _/_, _≤_, _<_}
 use mathlib.Core.Path.{_≡_, refl, sym, ap, _∙_}
-use mathlib.Core.List.{List, [], _∷_, _++_, map}
+use mathlib.Core.List.{List, [], _∷_, _++_}
 use native.Mathlib.Omega.{arith}
 use native.Mathlib.Nat.{le-of-suc-le-suc}
 use native.Mathlib.Numerals.{add-one}
 use native.Mathlib.Decide.{decLt}
-use lib.ListN.{length, getD, set, take, drop, length-set, drop-of-length-le}
+use lib.ListN.{length, getD, set, take, drop, length-map, length-set, drop-of-length-le}
 use lib.Seq.{take-suc-set, take-suc, take-all, getD-set-same, getD-set-other, drop-drop}
 use borrow.Author.Tests.{eq-eqb, ne-eqb}
+use Rattle.lists.specs.Lists.{inTurn}
+use Rattle.lists.proofs.ListLaws.{left, map-at, length-filled, length-turn}
+use Rattle.refusals.specs.declared.Refusal.{Refusal}
+use Rattle.refusals.specs.Refusals.{none, ofRoute}
 use Rattle.room.specs.declared.Shape.{Shape}
-use Rattle.room.specs.declared.Refusal.{Refusal}
-use Rattle.room.specs.Refusals.{none, refusedAt}
 use Rattle.path.specs.declared.Walked.{Walked}
 use Rattle.path.specs.Answers.{walkAnswer}
-use Rattle.path.specs.Lists.{inTurn}
 use Rattle.path.specs.Routes.{switchesOf, switchTo}
-use Rattle.path.proofs.ListLaws.{length-filled, length-turn}
 use Rattle.path.proofs.CodecLaws.{walk-given, walk-exactly}
-use Rattle.verdict.specs.Checks.{arrays, firstStop, firstPair, firstOf, walksOf}
+use Rattle.verdict.specs.Checks.{arrays, firstStop, firstPair, firstOf, listRefusal, walksOf}
 use Rattle.verdict.specs.Arrived.{nowhere, Arrived, AllArrived}
-use Rattle.verdict.proofs.ScanLaws.{left, first-right}
+use Rattle.verdict.proofs.AcceptLaws.{arrays-long}
+use Rattle.verdict.proofs.LengthLaws.{list-few}
+use Rattle.verdict.proofs.ScanLaws.{first-right}
 
 -- a walked array with no refusal has arrived
 pub arrived-of : (s : Shape) (t : List ℕ) (a d : ℕ) (bs : List ℕ) (w : Walked) → w ≡ walkAnswer s t a d bs → w .refusal .number ≡ 0 → Arrived w
@@ -36,11 +38,6 @@ arrived-of s t a d bs w e n =
       long-switches = ap (λ (x : Walked). length (x .switches)) g ∙ length-filled 8 (inTurn (switchTo s) (h .0)) (omega (arith, length-turn (switchTo s) (h .0), r .few));
     }
 
-arrays-long : (m : ℕ) (bs : List ℕ) → length (arrays m bs) ≡ m
-unfolding arrays
-arrays-long zero bs = refl
-arrays-long (suc m) bs = ap suc (arrays-long m (drop 8 bs))
-
 arrays-at : (m i : ℕ) (bs : List ℕ) → i < m → getD (arrays m bs) i [] ≡ take 8 (drop (8 * i) bs)
 unfolding arrays
 arrays-at zero i bs h = let z : ⊥ = omega arith in absurd z
@@ -49,41 +46,39 @@ arrays-at (suc m) (suc i) bs h =
     let e : 8 + 8 * i ≡ 8 * suc i = omega arith in
     arrays-at m i (drop 8 bs) (le-of-suc-le-suc h) ∙ ap (take 8) (drop-drop (8 * i) 8 bs ∙ ap (λ (x : ℕ). drop x bs) e)
 
-map-long : {A B : Type 0} (f : A → B) (xs : List A) → length (map f xs) ≡ length xs
-map-long f [] = refl
-map-long f (x ∷ xs) = ap suc (map-long f xs)
-
-map-at : {A B : Type 0} (f : A → B) (xs : List A) (i : ℕ) (x : A) (y : B) → i < length xs → getD (map f xs) i y ≡ f (getD xs i x)
-map-at f [] i x y h = let z : ⊥ = omega arith in absurd z
-map-at f (z ∷ zs) zero x y h = refl
-map-at f (z ∷ zs) (suc i) x y h = map-at f zs i x y (le-of-suc-le-suc h)
-
 module _ (s : Shape) (t : List ℕ) (a d : ℕ) (bs : List ℕ) where
   abbrev pub W : List Walked
   W = walksOf s t a d bs
 
   W-long : length W ≡ length bs / 8
   unfolding walksOf
-  W-long = map-long (walkAnswer s t a d) (arrays (length bs / 8) bs) ∙ arrays-long (length bs / 8) bs
+  W-long = length-map (arrays (length bs / 8) bs) (walkAnswer s t a d) ∙ arrays-long (length bs / 8) bs
 
   W-at : (i : ℕ) → i < length bs / 8 → getD W i nowhere ≡ walkAnswer s t a d (take 8 (drop (8 * i) bs))
   unfolding walksOf
   W-at i h =
-      map-at (walkAnswer s t a d) (arrays (length bs / 8) bs) i [] nowhere (rw (arrays-long (length bs / 8) bs) h)
+      map-at (walkAnswer s t a d) [] nowhere (arrays (length bs / 8) bs) i (rw (arrays-long (length bs / 8) bs) h)
       ∙ ap (walkAnswer s t a d) (arrays-at (length bs / 8) i bs h)
 
   -- the first i arrays have been walked, and none was refused
   pub record Walking (walks : List Walked) (i : ℕ) : Type 0 where
+    pub few : length bs / 8 ≤ 4
     pub within : i ≤ length bs / 8
     pub arrived : AllArrived i walks
     pub same : take i walks ≡ take i W
     pub rest : firstStop (i + 1) (drop i W) ≡ firstStop 1 W
 
-  pub walking-none : (walks : List Walked) → length walks ≡ 4 → Walking walks 0
-  walking-none walks l =
-      record { within = omega arith; arrived = record { long = l; each = λ i p. absurd (let z : ⊥ = omega arith in z) }; same = refl; rest = refl }
+  pub walking-none : (walks : List Walked) → length walks ≡ 4 → listRefusal s t a d bs ≡ 0 → Walking walks 0
+  walking-none walks l e =
+      record {
+        few = omega (arith, list-few s t a d bs e .most);
+        within = omega arith;
+        arrived = record { long = l; each = λ i p. absurd (let z : ⊥ = omega arith in z) };
+        same = refl;
+        rest = refl;
+      }
 
-  module _ (walks : List Walked) (i : ℕ) (g : Walking walks i) (few : length bs / 8 ≤ 4) (more : i < length bs / 8) (w : Walked) (part : w ≡ walkAnswer s t a d (take (8 * i + 8 - 8 * i) (drop (8 * i) bs))) where
+  module _ (walks : List Walked) (i : ℕ) (g : Walking walks i) (more : i < length bs / 8) (w : Walked) (part : w ≡ walkAnswer s t a d (take (8 * i + 8 - 8 * i) (drop (8 * i) bs))) where
     e : w ≡ walkAnswer s t a d (take 8 (drop (8 * i) bs))
     e = let q : 8 * i + 8 - 8 * i ≡ 8 = omega arith in part ∙ ap (λ (m : ℕ). walkAnswer s t a d (take m (drop (8 * i) bs))) q
 
@@ -93,17 +88,18 @@ module _ (s : Shape) (t : List ℕ) (a d : ℕ) (bs : List ℕ) where
         ∙ ap (λ (x : Walked). x ∷ drop (i + 1) W) (W-at i more ∙ sym e)
 
     -- a refused array is the answer
-    pub walking-stops : (w .refusal .number ≡ 0 → ⊥) → refusedAt (w .refusal .number) (i + 1) (w .refusal .hop) ≡ firstOf (firstStop 1 W) (firstPair 1 W)
+    pub walking-stops : (r : Refusal) → r ≡ ofRoute (i + 1) (w .refusal) → (w .refusal .number ≡ 0 → ⊥) → r ≡ firstOf (firstStop 1 W) (firstPair 1 W)
     unfolding firstStop firstOf
-    walking-stops n =
-        let f : firstStop 1 W ≡ refusedAt (w .refusal .number) (i + 1) (w .refusal .hop) = sym (g .rest) ∙ rw (cut, ne-eqb (w .refusal .number) 0 n) in
-        rw (f, ne-eqb (w .refusal .number) 0 n)
+    walking-stops r k n =
+        let f : firstStop 1 W ≡ ofRoute (i + 1) (w .refusal) = sym (g .rest) ∙ rw (cut, ne-eqb (w .refusal .number) 0 n) in
+        k ∙ rw (f, ne-eqb (w .refusal .number) 0 n)
 
     pub walking-goes : w .refusal .number ≡ 0 → Walking (set walks i w) (i + 1)
     unfolding firstStop
     walking-goes n =
-        let l : i < length walks = omega (arith, g .arrived .long) in
+        let l : i < length walks = omega (arith, g .arrived .long, g .few) in
         record {
+          few = g .few;
           within = omega arith;
           arrived = record { long = length-set walks i w ∙ g .arrived .long; each = at l };
           same =
@@ -121,11 +117,17 @@ module _ (s : Shape) (t : List ℕ) (a d : ℕ) (bs : List ℕ) where
             ]
 
   -- after the last, every two are held against each other
-  pub walking-ends : (walks : List Walked) (i : ℕ) → Walking walks i → length bs / 8 ≤ i → firstPair 1 (take (length bs / 8) walks) ≡ firstOf (firstStop 1 W) (firstPair 1 W)
-  unfolding firstStop
-  walking-ends walks i g h =
-      let q : i ≡ length bs / 8 = omega (arith, g .within) in
-      let f : take (length bs / 8) walks ≡ W = ap (λ (x : ℕ). take x walks) (sym q) ∙ g .same ∙ take-all i W (omega (arith, W-long)) in
-      let z : length W ≤ i = omega (arith, W-long) in
-      let n : firstStop 1 W ≡ none = sym (g .rest) ∙ rw (drop-of-length-le W z) in
-      ap (firstPair 1) f ∙ sym (ap (λ (r : Refusal). firstOf r (firstPair 1 W)) n ∙ first-right none (firstPair 1 W) refl)
+  module _ (walks : List Walked) (i : ℕ) (g : Walking walks i) (h : length bs / 8 ≤ i) where
+    last : i ≡ length bs / 8
+    last = omega (arith, g .within)
+
+    pub walking-all : AllArrived (length bs / 8) walks
+    walking-all = record { long = g .arrived .long; each = λ j p. g .arrived .each j (omega (arith, last)) }
+
+    pub walking-ends : (r : Refusal) → r ≡ firstPair 1 (take (length bs / 8) walks) → r ≡ firstOf (firstStop 1 W) (firstPair 1 W)
+    unfolding firstStop
+    walking-ends r k =
+        let f : take (length bs / 8) walks ≡ W = ap (λ (x : ℕ). take x walks) (sym last) ∙ g .same ∙ take-all i W (omega (arith, W-long)) in
+        let z : length W ≤ i = omega (arith, W-long) in
+        let n : firstStop 1 W ≡ none = sym (g .rest) ∙ rw (drop-of-length-le W z) in
+        k ∙ ap (firstPair 1) f ∙ sym (ap (λ (q : Refusal). firstOf q (firstPair 1 W)) n ∙ first-right none (firstPair 1 W) refl)

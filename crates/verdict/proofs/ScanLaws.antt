@@ -3,22 +3,17 @@ use Prim.Native.Nat.{ℕ, zero, suc, _+_, _-_, _≤_, _<_}
 use mathlib.Core.Path.{_≡_, sym, ap, ap₂, _∙_}
 use mathlib.Core.Bool.{Bool, true, false}
 use mathlib.Core.List.{List, [], _∷_}
-use native.Mathlib.Numerals.{add-one}
 use native.Mathlib.Omega.{arith}
 use lib.ListN.{length, getD, drop, take, length-take, drop-of-length-le}
-use lib.Seq.{drop-cons, length-take-le, take-take, getD-take}
+use lib.Seq.{length-take-le, take-take, getD-take}
 use borrow.Author.Tests.{eq-eqb, ne-eqb}
-use Rattle.room.specs.declared.Refusal.{Refusal}
-use Rattle.room.specs.Refusals.{none, refusedAt}
+use Rattle.lists.specs.Lists.{isIn, middle}
+use Rattle.lists.proofs.ListLaws.{left}
+use Rattle.refusals.specs.declared.Refusal.{Refusal}
+use Rattle.refusals.specs.Refusals.{none, refusedAt}
 use Rattle.path.specs.declared.Walked.{Walked}
-use Rattle.path.specs.Lists.{isIn, middle}
 use Rattle.verdict.specs.Checks.{disjoint, switchesIn, between, parallel, firstMeeting, firstPair, firstOf}
 use Rattle.verdict.specs.Arrived.{nowhere, Arrived}
-
-module _ {A : Type 0} where
-  -- what is left of a list at place j
-  pub left : (l : List A) (j : ℕ) (z : A) → j < length l → drop j l ≡ getD l j z ∷ drop (j + 1) l
-  left l j z h = rw (add-one j, drop-cons l j z h)
 
 pub apart-hit : (xs ys : List ℕ) (j : ℕ) (r : Bool) → j < length xs → r ≡ isIn (getD xs j 0) ys → r ≡ true → disjoint (drop j xs) ys ≡ false
 unfolding disjoint

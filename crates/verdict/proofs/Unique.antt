@@ -1,6 +1,6 @@
 -- The public function's contract determines its answer: whatever meets it on some arguments is the one answer to them.
 use mathlib.Core.Path.{_∙_, sym}
-use Rattle.room.specs.Determined.{Determined}
+use Rattle.refusals.specs.Determined.{Determined}
 use Rattle.verdict.proofs.checks.check_list.Reads as check-list
 use Rattle.verdict.proofs.checks.check_list.Kinds as check-list-kinds
 

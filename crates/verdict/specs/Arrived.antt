@@ -3,8 +3,8 @@ use Prim.Native.Nat.{ℕ, _≤_, _<_}
 use mathlib.Core.Path.{_≡_}
 use mathlib.Core.List.{List, []}
 use lib.ListN.{length, getD}
+use Rattle.refusals.specs.Refusals.{none}
 use Rattle.path.specs.declared.Walked.{Walked}
-use Rattle.room.specs.Refusals.{none}
 
 -- what stands past the end of an array of them
 abbrev pub nowhere : Walked

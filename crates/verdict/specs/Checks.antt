@@ -4,14 +4,13 @@ use mathlib.Core.List.{List, [], _∷_, map}
 use mathlib.Core.Bool.{Bool, true, not, cond, _&&_}
 use lib.Dec.{leb, eqb}
 use lib.ListN.{length, take, drop}
+use Rattle.lists.specs.Lists.{isIn, middle}
+use Rattle.refusals.specs.declared.Refusal.{Refusal}
+use Rattle.refusals.specs.Refusals.{none, plain, refusedAt, ofRoute, _or-else_, _unless_, answer}
 use Rattle.room.specs.declared.Shape.{Shape}
-use Rattle.room.specs.declared.Refusal.{Refusal}
-use Rattle.room.specs.Refusals.{none, plain, refusedAt, _or-else_, _unless_}
-use Rattle.room.specs.Answers.{answer}
-use Rattle.links.specs.Table.{tableRefusal}
+use Rattle.links.specs.Table.{roomRefusal}
 use Rattle.path.specs.declared.Walked.{Walked}
-use Rattle.path.specs.Lists.{isIn, middle}
-use Rattle.path.specs.Answers.{endsRefusal, walkAnswer}
+use Rattle.path.specs.Answers.{walkAnswer}
 
 -- the arrays of a list: m of them, eight bytes each
 unfoldable pub arrays : ℕ → List ℕ → List (List ℕ)
@@ -38,7 +37,7 @@ parallel u v = disjoint (switchesIn u) (switchesIn v) && disjoint (between u) (b
 unfoldable pub firstStop : ℕ → List Walked → Refusal
 firstStop i [] = none
 firstStop i (w ∷ ws) =
-    cond (eqb (w .refusal .number) 0) (firstStop (i + 1) ws) (refusedAt (w .refusal .number) i (w .refusal .hop))
+    cond (eqb (w .refusal .number) 0) (firstStop (i + 1) ws) (ofRoute i (w .refusal))
 
 -- the first of walked arrays, the first of which is route j, that is not parallel to w: 15
 unfoldable pub firstMeeting : Walked → ℕ → List Walked → Refusal
@@ -53,10 +52,6 @@ firstOf r q = cond (eqb (r .number) 0) q r
 unfoldable pub firstPair : ℕ → List Walked → Refusal
 firstPair i [] = none
 firstPair i (w ∷ ws) = firstOf (firstMeeting w (i + 1) ws) (firstPair (i + 1) ws)
-
--- source and destination, the table, and a list of 1 to k + 1 arrays: 1 to 3, 4, 5, 6, 7
-unfoldable pub roomRefusal : Shape → List ℕ → ℕ → ℕ → ℕ
-roomRefusal s t a d = endsRefusal s a d or-else tableRefusal s t
 
 unfoldable pub listRefusal : Shape → List ℕ → ℕ → ℕ → List ℕ → ℕ
 listRefusal s t a d bs =

@@ -1,21 +1,11 @@
 // Checking a list of arrays.
 ghost use mathlib.Core.Path.{_≡_};
-ghost use Rattle.verdict.specs.Checks.{roomRefusal, listRefusal, firstOf, firstStop, firstPair, walksOf, checkAnswer};
+ghost use Rattle.verdict.specs.Checks.{listRefusal, firstOf, firstStop, firstPair, walksOf, checkAnswer};
 use crate::pairs::first_pair;
+use links::room_refusal;
 use path::Walked;
-use room::Refusal;
+use refusals::Refusal;
 use room::Shape;
-
-// The first of 1, 2, 3, 4, 5, 6 that refuses a room with its ends and its table, or 0.
-fn room_refusal(shape: Shape, table: &[u8], source: usize, destination: usize) -> usize
-    ensures { λ r. ⌜ r ≡ roomRefusal shape (now (table .entry)) source destination ⌝ }
-{
-    let r = path::ends_refusal(shape, source, destination);
-    if r != 0 {
-        return r;
-    }
-    links::table_refusal(shape, table)
-}
 
 // The first of 1, 2, 3, 4, 5, 6, 7 that refuses a list before it is walked, or 0.
 fn list_refusal(shape: Shape, table: &[u8], source: usize, destination: usize, list: &[u8]) -> usize
@@ -63,7 +53,7 @@ fn check_arrays(
         let walked = path::walk(shape, table, source, destination, &list[at..end]);
         let refusal = walked.refusal;
         if refusal.number != 0 {
-            return Refusal::at(refusal.number, i + 1, refusal.hop);
+            return refusal.of_route(i + 1);
         }
         walks[i] = walked;
         i += 1;

@@ -1,8 +1,8 @@
 // Checking a list of routes from any maker.
 // checks.rt: a list checked
 mod checks;
-// lists.rt: what two lists share
-mod lists;
+// shares.rt: what two lists share
+mod shares;
 // pairs.rt: every two routes held against each other
 mod pairs;
 

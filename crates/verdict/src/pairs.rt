@@ -4,9 +4,9 @@ ghost use Prim.Native.Nat.{_≤_, _<_, _+_};
 ghost use lib.ListN.{take, drop, getD};
 ghost use Rattle.verdict.specs.Checks.{parallel, firstMeeting, firstPair};
 ghost use Rattle.verdict.specs.Arrived.{Arrived, AllArrived, nowhere};
-use crate::lists::are_disjoint;
+use crate::shares::are_disjoint;
 use path::Walked;
-use room::Refusal;
+use refusals::Refusal;
 
 // Whether two walked arrays share no switch and no server other than the ends.
 fn are_parallel(one: Walked, other: Walked) -> bool

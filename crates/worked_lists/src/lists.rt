@@ -17,7 +17,7 @@ fn check_row(shape: Shape, table: &[u8], source: usize, destination: usize, list
 
 // Lists in a room of sixteen servers with no failed link.
 pub(crate) fn checks() {
-    let shape = Shape::new(4, 1);
+    let shape = Shape::full(4, 1);
     let table = [0u8; 16];
     check_row(
         shape,
@@ -86,12 +86,12 @@ pub(crate) fn checks() {
     );
     check_row(shape, &table, 0, 0, b"");
     check_row(shape, &table, 16, 0, b"");
-    check_row(Shape::new(4, 0), &table, 0, 1, b"");
+    check_row(Shape::full(4, 0), &table, 0, 1, b"");
 }
 
 // A server between the ends that is shared while no switch is, and the other way round.
 pub(crate) fn shared() {
-    let shape = Shape::new(2, 3);
+    let shape = Shape::full(2, 3);
     let table = [0u8; 16];
     check_row(
         shape,
@@ -121,7 +121,7 @@ pub(crate) fn shared() {
         3,
         b"\x01\x41\0\0\0\0\0\0\x41\x01\0\0\0\0\0\0\x41\x01\0\0\0\0\0\0\x01\x41\0\0\0\0\0\0",
     );
-    let wide = Shape::new(3, 1);
+    let wide = Shape::full(3, 1);
     let healthy = [0u8; 9];
     check_row(
         wide,
@@ -141,7 +141,7 @@ pub(crate) fn shared() {
 
 // Failed links: the sender's, the receiver's, a link beside the route; and tables that are refused.
 pub(crate) fn failed() {
-    let shape = Shape::new(4, 1);
+    let shape = Shape::full(4, 1);
     let sender = [2u8, 0, 0, 0, 0, 0, 0, 0, 0, 0, 0, 0, 0, 0, 0, 0];
     check_row(shape, &sender, 0, 7, b"\x41\x03\0\0\0\0\0\0");
     check_row(shape, &sender, 0, 7, b"\x03\x41\0\0\0\0\0\0");

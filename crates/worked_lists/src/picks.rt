@@ -27,7 +27,7 @@ fn pick_row<'a>(
 
 // Fresh before kept, the first that is usable, either list empty, and every refusal in its order.
 pub(crate) fn picks() {
-    let shape = Shape::new(4, 1);
+    let shape = Shape::full(4, 1);
     let table = [0u8; 16];
     pick_row(
         shape,

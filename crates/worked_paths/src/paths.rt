@@ -4,7 +4,7 @@ use path::Writing;
 use room::Shape;
 
 fn read_row(n: usize, k: usize, source: usize, destination: usize, path: &[u8]) {
-    let shape = Shape::new(n, k);
+    let shape = Shape::full(n, k);
     print::question(b"read", shape);
     print::item(source);
     print::item(destination);
@@ -34,7 +34,7 @@ fn writing(answer: Writing) {
 }
 
 fn reverse_row(n: usize, k: usize, source: usize, destination: usize, path: &[u8]) {
-    let shape = Shape::new(n, k);
+    let shape = Shape::full(n, k);
     print::question(b"reverse", shape);
     print::item(source);
     print::item(destination);
@@ -43,7 +43,7 @@ fn reverse_row(n: usize, k: usize, source: usize, destination: usize, path: &[u8
 }
 
 fn write_row(n: usize, k: usize, servers: &[usize]) {
-    let shape = Shape::new(n, k);
+    let shape = Shape::full(n, k);
     print::question(b"write", shape);
     print::all(servers);
     writing(path::write_path(shape, servers));

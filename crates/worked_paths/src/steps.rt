@@ -19,7 +19,7 @@ fn step_row(
     path: &[u8],
     flag: u8,
 ) {
-    let shape = Shape::new(n, k);
+    let shape = Shape::full(n, k);
     let mut table = [0u8; 2048];
     let entry = [2u8, 16, 32, 48, 64, 80, 1, flag];
     table[520] = entry[0];

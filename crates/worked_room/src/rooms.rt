@@ -7,7 +7,7 @@ use room::Switch;
 const MOST: usize = 18446744073709551615;
 
 fn servers_row(n: usize, k: usize) {
-    let shape = Shape::new(n, k);
+    let shape = Shape::full(n, k);
     print::question(b"servers", shape);
     print::answer(room::servers_of(shape));
 }
@@ -36,14 +36,14 @@ pub(crate) fn shapes() {
 }
 
 fn bound_row(n: usize, k: usize, level: usize) {
-    let shape = Shape::new(n, k);
+    let shape = Shape::full(n, k);
     print::question(b"bound", shape);
     print::item(level);
     print::answer(room::bound_of(shape, level));
 }
 
 fn digits_row(n: usize, k: usize, server: usize) {
-    let shape = Shape::new(n, k);
+    let shape = Shape::full(n, k);
     print::question(b"digits", shape);
     print::item(server);
     let answer: Digits = room::digits_of(shape, server);
@@ -62,7 +62,7 @@ fn digits_row(n: usize, k: usize, server: usize) {
 }
 
 fn digit_row(n: usize, k: usize, server: usize, level: usize) {
-    let shape = Shape::new(n, k);
+    let shape = Shape::full(n, k);
     print::question(b"digit", shape);
     print::item(server);
     print::item(level);
@@ -92,7 +92,7 @@ pub(crate) fn digits() {
 }
 
 fn address_row(n: usize, k: usize, places: [usize; 4]) {
-    let shape = Shape::new(n, k);
+    let shape = Shape::full(n, k);
     print::question(b"address", shape);
     print::item(places[0]);
     print::item(places[1]);
@@ -123,7 +123,7 @@ pub(crate) fn addresses() {
 }
 
 fn switch_row(n: usize, k: usize, server: usize, level: usize) {
-    let shape = Shape::new(n, k);
+    let shape = Shape::full(n, k);
     print::question(b"switch", shape);
     print::item(server);
     print::item(level);
@@ -160,7 +160,7 @@ pub(crate) fn switches() {
 }
 
 fn neighbour_row(n: usize, k: usize, server: usize, level: usize, value: usize) {
-    let shape = Shape::new(n, k);
+    let shape = Shape::full(n, k);
     print::question(b"neighbour", shape);
     print::item(server);
     print::item(level);
@@ -169,7 +169,7 @@ fn neighbour_row(n: usize, k: usize, server: usize, level: usize, value: usize) 
 }
 
 fn between_row(n: usize, k: usize, one: usize, other: usize) {
-    let shape = Shape::new(n, k);
+    let shape = Shape::full(n, k);
     print::question(b"between", shape);
     print::item(one);
     print::item(other);

@@ -51,7 +51,7 @@ fn clear_row(shape: Shape, table: &mut [u8], server: usize, level: usize) {
 
 // Marking, marking again, asking, clearing, clearing again, in a room of four servers.
 pub(crate) fn marks() {
-    let shape = Shape::new(2, 1);
+    let shape = Shape::full(2, 1);
     let mut table = [0u8; 4];
     mark_row(shape, &mut table, 2, 1);
     mark_row(shape, &mut table, 2, 1);
@@ -68,7 +68,7 @@ pub(crate) fn marks() {
 
 // The edges of 4, 20 and 6, in that order; each row prints the table anew, and it has kept its bytes.
 pub(crate) fn refusals() {
-    let shape = Shape::new(2, 1);
+    let shape = Shape::full(2, 1);
     let mut table = [1u8, 2, 3, 0];
     mark_row(shape, &mut table, 4, 1);
     mark_row(shape, &mut table, 3, 2);
@@ -81,7 +81,7 @@ pub(crate) fn refusals() {
     mark_row(shape, &mut high, 2, 1);
     clear_row(shape, &mut high, 2, 1);
     failed_row(shape, &high, 2, 1);
-    failed_row(Shape::new(1, 1), &high, 9, 9);
-    failed_row(Shape::new(2, 0), &high, 2, 1);
-    failed_row(Shape::new(2, 0), &high, 1, 0);
+    failed_row(Shape::full(1, 1), &high, 9, 9);
+    failed_row(Shape::full(2, 0), &high, 2, 1);
+    failed_row(Shape::full(2, 0), &high, 1, 0);
 }

@@ -19,7 +19,7 @@ pub(crate) fn arrays(set: RouteSet) {
 }
 
 fn build_row(n: usize, k: usize, source: usize, destination: usize) {
-    let shape = Shape::new(n, k);
+    let shape = Shape::full(n, k);
     print::question(b"build", shape);
     print::item(source);
     print::item(destination);
@@ -80,7 +80,7 @@ fn accepted_from(shape: Shape, table: &[u8], source: usize) -> usize {
 
 // For every server of a room with a healthy table, how many of its built lists are accepted.
 fn accepted_row(n: usize, k: usize, table: &[u8]) {
-    let shape = Shape::new(n, k);
+    let shape = Shape::full(n, k);
     print::question(b"accepted", shape);
     print::text(b" =");
     let mut source: usize = 0;

@@ -20,7 +20,7 @@ fn select_row(shape: Shape, table: &[u8], source: usize, destination: usize) {
 
 // A healthy room, a dead server, a dead switch, a dead end, and the refusals, in a room of sixteen servers.
 pub(crate) fn sixteen() {
-    let shape = Shape::new(4, 1);
+    let shape = Shape::full(4, 1);
     let healthy = [0u8; 16];
     select_row(shape, &healthy, 0, 7);
     select_row(shape, &healthy, 0, 3);
@@ -37,13 +37,13 @@ pub(crate) fn sixteen() {
     select_row(shape, &end, 0, 16);
     let high = [0u8, 0, 0, 0, 0, 0, 0, 4, 0, 0, 0, 0, 0, 0, 0, 0];
     select_row(shape, &high, 0, 7);
-    select_row(Shape::new(4, 0), &healthy, 0, 1);
-    select_row(Shape::new(9, 3), &healthy, 0, 0);
+    select_row(Shape::full(4, 0), &healthy, 0, 1);
+    select_row(Shape::full(9, 3), &healthy, 0, 0);
 }
 
 // A room whose live links are one line: eight hops are found, nine are not; and a room cut in two.
 pub(crate) fn far() {
-    let shape = Shape::new(2, 3);
+    let shape = Shape::full(2, 3);
     let line = [
         14u8,
         12,
@@ -66,11 +66,11 @@ pub(crate) fn far() {
     select_row(shape, &line, 0, 13);
     select_row(shape, &line, 1, 13);
     select_row(shape, &line, 0, 8);
-    let cut = Shape::new(2, 1);
+    let cut = Shape::full(2, 1);
     let halves = [2u8, 2, 2, 2];
     select_row(cut, &halves, 0, 1);
     select_row(cut, &halves, 0, 2);
-    let wide = Shape::new(3, 2);
+    let wide = Shape::full(3, 2);
     let some = [
         0u8,
         1,

@@ -1,13 +1,13 @@
 -- Wrong answers of `build`, refuted.
 use mathlib.Core.Path.{refl}
 use lib.ListN.{getD}
+use Rattle.lists.specs.Lists.{filled}
+use Rattle.refusals.specs.Refusals.{_or-else_}
 use Rattle.room.specs.Shapes.{serversOf, bound}
 use Rattle.room.specs.Digits.{digitsOf}
 use Rattle.room.specs.Addresses.{digits}
-use Rattle.room.specs.Refusals.{_or-else_, shapeRefusal, serverRefusal, pairRefusal}
-use Rattle.path.specs.Lists.{filled}
+use Rattle.room.specs.Refusals.{shapeRefusal, serverRefusal, pairRefusal, endsRefusal}
 use Rattle.path.specs.Routes.{byteOf}
-use Rattle.path.specs.Answers.{endsRefusal}
 use Rattle.build.specs.declared.RouteSet.{RouteSet}
 use Rattle.build.specs.declared.Building.{Building}
 use Rattle.build.specs.Built.{plusOne, builtHops, bytesOf, builtBytes, builtArrays}

@@ -6,32 +6,34 @@ use mathlib.Core.Bool.{true}
 use mathlib.Core.List.{List, [], _∷_}
 use native.Mathlib.Omega.{arith}
 use lib.ListN.{length, getD, take}
+use Rattle.lists.specs.Lists.{filled, isIn, inTurn, middle}
+use Rattle.refusals.specs.declared.Refusal.{Refusal}
+use Rattle.refusals.specs.Refusals.{_or-else_}
 use Rattle.room.specs.declared.Shape.{Shape}
-use Rattle.room.specs.declared.Refusal.{Refusal}
-use Rattle.room.specs.Shapes.{shapeOf, serversOf, bound}
-use Rattle.room.specs.Digits.{digitsOf, addressOf, padded, differFrom}
+use Rattle.room.specs.Shapes.{serversOf, bound, fullRoom}
+use Rattle.room.specs.Digits.{digitsOf, addressOf, differFrom}
 use Rattle.room.specs.Addresses.{digits, digit, withDigit, switchOf, switchesAt, differing}
-use Rattle.room.specs.Refusals.{_or-else_, shapeRefusal, levelRefusal, serverRefusal, pairRefusal, linkRefusal, valueRefusal, placeBound, placesFit, placesRefusal}
+use Rattle.room.specs.Refusals.{shapeRefusal, levelRefusal, serverRefusal, pairRefusal, linkRefusal, valueRefusal, placeBound, placesFit, placesRefusal, endsRefusal}
 use Rattle.room.specs.Answers.{serversAnswer, boundAnswer, digitsAnswer, digitAnswer, addressAnswer, switchAnswer, neighbourAnswer, betweenAnswer}
 use Rattle.room.specs.Wiring.{serverAt, portRefusal, switchesAnswer, serverAtAnswer}
 use Rattle.links.specs.Table as links
-use Rattle.links.specs.Answers.{failedAnswer, linkAnswer, markedTable, clearedTable}
+use Rattle.links.specs.Answers.{failedAnswer, linkAnswer, changedTable}
 use Rattle.links.specs.Servers.{tableServerRefusal, allBits, serverAnswer, markedServer, clearedServer}
 use Rattle.links.proofs.TableLaws.{dead-to}
-use Rattle.path.specs.Lists.{isIn, inTurn, middle, filled}
+use Rattle.links.specs.Table.{roomRefusal, changed}
 use Rattle.path.specs.Routes.{byteOf, switchAt, levelTo, switchTo, byteTo, encode, RouteTo}
 use Rattle.path.specs.Walks.{stopped, arrived, hopTo, hopRefusal, fault, ended, walkFrom, walk, writeFault, writeFrom}
 use Rattle.path.specs.Bytes.{madeRefusal, byteAnswer, partsRefusal, partsAnswer}
-use Rattle.path.specs.Answers.{endsRefusal, arrayRefusal, walkAnswer, readAnswer, reverseAnswer, serversRefusal, writeRefusal, onTheWay, writeAnswer}
-use Rattle.verdict.specs.Checks.{arrays, disjoint, switchesIn, between, parallel, firstStop, firstMeeting, firstOf, firstPair, roomRefusal, listRefusal, walksOf, checkAnswer}
+use Rattle.path.specs.Answers.{arrayRefusal, walkAnswer, readAnswer, reverseAnswer, serversRefusal, writeRefusal, onTheWay, writeAnswer}
+use Rattle.verdict.specs.Checks.{arrays, disjoint, switchesIn, between, parallel, firstStop, firstMeeting, firstOf, firstPair, listRefusal, walksOf, checkAnswer}
 use Rattle.build.specs.Built.{plusOne, builtHops, bytesOf as builtBytesOf, builtBytes, builtArrays}
 use Rattle.build.specs.Sets.{joined, setOf, arrayAt}
 use Rattle.build.specs.Answers.{buildAnswer}
 use Rattle.finder.specs.declared.Found.{Found}
 use Rattle.finder.specs.Alternates.{hopBytes, Before}
-use Rattle.finder.specs.Answers.{findRefusal, Finding}
+use Rattle.finder.specs.Answers.{Finding}
 use Rattle.select.specs.declared.Selection.{Selection}
-use Rattle.select.specs.Selection.{selectRefusal, Selecting}
+use Rattle.select.specs.Selection.{Selecting}
 use Rattle.select.proofs.SelectLaws.{none-selected-exactly}
 use Rattle.pick.specs.Picks.{usable, firstUsable, firstIn, found, fits, listsRefusal, pickSource, pickRefusal}
 use Rattle.pick.specs.Places.{placeAnswer}
@@ -59,7 +61,7 @@ said x = x .word
 
 -- ---- the search, where there is a route vs
 
-module _ {s : Shape} {t : List ℕ} {a d : ℕ} {w : Answer} {lent path vs xs : List ℕ} (taken : findRefusal s t a d ≡ 0) (k : Walks s t a d vs xs) (x : FoundWord s t a d w lent path) where
+module _ {s : Shape} {t : List ℕ} {a d : ℕ} {w : Answer} {lent path vs xs : List ℕ} (taken : roomRefusal s t a d ≡ 0) (k : Walks s t a d vs xs) (x : FoundWord s t a d w lent path) where
   some : 0 < x .answer .hops
   some = some-hops taken k (x .finding)
 
@@ -104,7 +106,7 @@ dead-end {s} {t} {a} {d} h vs r =
     ∙ subst (λ (y : ℕ). links.live t (levelTo s (getD vs i 0) (getD vs (suc i) 0)) (getD vs i 0) y ≡ true) f (r .route .alive i p))
 
 -- the first array of what selection writes, 00 to 13 of (4,1) with server 03 dead
-first-array : {w : Answer} {lent routes : List ℕ} → SelectedWord (shapeOf 4 1) (failing 3 3) 0 7 w lent routes → take 8 routes ≡ direct
+first-array : {w : Answer} {lent routes : List ℕ} → SelectedWord (fullRoom 4 1) (failing 3 3) 0 7 w lent routes → take 8 routes ≡ direct
 unfolding arrayAt
 first-array {w} {lent} x =
     let k = slot-1-first (x .selecting) in
@@ -112,27 +114,27 @@ first-array {w} {lent} x =
 
 -- ---- refused
 
-refused-5 : {r : Found} → Finding (shapeOf 2 2) tied 7 7 r → r .refusal .number ≢ 0
-unfolding findRefusal endsRefusal pairRefusal serverRefusal shapeRefusal serversOf _or-else_
+refused-5 : {r : Found} → Finding (fullRoom 2 2) tied 7 7 r → r .refusal .number ≢ 0
+unfolding roomRefusal endsRefusal pairRefusal serverRefusal shapeRefusal serversOf _or-else_
 refused-5 h z = differ (λ y. y) refl (sym z ∙ ap (λ (r : Found). r .refusal .number) (h .refused (λ e. differ (λ y. y) refl e)))
 
-refused-16 : {r : Selection} → Selecting (shapeOf 4 1) (failing 7 3) 0 7 r → r .refusal .number ≢ 0
-unfolding selectRefusal links.bit links.failed links.tableRefusal links.bitsFit endsRefusal pairRefusal serverRefusal shapeRefusal serversOf _or-else_
+refused-16 : {r : Selection} → Selecting (fullRoom 4 1) (failing 7 3) 0 7 r → r .refusal .number ≢ 0
+unfolding roomRefusal links.bit links.failed links.tableRefusal links.bitsFit links.fitsLevels endsRefusal pairRefusal serverRefusal shapeRefusal serversOf _or-else_
 refused-16 {r} h z =
-    differ (λ y. y) refl (sym z ∙ none-selected-exactly (shapeOf 4 1) (failing 7 3) 0 7 r refl h .1 (dead-end dead))
+    differ (λ y. y) refl (sym z ∙ none-selected-exactly (fullRoom 4 1) (failing 7 3) 0 7 r refl h .1 (dead-end dead))
   where
     each : (l : ℕ) → l ≤ 1 → links.failed (failing 7 3) 7 l ≡ true
     each zero p = refl
     each (suc zero) p = refl
     each (suc (suc l)) p = let n : ⊥ = omega arith in absurd n
 
-    dead : links.Dead (shapeOf 4 1) (failing 7 3) 7
+    dead : links.Dead (fullRoom 4 1) (failing 7 3) 7
     dead = record { all = each }
 
 -- ---- all of them
 
 pub wrong-driver : (o q b : Loan) → Driver o q b
-unfolding serversOf bound digitsOf addressOf padded differFrom digits digit withDigit switchOf differing _or-else_ shapeRefusal levelRefusal serverRefusal pairRefusal linkRefusal valueRefusal placeBound placesFit placesRefusal serversAnswer boundAnswer digitsAnswer digitAnswer addressAnswer switchAnswer neighbourAnswer betweenAnswer links.bit links.failed links.live links.raised links.lowered links.marked links.cleared links.bitsFit links.tableRefusal links.tableLinkRefusal failedAnswer linkAnswer markedTable clearedTable isIn inTurn middle filled byteOf switchAt levelTo switchTo byteTo encode hopTo hopRefusal fault ended walkFrom walk writeFault writeFrom endsRefusal arrayRefusal walkAnswer readAnswer reverseAnswer serversRefusal writeRefusal onTheWay writeAnswer arrays disjoint switchesIn between parallel firstStop firstMeeting firstOf firstPair roomRefusal listRefusal walksOf checkAnswer plusOne builtHops builtBytesOf builtBytes builtArrays joined setOf arrayAt buildAnswer hopBytes findRefusal selectRefusal usable firstUsable firstIn found fits listsRefusal pickSource pickRefusal placeAnswer entry macAt portAt flagAt givenRefusal byteRefusal awayRefusal stepRefusal atHop placed stepAnswer switchesAt serverAt portRefusal switchesAnswer serverAtAnswer tableServerRefusal allBits serverAnswer markedServer clearedServer madeRefusal byteAnswer partsRefusal partsAnswer held roomOf shapeIn word refusalIn valueIn betweenWord askedWord bytesNumber macNumber stepWord packed
+unfolding serversOf bound digitsOf addressOf filled differFrom digits digit withDigit switchOf differing _or-else_ shapeRefusal levelRefusal serverRefusal pairRefusal linkRefusal valueRefusal placeBound placesFit placesRefusal serversAnswer boundAnswer digitsAnswer digitAnswer addressAnswer switchAnswer neighbourAnswer betweenAnswer links.bit links.failed links.live links.withBit links.changed links.bitsFit links.fitsLevels links.tableRefusal links.tableLinkRefusal failedAnswer linkAnswer changedTable isIn inTurn middle byteOf switchAt levelTo switchTo byteTo encode hopTo hopRefusal fault ended walkFrom walk writeFault writeFrom endsRefusal arrayRefusal walkAnswer readAnswer reverseAnswer serversRefusal writeRefusal onTheWay writeAnswer arrays disjoint switchesIn between parallel firstStop firstMeeting firstOf firstPair roomRefusal listRefusal walksOf checkAnswer plusOne builtHops builtBytesOf builtBytes builtArrays joined setOf arrayAt buildAnswer hopBytes usable firstUsable firstIn found fits listsRefusal pickSource pickRefusal placeAnswer entry macAt portAt flagAt givenRefusal byteRefusal awayRefusal stepRefusal atHop placed stepAnswer switchesAt serverAt portRefusal switchesAnswer serverAtAnswer tableServerRefusal allBits serverAnswer markedServer clearedServer madeRefusal byteAnswer partsRefusal partsAnswer held roomOf shapeIn word refusalIn valueIn betweenWord askedWord bytesNumber macNumber stepWord packed
 wrong-driver o q b =
     record {
       version-in-bytes = clash (λ y. y) refl;

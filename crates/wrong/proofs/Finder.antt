@@ -6,26 +6,26 @@ use mathlib.Core.List.{List, [], _∷_}
 use native.Mathlib.Omega.{arith}
 use native.Mathlib.Decide.{ℕ-discrete}
 use lib.ListN.{length}
+use Rattle.lists.specs.Lists.{isIn, inTurn, filled}
+use Rattle.refusals.specs.Refusals.{_or-else_}
 use Rattle.room.specs.declared.Shape.{Shape}
 use Rattle.room.specs.Shapes.{serversOf, bound}
 use Rattle.room.specs.Digits.{digitsOf, addressOf, differFrom}
 use Rattle.room.specs.Addresses.{digits, digit, withDigit, switchOf, differing}
-use Rattle.room.specs.Refusals.{_or-else_, shapeRefusal, serverRefusal, pairRefusal}
-use Rattle.links.specs.Table.{bit, failed, live, bitsFit, tableRefusal}
-use Rattle.path.specs.Lists.{isIn, inTurn, filled}
+use Rattle.room.specs.Refusals.{shapeRefusal, serverRefusal, pairRefusal, endsRefusal}
+use Rattle.links.specs.Table.{bit, failed, live, bitsFit, fitsLevels, tableRefusal, roomRefusal}
 use Rattle.path.specs.Routes.{byteOf, switchAt, levelTo, byteTo, encode}
 use Rattle.path.specs.Walks.{stopped, arrived, hopTo, hopRefusal, fault, ended, walkFrom, walk}
-use Rattle.path.specs.Answers.{endsRefusal}
 use Rattle.finder.specs.declared.Found.{Found}
 use Rattle.finder.specs.Alternates.{hopBytes, Before}
-use Rattle.finder.specs.Answers.{findRefusal, GivesAlternate, Finding}
+use Rattle.finder.specs.Answers.{GivesAlternate, Finding}
 use Rattle.wrong.specs.Never.{Loan}
 use Rattle.wrong.specs.Examples.{array}
 use Rattle.wrong.specs.Finder.{Finder}
 use Rattle.wrong.proofs.Clash.{differ}
 use Rattle.wrong.proofs.Routes.{Walks, walks, never-stops, same-route}
 
-module _ {s : Shape} {t : List ℕ} {a d : ℕ} {r : Found} (taken : findRefusal s t a d ≡ 0) (some : 0 < r .hops) (h : Finding s t a d r) where
+module _ {s : Shape} {t : List ℕ} {a d : ℕ} {r : Found} (taken : roomRefusal s t a d ≡ 0) (some : 0 < r .hops) (h : Finding s t a d r) where
   given : GivesAlternate s t a d r
   given = h .given taken some
 
@@ -55,12 +55,12 @@ module _ {s : Shape} {t : List ℕ} {a d : ℕ} {r : Found} (taken : findRefusal
   miscounted w = ap (λ (x : Found). x .hops) (given .answer) ∙ ap (λ (x : List ℕ). length x - 1) (same-route (given .alternate .route) bytes w)
 
 -- where there is a route, the answer has hops
-pub some-hops : {s : Shape} {t : List ℕ} {a d : ℕ} {r : Found} {vs xs : List ℕ} → findRefusal s t a d ≡ 0 → Walks s t a d vs xs → Finding s t a d r → 0 < r .hops
+pub some-hops : {s : Shape} {t : List ℕ} {a d : ℕ} {r : Found} {vs xs : List ℕ} → roomRefusal s t a d ≡ 0 → Walks s t a d vs xs → Finding s t a d r → 0 < r .hops
 some-hops {r = r} {vs} e k h =
     elim (ℕ-discrete (r .hops) 0) [ yes z ↦ absurd (h .none e z .1 vs (k .route)) | no n ↦ omega arith ]
 
 pub wrong-finder : (o : Loan) → Finder o
-unfolding serversOf bound digitsOf addressOf differFrom digits digit withDigit switchOf differing _or-else_ shapeRefusal serverRefusal pairRefusal bit failed live bitsFit tableRefusal isIn inTurn filled byteOf switchAt levelTo byteTo hopTo hopRefusal fault ended walkFrom walk endsRefusal hopBytes findRefusal
+unfolding serversOf bound digitsOf addressOf differFrom digits digit withDigit switchOf differing _or-else_ shapeRefusal serverRefusal pairRefusal bit failed live bitsFit fitsLevels tableRefusal isIn inTurn filled byteOf switchAt levelTo byteTo hopTo hopRefusal fault ended walkFrom walk endsRefusal hopBytes roomRefusal
 wrong-finder o =
     record {
       lower-level-first = λ κ x h. beaten refl (omega arith) h refl (walks (array (0x81 ∷ 0x41 ∷ 0x01 ∷ [])) _ _ refl refl refl) (inr (refl, inl (inl (omega arith))));

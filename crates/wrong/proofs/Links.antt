@@ -1,18 +1,19 @@
 -- Wrong answers of `links`, refuted.
 use mathlib.Core.Path.{refl}
-use Rattle.room.specs.declared.Refusal.{Refusal}
+use Rattle.refusals.specs.declared.Refusal.{Refusal}
+use Rattle.refusals.specs.Refusals.{_or-else_}
 use Rattle.room.specs.Shapes.{serversOf}
-use Rattle.room.specs.Refusals.{_or-else_, shapeRefusal, levelRefusal, serverRefusal, linkRefusal}
+use Rattle.room.specs.Refusals.{shapeRefusal, levelRefusal, serverRefusal, linkRefusal}
 use Rattle.links.specs.declared.Asked.{Asked}
 use Rattle.links.specs.Table as links
-use Rattle.links.specs.Answers.{failedAnswer, linkAnswer, markedTable, clearedTable}
+use Rattle.links.specs.Answers.{failedAnswer, linkAnswer, changedTable}
 use Rattle.links.specs.Servers.{tableServerRefusal, allBits, serverAnswer, markedServer, clearedServer}
 use Rattle.wrong.specs.Never.{Loan}
 use Rattle.wrong.specs.Links.{Links}
 use Rattle.wrong.proofs.Clash.{differ, clash, clash-left, bit}
 
 pub wrong-links : (o : Loan) → Links o
-unfolding serversOf _or-else_ shapeRefusal levelRefusal serverRefusal linkRefusal links.bit links.failed links.live links.raised links.lowered links.marked links.cleared links.bitsFit links.tableRefusal links.roomTableRefusal links.tableLinkRefusal failedAnswer linkAnswer markedTable clearedTable tableServerRefusal allBits serverAnswer markedServer clearedServer
+unfolding serversOf _or-else_ shapeRefusal levelRefusal serverRefusal linkRefusal links.bit links.failed links.live links.withBit links.changed links.bitsFit links.fitsLevels links.tableRefusal links.roomTableRefusal links.tableLinkRefusal failedAnswer linkAnswer changedTable tableServerRefusal allBits serverAnswer markedServer clearedServer
 wrong-links o =
     record {
       another-link-told = clash (λ (y : Asked). bit (y .failed)) refl;

@@ -1,22 +1,23 @@
 -- Wrong answers of `path`, refuted.
 use mathlib.Core.Path.{refl}
 use lib.ListN.{getD}
+use Rattle.lists.specs.Lists.{isIn, inTurn, filled}
+use Rattle.refusals.specs.Refusals.{_or-else_}
 use Rattle.room.specs.declared.Number.{Number}
 use Rattle.room.specs.Shapes.{serversOf, bound}
 use Rattle.room.specs.Digits.{digitsOf, addressOf, differFrom}
 use Rattle.room.specs.Addresses.{digits, digit, withDigit, switchOf, differing}
-use Rattle.room.specs.Refusals.{_or-else_, shapeRefusal, levelRefusal, serverRefusal, pairRefusal}
+use Rattle.room.specs.Refusals.{shapeRefusal, levelRefusal, serverRefusal, pairRefusal, endsRefusal}
 use Rattle.links.specs.Table as links
 use Rattle.path.specs.declared.Parts.{Parts}
 use Rattle.path.specs.declared.Hop.{Hop}
 use Rattle.path.specs.declared.Walked.{Walked}
 use Rattle.path.specs.declared.Reading.{Reading}
 use Rattle.path.specs.declared.Writing.{Writing}
-use Rattle.path.specs.Lists.{isIn, inTurn, filled}
 use Rattle.path.specs.Routes.{byteOf, switchAt, levelTo, switchTo, byteTo, encode}
 use Rattle.path.specs.Bytes.{madeRefusal, byteAnswer, partsRefusal, partsAnswer}
 use Rattle.path.specs.Walks.{hopTo, hopRefusal, fault, ended, walkFrom, walk, writeFault, writeFrom}
-use Rattle.path.specs.Answers.{hopAnswer, endsRefusal, arrayRefusal, walkAnswer, readAnswer, reverseAnswer, serversRefusal, writeRefusal, onTheWay, writeAnswer}
+use Rattle.path.specs.Answers.{hopAnswer, arrayRefusal, walkAnswer, readAnswer, reverseAnswer, serversRefusal, writeRefusal, onTheWay, writeAnswer}
 use Rattle.wrong.specs.Never.{Loan}
 use Rattle.wrong.specs.Path.{Path}
 use Rattle.wrong.proofs.Clash.{clash, bit}

@@ -2,23 +2,25 @@
 use mathlib.Core.Path.{refl, sym, ap}
 use native.Mathlib.Omega.{arith}
 use lib.ListN.{getD}
+use Rattle.lists.specs.Lists.{filled}
+use Rattle.refusals.specs.declared.Refusal.{Refusal}
+use Rattle.refusals.specs.Refusals.{_or-else_}
 use Rattle.room.specs.declared.Shape.{Shape}
-use Rattle.room.specs.declared.Refusal.{Refusal}
 use Rattle.room.specs.declared.Number.{Number}
 use Rattle.room.specs.declared.Digits.{Digits}
 use Rattle.room.specs.declared.Switch.{Switch}
 use Rattle.room.specs.declared.Between.{Between}
 use Rattle.room.specs.Shapes.{serversOf, bound}
-use Rattle.room.specs.Digits.{digitsOf, addressOf, padded, differFrom}
+use Rattle.room.specs.Digits.{digitsOf, addressOf, differFrom}
 use Rattle.room.specs.Addresses.{digits, digit, withDigit, switchOf, switchesAt, differing}
-use Rattle.room.specs.Refusals.{_or-else_, shapeRefusal, levelRefusal, serverRefusal, pairRefusal, linkRefusal, valueRefusal, placeBound, placesFit, placesRefusal}
+use Rattle.room.specs.Refusals.{shapeRefusal, levelRefusal, serverRefusal, pairRefusal, linkRefusal, valueRefusal, placeBound, placesFit, placesRefusal}
 use Rattle.room.specs.Answers.{serversAnswer, boundAnswer, digitsAnswer, digitAnswer, addressAnswer, switchAnswer, neighbourAnswer, betweenAnswer}
 use Rattle.room.specs.Wiring.{serverAt, portRefusal, switchesAnswer, serverAtAnswer}
 use Rattle.wrong.specs.Room.{Room}
 use Rattle.wrong.proofs.Clash.{clash, bit}
 
 pub wrong-room : Room
-unfolding serversOf bound digitsOf addressOf padded differFrom digits digit withDigit switchOf differing _or-else_ shapeRefusal levelRefusal serverRefusal pairRefusal linkRefusal valueRefusal placeBound placesFit placesRefusal serversAnswer boundAnswer digitsAnswer digitAnswer addressAnswer switchAnswer neighbourAnswer betweenAnswer switchesAt serverAt portRefusal switchesAnswer serverAtAnswer
+unfolding serversOf bound digitsOf addressOf filled differFrom digits digit withDigit switchOf differing _or-else_ shapeRefusal levelRefusal serverRefusal pairRefusal linkRefusal valueRefusal placeBound placesFit placesRefusal serversAnswer boundAnswer digitsAnswer digitAnswer addressAnswer switchAnswer neighbourAnswer betweenAnswer switchesAt serverAt portRefusal switchesAnswer serverAtAnswer
 wrong-room =
     record {
       n-and-k-exchanged = λ n k h κ x e. h (sym (ap (λ (y : Shape). y .n) e));

@@ -5,12 +5,12 @@ use mathlib.Core.Bool.{true}
 use mathlib.Core.List.{List}
 use native.Mathlib.Omega.{arith}
 use lib.ListN.{length}
+use Rattle.lists.specs.Lists.{middle}
 use Rattle.room.specs.declared.Shape.{Shape}
-use Rattle.path.specs.Lists.{middle}
+use Rattle.room.specs.Refusals.{endsRefusal}
+use Rattle.room.proofs.RefusalLaws.{ends-of}
 use Rattle.path.specs.Routes.{switchesOf, encode, RouteTo, Parallel}
 use Rattle.path.specs.Walks.{stopped, arrived, walk}
-use Rattle.path.specs.Answers.{endsRefusal}
-use Rattle.path.proofs.CodecLaws.{ends-of}
 use Rattle.path.proofs.RouteLaws.{read-sound, read-complete}
 use Rattle.verdict.specs.Checks.{disjoint}
 use Rattle.verdict.proofs.AcceptLaws.{disjoint-apart}

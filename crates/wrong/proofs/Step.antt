@@ -1,10 +1,11 @@
 -- Wrong answers of `step`, refuted.
 use mathlib.Core.Path.{refl}
+use Rattle.lists.specs.Lists.{filled}
+use Rattle.refusals.specs.Refusals.{_or-else_}
 use Rattle.room.specs.Shapes.{serversOf, bound}
 use Rattle.room.specs.Digits.{digitsOf, addressOf}
 use Rattle.room.specs.Addresses.{digits, digit, withDigit}
-use Rattle.room.specs.Refusals.{_or-else_, shapeRefusal, serverRefusal, pairRefusal}
-use Rattle.path.specs.Lists.{filled}
+use Rattle.room.specs.Refusals.{shapeRefusal, serverRefusal, pairRefusal}
 use Rattle.path.specs.Walks.{hopTo, hopRefusal}
 use Rattle.step.specs.declared.Step as declared
 use Rattle.step.specs.Steps.{entry, macAt, portAt, flagAt, givenRefusal, byteRefusal, awayRefusal, stepRefusal, atHop, placed, stepAnswer}

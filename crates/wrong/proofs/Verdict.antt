@@ -1,22 +1,23 @@
 -- Wrong answers of `verdict`, refuted.
 use mathlib.Core.Path.{refl}
-use Rattle.room.specs.declared.Refusal.{Refusal}
+use Rattle.lists.specs.Lists.{isIn, middle, filled}
+use Rattle.refusals.specs.declared.Refusal.{Refusal}
+use Rattle.refusals.specs.Refusals.{_or-else_}
 use Rattle.room.specs.Shapes.{serversOf, bound}
 use Rattle.room.specs.Digits.{digitsOf, addressOf}
 use Rattle.room.specs.Addresses.{digits, digit, withDigit, switchOf}
-use Rattle.room.specs.Refusals.{_or-else_, shapeRefusal, serverRefusal, pairRefusal}
-use Rattle.links.specs.Table.{bit, failed, live, bitsFit, tableRefusal}
-use Rattle.path.specs.Lists.{isIn, middle, filled}
+use Rattle.room.specs.Refusals.{shapeRefusal, serverRefusal, pairRefusal, endsRefusal}
+use Rattle.links.specs.Table.{bit, failed, live, bitsFit, fitsLevels, tableRefusal, roomRefusal}
 use Rattle.path.specs.Routes.{switchAt}
 use Rattle.path.specs.Walks.{hopTo, hopRefusal, fault, ended, walkFrom, walk}
-use Rattle.path.specs.Answers.{endsRefusal, arrayRefusal, walkAnswer}
-use Rattle.verdict.specs.Checks.{arrays, disjoint, switchesIn, between, parallel, firstStop, firstMeeting, firstOf, firstPair, roomRefusal, listRefusal, walksOf, checkAnswer}
+use Rattle.path.specs.Answers.{arrayRefusal, walkAnswer}
+use Rattle.verdict.specs.Checks.{arrays, disjoint, switchesIn, between, parallel, firstStop, firstMeeting, firstOf, firstPair, listRefusal, walksOf, checkAnswer}
 use Rattle.wrong.specs.Never.{Loan}
 use Rattle.wrong.specs.Verdict.{Verdict}
 use Rattle.wrong.proofs.Clash.{clash}
 
 pub wrong-verdict : (o q : Loan) → Verdict o q
-unfolding serversOf bound digitsOf addressOf digits digit withDigit switchOf _or-else_ shapeRefusal serverRefusal pairRefusal bit failed live bitsFit tableRefusal isIn middle filled switchAt hopTo hopRefusal fault ended walkFrom walk endsRefusal arrayRefusal walkAnswer arrays disjoint switchesIn between parallel firstStop firstMeeting firstOf firstPair roomRefusal listRefusal walksOf checkAnswer
+unfolding serversOf bound digitsOf addressOf digits digit withDigit switchOf _or-else_ shapeRefusal serverRefusal pairRefusal bit failed live bitsFit fitsLevels tableRefusal isIn middle filled switchAt hopTo hopRefusal fault ended walkFrom walk endsRefusal arrayRefusal walkAnswer arrays disjoint switchesIn between parallel firstStop firstMeeting firstOf firstPair roomRefusal listRefusal walksOf checkAnswer
 wrong-verdict o q =
     record {
       middle-servers-only = clash (λ (y : Refusal). y .number) refl;

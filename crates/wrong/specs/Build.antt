@@ -1,7 +1,7 @@
 -- Wrong answers of `build`.
 use mathlib.Core.List.{[], _∷_}
 use lib.ListN.{replicate}
-use Rattle.room.specs.Shapes.{shapeOf}
+use Rattle.room.specs.Shapes.{fullRoom}
 use Rattle.build.specs.Sets.{emptySet, setOf}
 use Rattle.build.specs.Answers.{noBuilding, aBuilding}
 use Rattle.build.proofs.RouteSet.new.Reads as route-set-new
@@ -27,17 +27,17 @@ pub record Build : Type 0 where
   pub full-set-overwritten : Never with-route.Post (setOf (direct ∷ direct ∷ direct ∷ direct ∷ []) & other & tt) (setOf (direct ∷ direct ∷ direct ∷ other ∷ []))
   -- ---- build_routes
   -- lower slots first: 00 to 13 of (4,1)
-  pub lower-slots-first : Never build-routes.Post (shapeOf 4 1 & 0 & 7 & tt) (aBuilding (setOf (other ∷ direct ∷ [])))
+  pub lower-slots-first : Never build-routes.Post (fullRoom 4 1 & 0 & 7 & tt) (aBuilding (setOf (other ∷ direct ∷ [])))
   -- digits corrected upwards: 000 to 111 of (4,2)
-  pub digits-upwards : Never build-routes.Post (shapeOf 4 2 & 0 & 21 & tt)
+  pub digits-upwards : Never build-routes.Post (fullRoom 4 2 & 0 & 21 & tt)
       (aBuilding (setOf (array (0x81 ∷ 0x01 ∷ 0x41 ∷ []) ∷ array (0x41 ∷ 0x81 ∷ 0x01 ∷ []) ∷ array (0x01 ∷ 0x41 ∷ 0x81 ∷ []) ∷ [])))
   -- digit i set right at once in a detour: 0001 to 1011 of (8,3), slots 2 and 0
-  pub detour-right-at-once : Never build-routes.Post (shapeOf 8 3 & 1 & 521 & tt)
+  pub detour-right-at-once : Never build-routes.Post (fullRoom 8 3 & 1 & 521 & tt)
       (aBuilding (setOf (array (0xc1 ∷ 0x41 ∷ []) ∷ array (0x81 ∷ 0x80 ∷ 0x41 ∷ 0xc1 ∷ []) ∷ array (0x41 ∷ 0xc1 ∷ []) ∷ array (0x02 ∷ 0x01 ∷ 0xc1 ∷ 0x41 ∷ []) ∷ [])))
   -- a detour by the value below: 7 for 1 at slot 2, 0 for 2 at slot 0
-  pub detour-to-value-below : Never build-routes.Post (shapeOf 8 3 & 1 & 521 & tt)
+  pub detour-to-value-below : Never build-routes.Post (fullRoom 8 3 & 1 & 521 & tt)
       (aBuilding (setOf (array (0xc1 ∷ 0x41 ∷ []) ∷ array (0x87 ∷ 0x41 ∷ 0xc1 ∷ 0x80 ∷ []) ∷ array (0x41 ∷ 0xc1 ∷ []) ∷ array (0x00 ∷ 0xc1 ∷ 0x41 ∷ 0x01 ∷ []) ∷ [])))
   -- an all-zero array taken for an empty slot: 1 to 0 of (2,0)
-  pub zero-array-left-out : Never build-routes.Post (shapeOf 2 0 & 1 & 0 & tt) (aBuilding emptySet)
+  pub zero-array-left-out : Never build-routes.Post (fullRoom 2 0 & 1 & 0 & tt) (aBuilding emptySet)
   -- no routes from a server to itself, and no refusal
-  pub same-ends-built : Never build-routes.Post (shapeOf 2 0 & 0 & 0 & tt) (noBuilding 0)
+  pub same-ends-built : Never build-routes.Post (fullRoom 2 0 & 0 & 0 & tt) (noBuilding 0)

@@ -4,8 +4,8 @@ use Prim.Native.Nat.{_+_, _*_}
 use mathlib.Core.Bool.{true, false}
 use mathlib.Core.List.{[], _∷_, _++_}
 use lib.ListN.{replicate, set}
-use Rattle.room.specs.Refusals.{none, plain, refusedAt}
-use Rattle.path.specs.Lists.{filled}
+use Rattle.lists.specs.Lists.{filled}
+use Rattle.refusals.specs.Refusals.{none, plain, refusedAt}
 use Rattle.build.specs.Sets.{joined}
 use Rattle.step.specs.declared.Step.{Step}
 use Rattle.driver.specs.Rooms.{roomOf}

@@ -4,7 +4,7 @@ use Prim.Native.Char.{code}
 use Prim.Native.String.{String, [] as empty, _∷_ as _then_}
 use mathlib.Core.List.{List, [], _∷_, _++_}
 use lib.ListN.{replicate, set}
-use Rattle.path.specs.Lists.{filled}
+use Rattle.lists.specs.Lists.{filled}
 
 -- an array: path bytes, with zeros past them
 abbrev pub array : List ℕ → List ℕ

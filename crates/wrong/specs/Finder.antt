@@ -1,8 +1,8 @@
 -- Wrong answers of `finder`, wherever the table lies.
 use Prim.Native.Nat.{ℕ}
 use mathlib.Core.List.{List, [], _∷_}
-use Rattle.room.specs.Shapes.{shapeOf}
-use Rattle.room.specs.Refusals.{none}
+use Rattle.refusals.specs.Refusals.{none}
+use Rattle.room.specs.Shapes.{fullRoom}
 use Rattle.finder.specs.declared.Found.{Found}
 use Rattle.finder.specs.Answers.{noRoute}
 use Rattle.finder.proofs.find_route.Reads as find-route
@@ -16,18 +16,18 @@ going h bs = record { refusal = none; hops = h; bytes = array bs }
 pub record Finder (o : Loan) : Type 0 where
   -- ---- find_route
   -- the tie rule with the lower level first: 000 to 111 of (2,2), where 81 41 01 comes first
-  pub lower-level-first : Never find-route.Post (shapeOf 2 2 & o lends tied & 0 & 7 & tt) (going 3 (0x01 ∷ 0x81 ∷ 0x41 ∷ []))
+  pub lower-level-first : Never find-route.Post (fullRoom 2 2 & o lends tied & 0 & 7 & tt) (going 3 (0x01 ∷ 0x81 ∷ 0x41 ∷ []))
   -- the tie rule from the other end, by the last hop first
-  pub tie-from-the-other-end : Never find-route.Post (shapeOf 2 2 & o lends tied & 0 & 7 & tt) (going 3 (0x41 ∷ 0x01 ∷ 0x81 ∷ []))
+  pub tie-from-the-other-end : Never find-route.Post (fullRoom 2 2 & o lends tied & 0 & 7 & tt) (going 3 (0x41 ∷ 0x01 ∷ 0x81 ∷ []))
   -- the tie rule with the higher value first: 00 to 01 of (4,1), where the level-0 link of 00 is failed, and 41 01 40 comes first
-  pub higher-value-first : Never find-route.Post (shapeOf 4 1 & o lends failing 0 1 & 0 & 1 & tt) (going 3 (0x43 ∷ 0x01 ∷ 0x40 ∷ []))
+  pub higher-value-first : Never find-route.Post (fullRoom 4 1 & o lends failing 0 1 & 0 & 1 & tt) (going 3 (0x43 ∷ 0x01 ∷ 0x40 ∷ []))
   -- more hops than are needed: 00 to 13 of (4,1), where 41 03 is a route
-  pub not-the-fewest-hops : Never find-route.Post (shapeOf 4 1 & o lends healthy & 0 & 7 & tt) (going 3 (0x42 ∷ 0x03 ∷ 0x41 ∷ []))
+  pub not-the-fewest-hops : Never find-route.Post (fullRoom 4 1 & o lends healthy & 0 & 7 & tt) (going 3 (0x42 ∷ 0x03 ∷ 0x41 ∷ []))
   -- an alternate that exists denied
-  pub alternate-denied : Never find-route.Post (shapeOf 4 1 & o lends failing 0 1 & 0 & 1 & tt) (noRoute 0)
+  pub alternate-denied : Never find-route.Post (fullRoom 4 1 & o lends failing 0 1 & 0 & 1 & tt) (noRoute 0)
   -- the receiver's link forgotten: 00 to 13 of (4,1), where the level-1 link of 10 is failed
-  pub receiver-forgotten : Never find-route.Post (shapeOf 4 1 & o lends failing 4 2 & 0 & 7 & tt) (going 2 (0x41 ∷ 0x03 ∷ []))
+  pub receiver-forgotten : Never find-route.Post (fullRoom 4 1 & o lends failing 4 2 & 0 & 7 & tt) (going 2 (0x41 ∷ 0x03 ∷ []))
   -- the hops made up: the servers counted, and not the hops
-  pub servers-for-hops : Never find-route.Post (shapeOf 4 1 & o lends healthy & 0 & 7 & tt) (going 3 (0x41 ∷ 0x03 ∷ []))
+  pub servers-for-hops : Never find-route.Post (fullRoom 4 1 & o lends healthy & 0 & 7 & tt) (going 3 (0x41 ∷ 0x03 ∷ []))
   -- 16 told, which is selection's to say: 13 is dead
-  pub sixteen-told : Never find-route.Post (shapeOf 4 1 & o lends failing 7 3 & 0 & 7 & tt) (noRoute 16)
+  pub sixteen-told : Never find-route.Post (fullRoom 4 1 & o lends failing 7 3 & 0 & 7 & tt) (noRoute 16)

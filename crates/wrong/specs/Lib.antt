@@ -1,5 +1,6 @@
 pub mod Never
 pub mod Examples
+pub mod Helpers
 pub mod Room
 pub mod Links
 pub mod Path

@@ -2,8 +2,8 @@
 use mathlib.Core.Bool.{true, false}
 use mathlib.Core.List.{[]}
 use lib.ListN.{replicate, set}
-use Rattle.room.specs.Shapes.{shapeOf}
-use Rattle.room.specs.Refusals.{none, plain}
+use Rattle.refusals.specs.Refusals.{none, plain}
+use Rattle.room.specs.Shapes.{fullRoom}
 use Rattle.links.specs.Answers.{asked}
 use Rattle.links.proofs.failed_link.Reads as failed-link
 use Rattle.links.proofs.mark_link.Reads as mark-link
@@ -18,67 +18,67 @@ use Rattle.wrong.specs.Examples.{healthy, failing}
 pub record Links (o : Loan) : Type 0 where
   -- ---- failed_link
   -- another link of the server told for this one: level 1 is failed, level 0 asked
-  pub another-link-told : Never failed-link.Post (shapeOf 4 1 & o lends failing 3 2 & 3 & 0 & tt) (asked true)
+  pub another-link-told : Never failed-link.Post (fullRoom 4 1 & o lends failing 3 2 & 3 & 0 & tt) (asked true)
   -- the byte compared, and not its bit: the links of a dead server told live
-  pub byte-for-bit : Never failed-link.Post (shapeOf 4 1 & o lends failing 3 3 & 3 & 0 & tt) (asked false)
+  pub byte-for-bit : Never failed-link.Post (fullRoom 4 1 & o lends failing 3 3 & 3 & 0 & tt) (asked false)
   -- 6 not tested: a link past the end of a table of 15 bytes told live
-  pub short-table-asked : Never failed-link.Post (shapeOf 4 1 & o lends replicate 15 0 & 15 & 0 & tt) (asked false)
+  pub short-table-asked : Never failed-link.Post (fullRoom 4 1 & o lends replicate 15 0 & 15 & 0 & tt) (asked false)
   -- ---- mark_link
   -- level k + 1 marked
-  pub marked-above-k : Never mark-link.Post (shapeOf 4 1 & o lends healthy & 3 & 2 & tt) none
+  pub marked-above-k : Never mark-link.Post (fullRoom 4 1 & o lends healthy & 3 & 2 & tt) none
   -- 6 tested before 4: server 16, a table of 15 bytes
-  pub table-before-address : Never mark-link.Post (shapeOf 4 1 & o lends replicate 15 0 & 16 & 0 & tt) (plain 6)
+  pub table-before-address : Never mark-link.Post (fullRoom 4 1 & o lends replicate 15 0 & 16 & 0 & tt) (plain 6)
   -- nothing marked
-  pub marks-nothing : NeverLeaves mark-link.Post (shapeOf 4 1 & o lends failing 3 1 & 3 & 1 & tt) second (failing 3 1)
+  pub marks-nothing : NeverLeaves mark-link.Post (fullRoom 4 1 & o lends failing 3 1 & 3 & 1 & tt) second (failing 3 1)
   -- the byte set, and not its bit: the mark of level 0 lost
-  pub other-mark-lost : NeverLeaves mark-link.Post (shapeOf 4 1 & o lends failing 3 1 & 3 & 1 & tt) second (failing 3 2)
+  pub other-mark-lost : NeverLeaves mark-link.Post (fullRoom 4 1 & o lends failing 3 1 & 3 & 1 & tt) second (failing 3 2)
   -- marked again, the bit added again
-  pub marked-twice : NeverLeaves mark-link.Post (shapeOf 4 1 & o lends failing 3 2 & 3 & 1 & tt) second (failing 3 4)
+  pub marked-twice : NeverLeaves mark-link.Post (fullRoom 4 1 & o lends failing 3 2 & 3 & 1 & tt) second (failing 3 4)
   -- the table touched on refusal 20
-  pub marked-on-refusal : NeverLeaves mark-link.Post (shapeOf 4 1 & o lends healthy & 3 & 2 & tt) second (failing 3 4)
+  pub marked-on-refusal : NeverLeaves mark-link.Post (fullRoom 4 1 & o lends healthy & 3 & 2 & tt) second (failing 3 4)
   -- ---- clear_link
   -- level k + 1 cleared
-  pub cleared-above-k : Never clear-link.Post (shapeOf 4 1 & o lends healthy & 3 & 2 & tt) none
+  pub cleared-above-k : Never clear-link.Post (fullRoom 4 1 & o lends healthy & 3 & 2 & tt) none
   -- 20 tested before 4: level 2 of server 16
-  pub level-before-address : Never clear-link.Post (shapeOf 4 1 & o lends healthy & 16 & 2 & tt) (plain 20)
+  pub level-before-address : Never clear-link.Post (fullRoom 4 1 & o lends healthy & 16 & 2 & tt) (plain 20)
   -- nothing cleared
-  pub clears-nothing : NeverLeaves clear-link.Post (shapeOf 4 1 & o lends failing 3 3 & 3 & 0 & tt) second (failing 3 3)
+  pub clears-nothing : NeverLeaves clear-link.Post (fullRoom 4 1 & o lends failing 3 3 & 3 & 0 & tt) second (failing 3 3)
   -- all links of the server cleared
-  pub clears-all : NeverLeaves clear-link.Post (shapeOf 4 1 & o lends failing 3 3 & 3 & 0 & tt) second healthy
+  pub clears-all : NeverLeaves clear-link.Post (fullRoom 4 1 & o lends failing 3 3 & 3 & 0 & tt) second healthy
   -- cleared again, the bit taken away again
-  pub cleared-twice : NeverLeaves clear-link.Post (shapeOf 4 1 & o lends failing 3 2 & 3 & 0 & tt) second (failing 3 1)
+  pub cleared-twice : NeverLeaves clear-link.Post (fullRoom 4 1 & o lends failing 3 2 & 3 & 0 & tt) second (failing 3 1)
   -- the table touched on refusal 6, which its bit above k is
-  pub cleared-on-refusal : NeverLeaves clear-link.Post (shapeOf 4 1 & o lends failing 3 5 & 3 & 0 & tt) second (failing 3 4)
+  pub cleared-on-refusal : NeverLeaves clear-link.Post (fullRoom 4 1 & o lends failing 3 5 & 3 & 0 & tt) second (failing 3 4)
   -- ---- mark_server
   -- server N marked
-  pub server-n-marked : Never mark-server.Post (shapeOf 4 1 & o lends healthy & 16 & tt) none
+  pub server-n-marked : Never mark-server.Post (fullRoom 4 1 & o lends healthy & 16 & tt) none
   -- 6 tested before 4: server 16, a table of 15 bytes
-  pub mark-table-before-address : Never mark-server.Post (shapeOf 4 1 & o lends replicate 15 0 & 16 & tt) (plain 6)
+  pub mark-table-before-address : Never mark-server.Post (fullRoom 4 1 & o lends replicate 15 0 & 16 & tt) (plain 6)
   -- nothing marked
-  pub marks-no-server : NeverLeaves mark-server.Post (shapeOf 4 1 & o lends failing 3 1 & 3 & tt) second (failing 3 1)
+  pub marks-no-server : NeverLeaves mark-server.Post (fullRoom 4 1 & o lends failing 3 1 & 3 & tt) second (failing 3 1)
   -- one link marked, that of level k
-  pub marks-one-link : NeverLeaves mark-server.Post (shapeOf 4 1 & o lends healthy & 3 & tt) second (failing 3 2)
+  pub marks-one-link : NeverLeaves mark-server.Post (fullRoom 4 1 & o lends healthy & 3 & tt) second (failing 3 2)
   -- the whole byte set, bits above k with it
-  pub marks-whole-byte : NeverLeaves mark-server.Post (shapeOf 4 1 & o lends healthy & 3 & tt) second (failing 3 0xff)
+  pub marks-whole-byte : NeverLeaves mark-server.Post (fullRoom 4 1 & o lends healthy & 3 & tt) second (failing 3 0xff)
   -- marked again, the bits added again
-  pub server-marked-twice : NeverLeaves mark-server.Post (shapeOf 4 1 & o lends failing 3 3 & 3 & tt) second (failing 3 6)
+  pub server-marked-twice : NeverLeaves mark-server.Post (fullRoom 4 1 & o lends failing 3 3 & 3 & tt) second (failing 3 6)
   -- the table touched on refusal 6, which its bit above k is
-  pub server-marked-on-refusal : NeverLeaves mark-server.Post (shapeOf 4 1 & o lends failing 3 4 & 3 & tt) second (failing 3 3)
+  pub server-marked-on-refusal : NeverLeaves mark-server.Post (fullRoom 4 1 & o lends failing 3 4 & 3 & tt) second (failing 3 3)
   -- ---- clear_server
   -- server N cleared
-  pub server-n-cleared : Never clear-server.Post (shapeOf 4 1 & o lends healthy & 16 & tt) none
+  pub server-n-cleared : Never clear-server.Post (fullRoom 4 1 & o lends healthy & 16 & tt) none
   -- 6 tested before 4: server 16, and a bit above k
-  pub clear-table-before-address : Never clear-server.Post (shapeOf 4 1 & o lends failing 3 4 & 16 & tt) (plain 6)
+  pub clear-table-before-address : Never clear-server.Post (fullRoom 4 1 & o lends failing 3 4 & 16 & tt) (plain 6)
   -- a server that is live refused
-  pub live-server-refused : Never clear-server.Post (shapeOf 4 1 & o lends healthy & 3 & tt) (plain 6)
+  pub live-server-refused : Never clear-server.Post (fullRoom 4 1 & o lends healthy & 3 & tt) (plain 6)
   -- nothing cleared
-  pub clears-no-server : NeverLeaves clear-server.Post (shapeOf 4 1 & o lends failing 3 3 & 3 & tt) second (failing 3 3)
+  pub clears-no-server : NeverLeaves clear-server.Post (fullRoom 4 1 & o lends failing 3 3 & 3 & tt) second (failing 3 3)
   -- one link cleared, that of level 0
-  pub clears-one-link : NeverLeaves clear-server.Post (shapeOf 4 1 & o lends failing 3 3 & 3 & tt) second (failing 3 2)
+  pub clears-one-link : NeverLeaves clear-server.Post (fullRoom 4 1 & o lends failing 3 3 & 3 & tt) second (failing 3 2)
   -- the whole table cleared: the mark of server 7 lost
-  pub clears-whole-table : NeverLeaves clear-server.Post (shapeOf 4 1 & o lends set (failing 3 3) 7 1 & 3 & tt) second healthy
+  pub clears-whole-table : NeverLeaves clear-server.Post (fullRoom 4 1 & o lends set (failing 3 3) 7 1 & 3 & tt) second healthy
   -- the table touched on refusal 6, which its bit above k is
-  pub server-cleared-on-refusal : NeverLeaves clear-server.Post (shapeOf 4 1 & o lends failing 3 4 & 3 & tt) second healthy
+  pub server-cleared-on-refusal : NeverLeaves clear-server.Post (fullRoom 4 1 & o lends failing 3 4 & 3 & tt) second healthy
   -- ---- is_live
   -- the receiver's link forgotten
   pub receiver-forgotten : Never is-live.Post (o lends failing 3 1 & 0 & 0 & 3 & tt) true
@@ -88,8 +88,8 @@ pub record Links (o : Loan) : Type 0 where
   pub another-level : Never is-live.Post (o lends failing 3 2 & 0 & 0 & 3 & tt) false
   -- ---- table_refusal
   -- a bit above k taken
-  pub bit-above-k-taken : Never table-refusal.Post (shapeOf 4 1 & o lends failing 3 4 & tt) 0
+  pub bit-above-k-taken : Never table-refusal.Post (fullRoom 4 1 & o lends failing 3 4 & tt) 0
   -- a table of one byte too many taken
-  pub long-table-taken : Never table-refusal.Post (shapeOf 4 1 & o lends replicate 17 0 & tt) 0
+  pub long-table-taken : Never table-refusal.Post (fullRoom 4 1 & o lends replicate 17 0 & tt) 0
   -- 6 tested before 3: no bytes for (9,3)
-  pub table-before-shape : Never table-refusal.Post (shapeOf 9 3 & o lends [] & tt) 6
+  pub table-before-shape : Never table-refusal.Post (fullRoom 9 3 & o lends [] & tt) 6

@@ -1,8 +1,8 @@
 -- Wrong answers of `verdict`, wherever the table and the list lie.
 use mathlib.Core.List.{[], _∷_, _++_}
 use lib.ListN.{replicate}
-use Rattle.room.specs.Shapes.{shapeOf}
-use Rattle.room.specs.Refusals.{none, plain, refusedAt}
+use Rattle.refusals.specs.Refusals.{none, plain, refusedAt}
+use Rattle.room.specs.Shapes.{fullRoom}
 use Rattle.verdict.proofs.check_list.Reads as check-list
 use Rattle.wrong.specs.Never.{Never, Loan, _&_, _lends_}
 use Rattle.wrong.specs.Examples.{array, healthy, failing}
@@ -10,16 +10,16 @@ use Rattle.wrong.specs.Examples.{array, healthy, failing}
 pub record Verdict (o q : Loan) : Type 0 where
   -- ---- check_list
   -- middle servers compared only: 00 to 03 of (4,1), the route 03 twice, which has none
-  pub middle-servers-only : Never check-list.Post (shapeOf 4 1 & o lends healthy & 0 & 3 & q lends array (0x03 ∷ []) ++ array (0x03 ∷ []) & tt) none
+  pub middle-servers-only : Never check-list.Post (fullRoom 4 1 & o lends healthy & 0 & 3 & q lends array (0x03 ∷ []) ++ array (0x03 ∷ []) & tt) none
   -- 15 at the earlier of the pair
-  pub earlier-of-the-pair : Never check-list.Post (shapeOf 4 1 & o lends healthy & 0 & 3 & q lends array (0x03 ∷ []) ++ array (0x03 ∷ []) & tt) (refusedAt 15 1 0)
+  pub earlier-of-the-pair : Never check-list.Post (fullRoom 4 1 & o lends healthy & 0 & 3 & q lends array (0x03 ∷ []) ++ array (0x03 ∷ []) & tt) (refusedAt 15 1 0)
   -- the receiver's link forgotten: the level-0 link of 03 is failed
-  pub receiver-forgotten : Never check-list.Post (shapeOf 4 1 & o lends failing 3 1 & 0 & 3 & q lends array (0x03 ∷ []) & tt) none
+  pub receiver-forgotten : Never check-list.Post (fullRoom 4 1 & o lends failing 3 1 & 0 & 3 & q lends array (0x03 ∷ []) & tt) none
   -- a place of the second array counted on from the first: 00 to 03, 03 and then 41 00, whose second hop changes nothing
-  pub hops-counted-on : Never check-list.Post (shapeOf 4 1 & o lends healthy & 0 & 3 & q lends array (0x03 ∷ []) ++ array (0x41 ∷ 0x00 ∷ []) & tt) (refusedAt 10 2 10)
+  pub hops-counted-on : Never check-list.Post (fullRoom 4 1 & o lends healthy & 0 & 3 & q lends array (0x03 ∷ []) ++ array (0x41 ∷ 0x00 ∷ []) & tt) (refusedAt 10 2 10)
   -- 15 tested before all arrays are read: 00 to 03 of (4,2), the route 03 twice, and a third that changes nothing
-  pub pairs-before-routes : Never check-list.Post (shapeOf 4 2 & o lends replicate 64 0 & 0 & 3 & q lends array (0x03 ∷ []) ++ array (0x03 ∷ []) ++ array [] & tt) (refusedAt 15 2 0)
+  pub pairs-before-routes : Never check-list.Post (fullRoom 4 2 & o lends replicate 64 0 & 0 & 3 & q lends array (0x03 ∷ []) ++ array (0x03 ∷ []) ++ array [] & tt) (refusedAt 15 2 0)
   -- an empty list accepted
-  pub empty-list-accepted : Never check-list.Post (shapeOf 4 1 & o lends healthy & 0 & 3 & q lends [] & tt) none
+  pub empty-list-accepted : Never check-list.Post (fullRoom 4 1 & o lends healthy & 0 & 3 & q lends [] & tt) none
   -- 7 tested before 6: a list of nine bytes, a table of none
-  pub list-before-table : Never check-list.Post (shapeOf 4 1 & o lends [] & 0 & 3 & q lends replicate 9 0 & tt) (plain 7)
+  pub list-before-table : Never check-list.Post (fullRoom 4 1 & o lends [] & 0 & 3 & q lends replicate 9 0 & tt) (plain 7)

@@ -3,9 +3,10 @@ use borrow.Author.Needs.{needs}
 use native.Mathlib.Omega.{arith}
 use mathlib.Core.Path.{_≡_, _∙_}
 use Prim.Native.Nat.{suc, _-_, _≤_}
+use Rattle.room.proofs.RefusalLaws.{ends-of}
 use Rattle.build.specs.Built.{builtArrays}
 use Rattle.build.specs.Sets.{setOf}
-use Rattle.build.proofs.ArrayLaws.{ends-of, withPlaces, gather-start, gather-next, gather-end}
+use Rattle.build.proofs.ArrayLaws.{withPlaces, gather-start, gather-next, gather-end}
 use Rattle.build.proofs.SlotLaws.{laid-built, places-small}
 use Rattle.build.proofs.routes.all_routes.Statement.{statement}
 use Rattle.build.proofs.routes.all_routes.Tie as tie

@@ -1,8 +1,8 @@
 -- `build::routes::build_routes` meets its contract. Assumes nothing.
 use borrow.Author.Needs.{needs}
 use mathlib.Core.Path.{sym, ap₂, _∙_}
-use Rattle.room.specs.declared.Refusal.{Refusal}
-use Rattle.room.proofs.RefusalLaws.{answer-refused, answer-given}
+use Rattle.refusals.specs.declared.Refusal.{Refusal}
+use Rattle.refusals.proofs.AnswerLaws.{answer-refused, answer-given}
 use Rattle.build.specs.declared.RouteSet.{RouteSet}
 use Rattle.build.specs.Answers.{buildAnswer, noBuilding}
 use Rattle.build.proofs.routes.build_routes.Statement.{statement}

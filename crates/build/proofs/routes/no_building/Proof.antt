@@ -1,7 +1,7 @@
 -- `build::routes::no_building` meets its contract. Assumes nothing.
 use borrow.Author.Needs.{needs}
 use mathlib.Core.Path.{ap₂}
-use Rattle.room.specs.declared.Refusal.{Refusal}
+use Rattle.refusals.specs.declared.Refusal.{Refusal}
 use Rattle.build.specs.declared.RouteSet.{RouteSet}
 use Rattle.build.proofs.routes.no_building.Statement.{statement}
 use Rattle.build.proofs.routes.no_building.Tie as tie

@@ -11,6 +11,6 @@ answer-line-spec =
     (λ c κs. search needs)
     (λ c κs. search needs)
     (λ c κs. search needs)
-    (λ c. desk-asked (c .before .before .before .before .before .args .input .now) _ _ _ (c .before .before .before .question-of .ensures) (c .before .before .if1 .taken) (c .before .new .ensures) (c .built-text .ensures))
+    (λ c. desk-asked (c .before .before .before .before .before .args .input .now) _ _ _ (c .before .before .before .question-of .ensures) (c .before .before .if1 .taken) (c .before .full .ensures) (c .built-text .ensures))
     (λ c κs. search needs)
     (λ c. desk-other (c .before .before .before .before .args .input .now) _ _ (c .before .before .question-of .ensures) (c .before .if1 .left) (c .input-text .ensures)))

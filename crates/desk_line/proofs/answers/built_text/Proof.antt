@@ -2,7 +2,7 @@
 use native.Mathlib.Omega.{arith}
 use borrow.Author.Needs.{needs}
 use mathlib.Core.Path.{_≡_, sym, _∙_}
-use Rattle.path.specs.Answers.{endsRefusal}
+use Rattle.room.specs.Refusals.{endsRefusal}
 use Rattle.desk_line.proofs.AnswerLaws.{ends-le, built-number, built-routes, text-refused, text-built}
 use Rattle.desk_line.proofs.answers.built_text.Statement.{statement}
 use Rattle.desk_line.proofs.answers.built_text.Tie as tie

@@ -2,7 +2,7 @@
 use native.Mathlib.Omega.{arith}
 use borrow.Author.Needs.{needs}
 use Prim.Native.Nat.{suc, _-_}
-use Rattle.build.proofs.ArrayLaws.{ends-of}
+use Rattle.room.proofs.RefusalLaws.{ends-of}
 use Rattle.desk_line.proofs.AnswerLaws.{Printed, print-start, print-room, print-next, print-end}
 use Rattle.desk_line.proofs.answers.routes_text.Statement.{statement}
 use Rattle.desk_line.proofs.answers.routes_text.Tie as tie

@@ -5,8 +5,8 @@ use mathlib.Core.Path.{ap, _∙_}
 use Prim.Native.Nat.{_≤_}
 use mathlib.Core.List.{List, _++_}
 use Prim.Native.Nat.{ℕ}
+use Rattle.room.proofs.RefusalLaws.{ends-of}
 use Rattle.path.specs.declared.Reading.{Reading}
-use Rattle.build.proofs.ArrayLaws.{ends-of}
 use Rattle.desk_line.specs.Texts.{textOf, shown}
 use Rattle.desk_line.proofs.AnswerLaws.{found, placed-line, set-long}
 use Rattle.desk_line.proofs.answers.with_place.Statement.{statement}

@@ -2,8 +2,8 @@
 use borrow.Author.Needs.{needs}
 use mathlib.Core.Path.{ap, _∙_}
 use denote.Ref.{now}
+use Rattle.refusals.specs.declared.Refusal.{Refusal}
 use Rattle.room.specs.declared.Shape.{Shape}
-use Rattle.room.specs.declared.Refusal.{Refusal}
 use Rattle.links.specs.Servers.{serverAnswer, markedServer}
 use Rattle.driver.specs.Words.{word}
 use Rattle.driver.proofs.WordLaws.{said}

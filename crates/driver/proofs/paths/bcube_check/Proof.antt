@@ -1,8 +1,8 @@
 -- `driver::paths::bcube_check` meets its contract. Assumes nothing.
 use borrow.Author.Needs.{needs}
 use denote.Ref.{now}
+use Rattle.refusals.specs.declared.Refusal.{Refusal}
 use Rattle.room.specs.declared.Shape.{Shape}
-use Rattle.room.specs.declared.Refusal.{Refusal}
 use Rattle.verdict.specs.Checks.{checkAnswer}
 use Rattle.driver.proofs.WordLaws.{told-fits, told-word}
 use Rattle.driver.proofs.PathSmall.{check-small}

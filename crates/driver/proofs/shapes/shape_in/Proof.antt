@@ -12,4 +12,4 @@ shape-in-spec =
     -- new-requires
     (λ c κs. search needs)
     -- returns
-    (λ c. c .new .ensures))
+    (λ c. c .full .ensures))

@@ -11,6 +11,6 @@ find-route-spec =
     (tie.spec
     (λ c κs. search needs)
     (λ c κs. search needs)
-    (λ c. refused-answer _ (c .before .before .find-refusal .ensures) (c .before .if1 .taken) _ (c .no-route .ensures))
-    (λ c κs. sym (c .before .find-refusal .ensures) ∙ c .if1 .left)
+    (λ c. refused-answer _ (c .before .before .room-refusal .ensures) (c .before .if1 .taken) _ (c .no-route .ensures))
+    (λ c κs. sym (c .before .room-refusal .ensures) ∙ c .if1 .left)
     (λ c. c .search .ensures))

@@ -1,6 +1,6 @@
 -- `links::bits::without_bit` meets its contract. Assumes nothing.
 use borrow.Author.Needs.{needs}
-use Rattle.links.proofs.LinkLaws.{lower-kept, lower-made, lower-fits}
+use Rattle.links.proofs.LinkLaws.{put-kept, lower-made, lower-fits}
 use Rattle.links.proofs.bits.without_bit.Statement.{statement}
 use Rattle.links.proofs.bits.without_bit.Tie as tie
 
@@ -12,4 +12,4 @@ without-bit-spec =
     (λ c κs. search needs)
     (λ c. search lower-fits)
     (λ c. search lower-made)
-    (λ c. search lower-kept))
+    (λ c. search put-kept))

@@ -1,6 +1,6 @@
 -- `links::links::table_link_refusal` meets its contract. Assumes nothing.
 use borrow.Author.Needs.{needs}
-use Rattle.room.proofs.RefusalLaws.{chain-stops, chain-goes}
+use Rattle.refusals.proofs.ChainLaws.{chain-stops, chain-goes}
 use Rattle.links.specs.Table.{tableLinkRefusal}
 use Rattle.links.proofs.LinkLaws.{link-shape}
 use Rattle.links.proofs.links.table_link_refusal.Statement.{statement}

@@ -1,6 +1,6 @@
 -- `links::servers::table_server_refusal` meets its contract. Assumes nothing.
 use borrow.Author.Needs.{needs}
-use Rattle.room.proofs.RefusalLaws.{chain-stops, chain-goes}
+use Rattle.refusals.proofs.ChainLaws.{chain-stops, chain-goes}
 use Rattle.links.specs.Servers.{tableServerRefusal}
 use Rattle.links.proofs.ServerLaws.{server-shape}
 use Rattle.links.proofs.servers.table_server_refusal.Statement.{statement}
@@ -14,6 +14,6 @@ table-server-refusal-spec =
     -- server-refusal-requires, returns
     (λ c κs. search needs)
     (λ c. search chain-stops)
-    -- room-refusal-requires, returns-2
+    -- own-refusal-requires, returns-2
     (λ c κs. search server-shape)
     (λ c. search chain-goes))

@@ -1,20 +1,20 @@
 -- `links::tables::bits_fit` meets its contract. Assumes nothing.
 use native.Mathlib.Omega.{arith}
 use borrow.Author.Needs.{needs}
-use mathlib.Core.Path.{_≡_, refl, sym, _∙_}
-use Prim.Native.Nat.{_≤_, _-_}
+use mathlib.Core.Logic.{⊎-elim}
+use mathlib.Core.Path.{_≡_}
+use Prim.Native.Nat.{_≤_, _-_, max}
 use lib.ListN.{length, drop}
-use denote.Ref.{now}
-use Rattle.links.specs.Table.{bitsFit}
-use Rattle.links.proofs.TableLaws.{fits-step, fits-stop, fits-done}
+use Rattle.links.proofs.LinkLaws.{greatest, greatest-next, greatest-end}
 use Rattle.links.proofs.tables.bits_fit.Statement.{statement}
 use Rattle.links.proofs.tables.bits_fit.Tie as tie
 
+-- the greatest so far and of the rest is the greatest of all
 abbrev Inv-loop : tie.InvT-loop
-Inv-loop k table above i₀ i = (i ≤ length table) × (bitsFit k (drop i table) ≡ bitsFit k table)
+Inv-loop k table most₀ i₀ most i = (i ≤ length table) × (max most (greatest (drop i table)) ≡ greatest table)
 
 abbrev μ-loop : tie.MeasureT-loop
-μ-loop k table above i₀ i = length table - i
+μ-loop k table most₀ i₀ most i = length table - i
 
 pub bits-fit-spec : {M : Type 1} → statement M
 bits-fit-spec =
@@ -22,12 +22,14 @@ bits-fit-spec =
     (tie.spec
     Inv-loop
     μ-loop
-    (λ c. omega arith)
-    (λ c κs. omega arith)
-    (λ c. (omega arith, refl))
+    (λ c. (omega arith, omega arith))
     (λ c. search needs)
-    (λ c. let a = c .before .before .before .before .before .before .args in let g = c .before .before .before .loop in let t = now (a .table) in sym (fits-stop (a .k) _ (g .i) t (c .before .before .before .before .weight .ensures) (omega arith) (c .if1 .taken)) ∙ g .inv .1)
-    (λ c. omega arith)
-    (λ c. omega arith)
-    (λ c. let a = c .before .before .before .before .before .before .args in let g = c .before .before .before .loop in let t = now (a .table) in (omega arith, sym (fits-step (a .k) _ (g .i) t (c .before .before .before .before .weight .ensures) (omega arith) (c .if1 .left)) ∙ g .inv .1))
-    (λ c. let a = c .before .before .before .before .args in let g = c .before .loop in let t = now (a .table) in sym (fits-done (a .k) (g .i) t (omega arith)) ∙ g .inv .1))
+    (λ c. search needs)
+    (λ c. search needs)
+    (λ c.
+    let g = c .before .before .before .loop in
+    let n = greatest-next (c .before .before .before .before .before .args .table .now) (g .i) (omega arith) in
+    ⊎-elim (λ w. (omega arith, omega arith)) (λ w. (omega arith, omega arith)) (c .if1 .came))
+    (λ c. search needs)
+    (λ c κs. search needs)
+    (λ c. search greatest-end))

@@ -1,6 +1,6 @@
 -- `links::tables::table_refusal` meets its contract. Assumes nothing.
 use borrow.Author.Needs.{needs}
-use Rattle.room.proofs.RefusalLaws.{chain-stops, chain-goes}
+use Rattle.refusals.proofs.ChainLaws.{chain-stops, chain-goes}
 use Rattle.links.specs.Table.{roomTableRefusal}
 use Rattle.links.proofs.tables.table_refusal.Statement.{statement}
 use Rattle.links.proofs.tables.table_refusal.Tie as tie

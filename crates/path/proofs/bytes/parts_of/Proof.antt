@@ -13,11 +13,13 @@ parts-of-spec =
     (λ c κs. search needs)
     (λ c κs. search needs)
     (λ c. search parts-shape)
-    -- at-requires, no-parts-requires-2, returns-2: 8
+    -- level-of-requires, at-requires, no-parts-requires-2, returns-2: 8
+    (λ c κs. search needs)
     (λ c κs. search needs)
     (λ c κs. search needs)
     (λ c. search parts-level)
-    -- bound-of-requires, at-requires-2, no-parts-requires-3, returns-3: 9
+    -- value-of-requires, digit-bound-requires, at-requires-2, no-parts-requires-3, returns-3: 9
+    (λ c κs. search needs)
     (λ c κs. search needs)
     (λ c κs. search needs)
     (λ c κs. search needs)

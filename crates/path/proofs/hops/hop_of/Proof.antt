@@ -1,10 +1,9 @@
 -- `path::hops::hop_of` meets its contract. Assumes nothing.
 use borrow.Author.Needs.{needs}
 use mathlib.Core.Path.{sym, _∙_}
-use Rattle.room.proofs.RefusalLaws.{answer-refused, answer-given}
+use Rattle.refusals.proofs.AnswerLaws.{answer-refused, answer-given, answer-chain}
 use Rattle.path.specs.Answers.{noHop, hopAnswer}
 use Rattle.path.specs.Inside.{hopFrom}
-use Rattle.path.proofs.HopSteps.{answer-chain}
 use Rattle.path.proofs.hops.hop_of.Statement.{statement}
 use Rattle.path.proofs.hops.hop_of.Tie as tie
 

@@ -4,8 +4,8 @@ use native.Mathlib.Omega.{arith}
 use mathlib.Core.Path.{_≡_, refl, sym, _∙_}
 use Prim.Native.Nat.{_≤_, _-_}
 use lib.ListN.{length, drop}
-use Rattle.path.specs.Lists.{isIn}
-use Rattle.path.proofs.ListSteps.{isIn-hit, isIn-miss, isIn-end}
+use Rattle.lists.specs.Lists.{isIn}
+use Rattle.lists.proofs.ListLaws.{isIn-hit, isIn-miss, isIn-end}
 use Rattle.path.proofs.repeats.is_among.Statement.{statement}
 use Rattle.path.proofs.repeats.is_among.Tie as tie
 

@@ -2,8 +2,9 @@
 use borrow.Author.Needs.{needs}
 use native.Mathlib.Omega.{arith}
 use Rattle.room.proofs.RefusalLaws.{link-of}
+use Rattle.room.proofs.RoomLaws.{switch-small}
 use Rattle.path.specs.Routes.{switchAt}
-use Rattle.path.proofs.HopSteps.{switch-found, switch-small}
+use Rattle.path.proofs.HopLaws.{switch-found}
 use Rattle.path.proofs.repeats.switch_at.Statement.{statement}
 use Rattle.path.proofs.repeats.switch_at.Tie as tie
 

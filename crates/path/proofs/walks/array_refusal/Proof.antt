@@ -1,8 +1,7 @@
 -- `path::walks::array_refusal` meets its contract. Assumes nothing.
 use borrow.Author.Needs.{needs}
-use Rattle.room.proofs.RefusalLaws.{chain-goes, chain-stops}
+use Rattle.refusals.proofs.ChainLaws.{chain-goes, chain-stops, same-passed, apart-refused}
 use Rattle.path.specs.Answers.{arrayRefusal}
-use Rattle.path.proofs.WalkLaws.{same-passed, apart-refused}
 use Rattle.path.proofs.walks.array_refusal.Statement.{statement}
 use Rattle.path.proofs.walks.array_refusal.Tie as tie
 

@@ -6,7 +6,8 @@ use Prim.Native.Nat.{_+_, _-_}
 use lib.ListN.{length}
 use lib.Seq.{length-take-le}
 use Rattle.room.proofs.RefusalLaws.{pair-none}
-use Rattle.path.proofs.WriteLaws.{Way, write-fine, way-start, way-stop, way-next, way-end}
+use Rattle.path.proofs.CodecLaws.{listed-of}
+use Rattle.path.proofs.WriteLaws.{Way, way-start, way-stop, way-next, way-end}
 use Rattle.path.proofs.writings.on_the_way.Statement.{statement}
 use Rattle.path.proofs.writings.on_the_way.Tie as tie
 
@@ -22,7 +23,7 @@ on-the-way-spec =
     (tie.spec
     Inv-loop
     μ-loop
-    (λ c. way-start _ _ (write-fine _ _ (c .before .pre)))
+    (λ c. way-start _ _ (listed-of _ _ (c .before .pre)))
     (λ c. search needs)
     (λ c. search needs)
     (λ c. sym (length-take-le (c .before .before .loop .i + 1) (c .before .before .before .before .args .servers .now) (omega arith)))
@@ -32,7 +33,7 @@ on-the-way-spec =
     (λ c. search needs)
     (λ c. search needs)
     (λ c. search needs)
-    (λ c κs. let g = c .before .before .before .before .before .loop .inv .fine in sym (pair-none (g .servers _ (omega arith)) (g .servers _ (c .before .before .before .before .loop-test .taken))))
+    (λ c κs. let g = c .before .before .before .before .before .loop .inv .fine in sym (pair-none (g .servers .each _ (omega arith)) (g .servers .each _ (c .before .before .before .before .loop-test .taken))))
     (λ c κs. search needs)
     (λ c. c .at .ensures ∙ way-stop (c .before .before .before .before .before .before .before .before .before .loop .inv) (c .before .before .before .before .before .before .before .before .loop-test .taken) _ (c .before .before .before .try-next .ensures) (c .before .if1 .taken))
     (λ c. search needs)

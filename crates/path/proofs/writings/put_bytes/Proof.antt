@@ -1,10 +1,8 @@
 -- `path::writings::put_bytes` meets its contract. Assumes nothing.
 use borrow.Author.Needs.{needs}
-use native.Mathlib.Omega.{arith}
 use Prim.Native.Nat.{_-_}
-use native.Mathlib.Numerals.{add-one}
 use lib.ListN.{length}
-use Rattle.path.proofs.WriteLaws.{Putting, put-start, put-next, put-end}
+use Rattle.path.proofs.WriteLaws.{Putting, route-next, put-start, put-next, put-end}
 use Rattle.path.proofs.writings.put_bytes.Statement.{statement}
 use Rattle.path.proofs.writings.put_bytes.Tie as tie
 
@@ -27,9 +25,7 @@ put-bytes-spec =
     (λ c. search needs)
     (λ c. search needs)
     (λ c. search needs)
-    (λ c κs.
-    let i = c .before .before .before .loop .i in
-    rw add-one (c .before .before .before .before .before .pre .next i (omega arith)))
+    (λ c κs. search route-next)
     (λ c. search needs)
     (λ c. search needs)
     (λ c. put-next (c .before .before .before .before .loop .inv) (c .before .before .before .loop-test .taken) (c .before .before .before .before .before .before .pre .few) _ (c .byte-to .ensures))

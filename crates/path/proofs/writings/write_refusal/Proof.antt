@@ -3,9 +3,8 @@ use borrow.Author.Needs.{needs}
 use native.Mathlib.Omega.{arith}
 use lib.ListN.{length}
 use mathlib.Core.Path.{refl}
-use Rattle.room.proofs.RefusalLaws.{chain-goes, chain-stops}
+use Rattle.refusals.proofs.ChainLaws.{chain-goes, chain-stops, same-refused, apart-passed}
 use Rattle.path.specs.Answers.{writeRefusal}
-use Rattle.path.proofs.WalkLaws.{same-refused, apart-passed}
 use Rattle.path.proofs.WriteLaws.{few-refused, many-refused, count-passed}
 use Rattle.path.proofs.writings.write_refusal.Statement.{statement}
 use Rattle.path.proofs.writings.write_refusal.Tie as tie

@@ -1,6 +1,6 @@
 -- `pick::lengths::lists_refusal` meets its contract. Assumes nothing.
 use borrow.Author.Needs.{needs}
-use Rattle.room.proofs.RefusalLaws.{chain-stops, chain-goes}
+use Rattle.refusals.proofs.ChainLaws.{chain-stops, chain-goes}
 use Rattle.verdict.proofs.LengthLaws.{room-levels}
 use Rattle.pick.proofs.LengthLaws.{both-fit, first-unfit, second-unfit}
 use Rattle.pick.specs.Picks.{listsRefusal}

@@ -1,7 +1,7 @@
 -- `pick::picks::a_place` meets its contract. Assumes nothing.
 use borrow.Author.Needs.{needs}
 use mathlib.Core.Path.{ap}
-use Rattle.room.specs.declared.Refusal.{Refusal}
+use Rattle.refusals.specs.declared.Refusal.{Refusal}
 use Rattle.pick.proofs.picks.a_place.Statement.{statement}
 use Rattle.pick.proofs.picks.a_place.Tie as tie
 

@@ -1,7 +1,8 @@
 -- `room::addresses::address_of` meets its contract. Assumes nothing.
 use borrow.Author.Needs.{needs}
 use mathlib.Core.Path.{sym, ap, _∙_}
-use Rattle.room.proofs.RefusalLaws.{answer-refused, answer-given, places-of}
+use Rattle.refusals.proofs.AnswerLaws.{answer-refused, answer-given}
+use Rattle.room.proofs.RefusalLaws.{places-of}
 use Rattle.room.proofs.RoomLaws.{places-below}
 use Rattle.room.specs.Answers.{addressAnswer, aNumber, noNumber}
 use Rattle.room.proofs.addresses.address_of.Statement.{statement}

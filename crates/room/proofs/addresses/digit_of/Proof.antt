@@ -5,7 +5,8 @@ use native.Mathlib.Omega.{arith}
 use Prim.Native.Nat.{ℕ}
 use mathlib.Core.List.{List}
 use lib.ListN.{getD}
-use Rattle.room.proofs.RefusalLaws.{answer-refused, answer-given, link-of, server-none}
+use Rattle.refusals.proofs.AnswerLaws.{answer-refused, answer-given}
+use Rattle.room.proofs.RefusalLaws.{link-of, server-none}
 use Rattle.room.proofs.RoomLaws.{place-digit}
 use Rattle.room.specs.Answers.{digitAnswer, aNumber, noNumber}
 use Rattle.room.proofs.addresses.digit_of.Statement.{statement}

@@ -3,8 +3,8 @@ use borrow.Author.Needs.{needs}
 use mathlib.Core.Path.{ap₂}
 use Prim.Native.Nat.{ℕ}
 use mathlib.Core.List.{List}
-use Rattle.room.specs.declared.Refusal.{Refusal}
-use Rattle.room.proofs.RefusalLaws.{answer-refused, answer-given}
+use Rattle.refusals.specs.declared.Refusal.{Refusal}
+use Rattle.refusals.proofs.AnswerLaws.{answer-refused, answer-given}
 use Rattle.room.specs.Answers.{digitsAnswer, noDigits}
 use Rattle.room.proofs.addresses.digits_of.Statement.{statement}
 use Rattle.room.proofs.addresses.digits_of.Tie as tie

@@ -1,7 +1,7 @@
 -- `room::answers::no_digits` meets its contract. Assumes nothing.
 use mathlib.Core.Path.{ap}
 use borrow.Author.Needs.{needs}
-use Rattle.room.specs.declared.Refusal.{Refusal}
+use Rattle.refusals.specs.declared.Refusal.{Refusal}
 use lib.ListN.{replicate}
 use Rattle.room.proofs.answers.no_digits.Statement.{statement}
 use Rattle.room.proofs.answers.no_digits.Tie as tie

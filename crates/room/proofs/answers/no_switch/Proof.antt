@@ -1,7 +1,7 @@
 -- `room::answers::no_switch` meets its contract. Assumes nothing.
 use mathlib.Core.Path.{ap}
 use borrow.Author.Needs.{needs}
-use Rattle.room.specs.declared.Refusal.{Refusal}
+use Rattle.refusals.specs.declared.Refusal.{Refusal}
 use Rattle.room.proofs.answers.no_switch.Statement.{statement}
 use Rattle.room.proofs.answers.no_switch.Tie as tie
 

@@ -3,7 +3,8 @@ use borrow.Author.Needs.{needs}
 use mathlib.Core.Path.{sym, ap, _∙_}
 use mathlib.Core.Path.{ap₂}
 use Rattle.room.specs.Digits.{differFrom}
-use Rattle.room.proofs.RefusalLaws.{answer-refused, answer-given, pair-of, server-none}
+use Rattle.refusals.proofs.AnswerLaws.{answer-refused, answer-given}
+use Rattle.room.proofs.RefusalLaws.{pair-of, server-none}
 use Rattle.room.proofs.RoomLaws.{differ-four}
 use Rattle.room.specs.Answers.{betweenAnswer, noBetween, onlyLevel}
 use Rattle.room.proofs.neighbours.level_between.Statement.{statement}

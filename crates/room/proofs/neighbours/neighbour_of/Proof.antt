@@ -1,7 +1,7 @@
 -- `room::neighbours::neighbour_of` meets its contract. Assumes nothing.
 use borrow.Author.Needs.{needs}
 use mathlib.Core.Path.{ap, _∙_}
-use Rattle.room.proofs.RefusalLaws.{answer-refused, answer-given}
+use Rattle.refusals.proofs.AnswerLaws.{answer-refused, answer-given}
 use Rattle.room.specs.Answers.{neighbourAnswer, aNumber, noNumber}
 use Rattle.room.proofs.neighbours.neighbour_of.Statement.{statement}
 use Rattle.room.proofs.neighbours.neighbour_of.Tie as tie

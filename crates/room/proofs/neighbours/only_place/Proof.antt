@@ -6,7 +6,7 @@ use mathlib.Core.Logic.{⊎-elim}
 use Prim.Native.Nat.{_≤_, _-_, _+_}
 use mathlib.Core.Bool.{true}
 use lib.ListN.{length, drop}
-use Rattle.room.specs.declared.Refusal.{Refusal}
+use Rattle.refusals.specs.declared.Refusal.{Refusal}
 use Rattle.room.specs.Digits.{differFrom}
 use Rattle.room.proofs.RoomLaws.{differ-step, differ-here, differ-end}
 use Rattle.room.proofs.FourPlaces.{tally, tally-whole, tally-next, tally-none, tally-one}

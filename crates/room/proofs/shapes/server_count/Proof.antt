@@ -1,8 +1,6 @@
 -- `room::shapes::server_count` meets its contract. Assumes nothing.
-use mathlib.Core.Path.{_∙_}
-use native.Mathlib.Omega.{arith}
-use Rattle.room.proofs.RefusalLaws.{valid-of}
-use Rattle.room.proofs.RoomLaws.{servers-power}
+use borrow.Author.Needs.{needs}
+use Rattle.room.proofs.PowerLaws.{count-fits, count-made}
 use Rattle.room.proofs.shapes.server_count.Statement.{statement}
 use Rattle.room.proofs.shapes.server_count.Tie as tie
 
@@ -10,6 +8,6 @@ pub server-count-spec : {M : Type 1} → statement M
 server-count-spec =
     tie.close
     (tie.spec
-    (λ c. let v = valid-of _ (c .before .pre) in omega arith)
-    (λ c κs. let v = valid-of _ (c .before .pre) in omega arith)
-    (λ c. c .power .ensures ∙ servers-power _))
+    (λ c κs. search needs)
+    (λ c. search count-fits)
+    (λ c. search count-made))

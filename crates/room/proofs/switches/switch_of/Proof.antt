@@ -2,8 +2,8 @@
 use borrow.Author.Needs.{needs}
 use mathlib.Core.Path.{ap₂}
 use Prim.Native.Nat.{ℕ}
-use Rattle.room.specs.declared.Refusal.{Refusal}
-use Rattle.room.proofs.RefusalLaws.{answer-refused, answer-given}
+use Rattle.refusals.specs.declared.Refusal.{Refusal}
+use Rattle.refusals.proofs.AnswerLaws.{answer-refused, answer-given}
 use Rattle.room.specs.Answers.{switchAnswer, noSwitch}
 use Rattle.room.proofs.switches.switch_of.Statement.{statement}
 use Rattle.room.proofs.switches.switch_of.Tie as tie

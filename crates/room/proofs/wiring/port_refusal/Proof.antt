@@ -2,8 +2,9 @@
 use native.Mathlib.Omega.{arith}
 use borrow.Author.Needs.{needs}
 use mathlib.Core.Path.{sym, _∙_}
+use Rattle.refusals.proofs.ChainLaws.{chain-stops}
 use Rattle.room.specs.Wiring.{portRefusal}
-use Rattle.room.proofs.RefusalLaws.{chain-stops, level-of, valid-none}
+use Rattle.room.proofs.RefusalLaws.{level-of, valid-none}
 use Rattle.room.proofs.WiringLaws.{no-switch, no-port, port-none}
 use Rattle.room.proofs.wiring.port_refusal.Statement.{statement}
 use Rattle.room.proofs.wiring.port_refusal.Tie as tie

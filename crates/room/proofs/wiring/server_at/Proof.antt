@@ -1,9 +1,9 @@
 -- `room::wiring::server_at` meets its contract. Assumes nothing.
 use borrow.Author.Needs.{needs}
 use mathlib.Core.Path.{ap, _∙_}
+use Rattle.refusals.proofs.AnswerLaws.{answer-refused, answer-given}
 use Rattle.room.specs.Answers.{aNumber, noNumber}
 use Rattle.room.specs.Wiring.{serverAtAnswer}
-use Rattle.room.proofs.RefusalLaws.{answer-refused, answer-given}
 use Rattle.room.proofs.wiring.server_at.Statement.{statement}
 use Rattle.room.proofs.wiring.server_at.Tie as tie
 

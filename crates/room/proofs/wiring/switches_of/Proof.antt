@@ -1,9 +1,10 @@
 -- `room::wiring::switches_of` meets its contract. Assumes nothing.
 use borrow.Author.Needs.{needs}
 use mathlib.Core.Path.{sym, ap, _∙_}
+use Rattle.refusals.proofs.AnswerLaws.{answer-refused, answer-given}
 use Rattle.room.specs.Answers.{aNumber, noNumber}
 use Rattle.room.specs.Wiring.{switchesAnswer}
-use Rattle.room.proofs.RefusalLaws.{answer-refused, answer-given, level-of, valid-none}
+use Rattle.room.proofs.RefusalLaws.{level-of, valid-none}
 use Rattle.room.proofs.wiring.switches_of.Statement.{statement}
 use Rattle.room.proofs.wiring.switches_of.Tie as tie
 

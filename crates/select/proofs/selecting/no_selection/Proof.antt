@@ -1,7 +1,7 @@
 -- `select::selecting::no_selection` meets its contract. Assumes nothing.
 use borrow.Author.Needs.{needs}
 use mathlib.Core.Path.{ap₂}
-use Rattle.room.specs.declared.Refusal.{Refusal}
+use Rattle.refusals.specs.declared.Refusal.{Refusal}
 use Rattle.build.specs.declared.RouteSet.{RouteSet}
 use Rattle.select.proofs.selecting.no_selection.Statement.{statement}
 use Rattle.select.proofs.selecting.no_selection.Tie as tie

@@ -15,7 +15,7 @@ select-routes-spec =
     (λ c. search selecting-refused)
     -- build-routes-requires, settle-slots-requires
     (λ c κs. search needs)
-    (λ c κs. (search built-answered, sym (c .before .before .before .select-refusal .ensures) ∙ c .before .before .if1 .left))
+    (λ c κs. (search built-answered, sym (c .before .before .before .room-refusal .ensures) ∙ c .before .before .if1 .left))
     -- no-selection-requires-2, returns-2: 16
     (λ c κs. search needs)
     (λ c. search selecting-none)

@@ -3,7 +3,7 @@ use native.Mathlib.Omega.{arith}
 use borrow.Author.Needs.{needs}
 use mathlib.Core.Path.{refl, ap, _∙_}
 use mathlib.Core.Bool.{true}
-use Rattle.room.specs.declared.Refusal.{Refusal}
+use Rattle.refusals.specs.declared.Refusal.{Refusal}
 use Rattle.step.specs.Steps.{entry, portAt, standing}
 use Rattle.step.proofs.StepLaws.{step-refused, step-here, step-facts, step-made}
 use Rattle.step.proofs.steps.step_once.Statement.{statement}

@@ -3,7 +3,7 @@ use native.Mathlib.Omega.{arith}
 use borrow.Author.Needs.{needs}
 use mathlib.Core.Path.{refl}
 use borrow.Author.Tests.{eq-eqb, ne-eqb}
-use Rattle.room.proofs.RefusalLaws.{chain-stops, chain-goes}
+use Rattle.refusals.proofs.ChainLaws.{chain-stops, chain-goes}
 use Rattle.step.specs.Steps.{givenRefusal}
 use Rattle.step.proofs.tests.given_refusal.Statement.{statement}
 use Rattle.step.proofs.tests.given_refusal.Tie as tie
@@ -14,7 +14,7 @@ given-refusal-spec =
     tie.close
     (tie.spec
     (λ c κs. search needs)
-    (λ c. chain-stops _ _ _ (chain-stops _ _ _ (c .before .ends-refusal .ensures) (c .if1 .taken)) (c .if1 .taken))
-    (λ c. chain-stops _ _ _ (chain-goes _ _ _ _ (c .before .before .ends-refusal .ensures) (c .before .if1 .left) (rw (ne-eqb _ _ (c .if2 .taken)))) (λ z. omega arith))
-    (λ c. chain-goes _ _ _ _ (chain-goes _ _ _ _ (c .before .before .before .ends-refusal .ensures) (c .before .before .if1 .left) (rw (eq-eqb _ _ (c .before .if2 .left)))) refl (rw (ne-eqb _ _ (c .if3 .taken))))
-    (λ c. chain-goes _ _ _ _ (chain-goes _ _ _ _ (c .before .before .before .ends-refusal .ensures) (c .before .before .if1 .left) (rw (eq-eqb _ _ (c .before .if2 .left)))) refl (rw (eq-eqb _ _ (c .if3 .left)))))
+    (λ c. chain-stops _ _ _ (chain-stops _ _ _ (c .before .pair-refusal .ensures) (c .if1 .taken)) (c .if1 .taken))
+    (λ c. chain-stops _ _ _ (chain-goes _ _ _ _ (c .before .before .pair-refusal .ensures) (c .before .if1 .left) (rw (ne-eqb _ _ (c .if2 .taken)))) (λ z. omega arith))
+    (λ c. chain-goes _ _ _ _ (chain-goes _ _ _ _ (c .before .before .before .pair-refusal .ensures) (c .before .before .if1 .left) (rw (eq-eqb _ _ (c .before .if2 .left)))) refl (rw (ne-eqb _ _ (c .if3 .taken))))
+    (λ c. chain-goes _ _ _ _ (chain-goes _ _ _ _ (c .before .before .before .pair-refusal .ensures) (c .before .before .if1 .left) (rw (eq-eqb _ _ (c .before .if2 .left)))) refl (rw (eq-eqb _ _ (c .if3 .left)))))

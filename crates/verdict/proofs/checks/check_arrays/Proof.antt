@@ -1,11 +1,8 @@
 -- `verdict::checks::check_arrays` meets its contract. Assumes nothing.
 use borrow.Author.Needs.{needs}
-use native.Mathlib.Omega.{arith}
-use mathlib.Core.Path.{_≡_, refl, _∙_}
 use Prim.Native.Nat.{_-_, _/_}
 use lib.ListN.{length}
-use Rattle.verdict.proofs.LengthLaws.{list-few}
-use Rattle.verdict.proofs.ListWalk.{Walking, walking-none, walking-stops, walking-goes, walking-ends}
+use Rattle.verdict.proofs.ListWalk.{Walking, walking-none, walking-stops, walking-goes, walking-all, walking-ends}
 use Rattle.verdict.proofs.checks.check_arrays.Statement.{statement}
 use Rattle.verdict.proofs.checks.check_arrays.Tie as tie
 
@@ -21,29 +18,26 @@ check-arrays-spec =
     (tie.spec
     Inv-loop
     μ-loop
+    -- before the loop
     (λ c κs. search needs)
-    (λ c. walking-none _ _ _ _ _ _ refl)
-    (λ c. let f = list-few _ _ _ _ _ (c .before .before .before .before .before .pre) in omega arith)
-    (λ c. let f = list-few _ _ _ _ _ (c .before .before .before .before .before .pre) in omega arith)
-    (λ c. omega arith)
-    (λ c. let f = list-few _ _ _ _ _ (c .before .before .before .before .before .pre) in omega arith)
-    (λ c. let f = list-few _ _ _ _ _ (c .before .before .before .before .before .pre) in omega arith)
+    (λ c. search walking-none)
+    -- the eight bytes of an array
+    (λ c. search needs)
+    (λ c. search needs)
+    (λ c. search needs)
+    (λ c. search needs)
+    (λ c. search needs)
     (λ c κs. search needs)
-    (λ c. let f = list-few _ _ _ _ _ (c .before .before .before .before .before .before .before .before .before .before .pre) in omega (arith, c .before .before .before .before .before .before .loop .inv .within))
+    -- refused
+    (λ c. search needs)
     (λ c κs. search needs)
-    (λ c.
-    let a = c .before .before .before .before .before .before .before .before .before .before .before .args in
-    let g = c .before .before .before .before .before .before .before .loop in
-    let f = list-few _ _ _ _ _ (c .before .before .before .before .before .before .before .before .before .before .before .pre) in
-    c .at .ensures ∙ walking-stops _ _ _ _ _ (g .walks) (g .i) (g .inv) (omega arith) (omega arith) _ (c .before .before .before .before .walk .ensures) (c .before .if1 .taken))
-    (λ c. let f = list-few _ _ _ _ _ (c .before .before .before .before .before .before .before .before .before .before .pre) in omega (arith, c .before .before .before .before .before .before .loop .inv .within))
-    (λ c. let f = list-few _ _ _ _ _ (c .before .before .before .before .before .before .before .before .before .before .pre) in omega (arith, c .before .before .before .before .before .before .loop .inv .within))
-    (λ c. let f = list-few _ _ _ _ _ (c .before .before .before .before .before .before .before .before .before .before .pre) in omega (arith, c .before .before .before .before .before .before .loop .inv .within))
-    (λ c. omega arith)
-    (λ c.
-    let a = c .before .before .before .before .before .before .before .before .before .before .args in
-    let g = c .before .before .before .before .before .before .loop in
-    let f = list-few _ _ _ _ _ (c .before .before .before .before .before .before .before .before .before .before .pre) in
-    walking-goes _ _ _ _ _ (g .walks) (g .i) (g .inv) (omega arith) (omega arith) _ (c .before .before .before .walk .ensures) (c .if1 .left))
-    (λ c κs. let f = list-few _ _ _ _ _ (c .before .before .before .before .before .pre) in let g = c .before .loop in let q : g .i ≡ length (c .before .before .before .before .before .args .list .now) / 8 = omega (arith, g .inv .within) in (omega arith, record { long = g .inv .arrived .long; each = λ j p. g .inv .arrived .each j (omega arith) }))
-    (λ c. let g = c .before .before .loop in c .first-pair .ensures ∙ walking-ends _ _ _ _ _ (g .walks) (g .i) (g .inv) (omega arith)))
+    (λ c. search walking-stops)
+    -- kept, and on to the next
+    (λ c. search needs)
+    (λ c. search needs)
+    (λ c. search needs)
+    (λ c. search needs)
+    (λ c. search walking-goes)
+    -- every two
+    (λ c κs. (search needs, search walking-all))
+    (λ c. search walking-ends))

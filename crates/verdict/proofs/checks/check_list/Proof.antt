@@ -1,7 +1,7 @@
 -- `verdict::checks::check_list` meets its contract. Assumes nothing.
 use borrow.Author.Needs.{needs}
-use Rattle.room.proofs.RefusalLaws.{answer-refused, answer-given}
-use Rattle.room.specs.Refusals.{plain}
+use Rattle.refusals.proofs.AnswerLaws.{answer-refused, answer-given}
+use Rattle.refusals.specs.Refusals.{plain}
 use Rattle.verdict.specs.Checks.{checkAnswer}
 use Rattle.verdict.proofs.checks.check_list.Statement.{statement}
 use Rattle.verdict.proofs.checks.check_list.Tie as tie

@@ -2,7 +2,7 @@
 use borrow.Author.Needs.{needs}
 use native.Mathlib.Omega.{arith}
 use Prim.Native.Nat.{_≤_}
-use Rattle.room.proofs.RefusalLaws.{chain-stops, chain-goes}
+use Rattle.refusals.proofs.ChainLaws.{chain-stops, chain-goes}
 use Rattle.verdict.proofs.LengthLaws.{room-levels, length-odd, length-none, length-over, length-fits}
 use Rattle.verdict.specs.Checks.{listRefusal}
 use Rattle.verdict.proofs.checks.list_refusal.Statement.{statement}

@@ -1,0 +1,39 @@
+-- Lists: what is in them, what is in them twice, what they share, and lists in a fixed number of places.
+use Prim.Native.Nat.{ℕ, zero, suc, _-_, _<_}
+use mathlib.Core.Logic.{_≢_}
+use mathlib.Core.List.{List, [], _∷_, _++_}
+use mathlib.Core.Bool.{Bool, false, _||_}
+use lib.Dec.{eqb}
+use lib.ListN.{length, getD, take, drop, replicate}
+
+-- whether x is in a list
+unfoldable pub isIn : ℕ → List ℕ → Bool
+isIn x [] = false
+isIn x (y ∷ ys) = eqb x y || isIn x ys
+
+-- nothing stands in the list twice
+pub record Once (xs : List ℕ) : Type 0 where
+  pub apart : (i j : ℕ) → i < j → j < length xs → getD xs i 0 ≢ getD xs j 0
+
+-- nothing stands in both lists
+pub record Apart (xs ys : List ℕ) : Type 0 where
+  pub apart : (i j : ℕ) → i < length xs → j < length ys → getD xs i 0 ≢ getD ys j 0
+
+-- what f gives of each two elements in a row
+unfoldable pub inTurn : (ℕ → ℕ → ℕ) → List ℕ → List ℕ
+inTurn f [] = []
+inTurn f (x ∷ []) = []
+inTurn f (x ∷ y ∷ ys) = f x y ∷ inTurn f (y ∷ ys)
+
+-- a list with the first and the last left out
+unfoldable pub middle : List ℕ → List ℕ
+middle xs = take (length xs - 2) (drop 1 xs)
+
+-- a list in m places, with zeros past its end
+unfoldable pub filled : ℕ → List ℕ → List ℕ
+filled m xs = xs ++ replicate (m - length xs) 0
+
+-- m-1, .. , 0
+abbrev pub downFrom : ℕ → List ℕ
+downFrom zero = []
+downFrom (suc m) = m ∷ downFrom m

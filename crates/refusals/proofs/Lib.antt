@@ -1,0 +1,4 @@
+pub mod ChainLaws
+pub mod NumberLaws
+pub mod AnswerLaws
+pub mod Unique

@@ -1,0 +1,86 @@
+-- A digit set by the power p of n that its level has: what the server has there is taken off, the new value put on. So the servers at a
+-- switch are the one with the value 0, and on by p.
+use Prim.Native.Nat.{ℕ, _+_, _-_, _*_, _/_, _%_, _^_, _≤_, _<_}
+use mathlib.Core.Path.{_≡_, refl, sym, ap, _∙_}
+use mathlib.Core.Logic.{_≢_}
+use native.Mathlib.Omega.{arith}
+use native.Mathlib.Nat.{mod-add-div, mod-le, mul-add, mul-comm, mul-le-mul-left}
+use borrow.Author.Tests.{ne-eqb}
+use Rattle.room.specs.declared.Shape.{Shape}
+use Rattle.room.specs.declared.Side.{Side}
+use Rattle.room.specs.Shapes.{serversOf, bound, powerOf, Link, Value}
+use Rattle.room.specs.Addresses.{withDigit}
+use Rattle.room.specs.Sides.{sideBy, sideOf}
+use Rattle.room.proofs.DigitLaws.{pow-small}
+use Rattle.room.proofs.PowerLaws.{power-within, power-some}
+use Rattle.room.proofs.RoomLaws.{bound-le, bound-two, with-closed-at, with-server, weight-pos}
+
+-- what is taken off is there
+pub own-le : (a p n : ℕ) → a / p % n * p ≤ a
+own-le a p n =
+    omega (arith, mul-le-mul-left p (mod-le (a / p) n), mul-comm p (a / p % n), mul-comm p (a / p), mod-add-div a p)
+
+pub record Moved (s : Shape) (a l v p : ℕ) : Type 0 where
+  pub own : a / p % s .n * p ≤ a
+  pub new : v * p ≤ 1073741824
+  pub whole : a - a / p % s .n * p + v * p ≡ withDigit s l v a
+
+pub moved : {s : Shape} {a l v : ℕ} → Value s a l v → (p : ℕ) → p ≡ s .n ^ l → Moved s a l v p
+moved {s} {a} {l} {v} h p e =
+    let n = s .n in
+    let q = a / p in
+    let x : p * q ≡ p * (q % n) + p * (n * (q / n)) = ap (λ (y : ℕ). p * y) (sym (mod-add-div q n)) ∙ mul-add p (q % n) (n * (q / n)) in
+    let y = mul-add p v (n * (q / n)) in
+    let w = with-closed-at h p e in
+    let z = mul-comm (q % n) p in
+    let u = mul-comm v p in
+    let t = mod-add-div a p in
+    let k : p ≤ 16777216 = rw e (pow-small n l (h .link .server .valid .ports) (omega (arith, h .link .level, h .link .server .valid .levels))) in
+    let f : v < 64 = omega (arith, h .value, bound-le (h .link .server .valid) l, h .link .server .valid .ports) in
+    record { own = omega arith; new = omega (arith, mul-le-mul-left v k); whole = omega arith }
+
+-- ---- the servers at a switch, as the program makes them: p is the power that it found
+
+module _ (s : Shape) (a l p : ℕ) (e : p ≡ powerOf (s .n) l) where
+  pub side-none : p ≡ 0 → record { first = 0; stride = 0; count = 0 } ≡ sideOf s a l
+  unfolding sideOf
+  side-none z = rw (← e, z)
+
+  -- some power: n is not 0
+  pub side-ports : p ≢ 0 → 0 < s .n
+  side-ports n = power-some (s .n) l (λ z. n (e ∙ z))
+
+  pub side-made : p ≢ 0 → (m : ℕ) → m ≡ bound s l → record { first = a - a / p % s .n * p; stride = p; count = m } ≡ sideOf s a l
+  unfolding sideOf
+  side-made n m f = rw (← e, ne-eqb p 0 n, f)
+
+-- ---- the servers at the switch of a link
+
+module _ {s : Shape} {a l : ℕ} (h : Link s a l) where
+  pub power-link : powerOf (s .n) l ≡ s .n ^ l
+  power-link = let v = h .server .valid in power-within (s .n) l (omega arith) (v .ports) (omega (arith, h .level, v .levels))
+
+  pub side-is : sideOf s a l ≡ sideBy s a l (s .n ^ l)
+  unfolding sideOf
+  side-is =
+      let z = weight-pos (h .server .valid) l (s .n ^ l) refl in
+      rw (power-link, ne-eqb (s .n ^ l) 0 (λ q. omega arith))
+
+  -- the one that has the value v there
+  pub side-reach : (v : ℕ) → v < bound s l → sideOf s a l .first + v * sideOf s a l .stride ≡ withDigit s l v a
+  side-reach v b =
+      ap (λ (x : Side). x .first + v * x .stride) side-is ∙ moved (record { link = h; value = b }) (s .n ^ l) refl .whole
+
+  pub side-count : sideOf s a l .count ≡ bound s l
+  side-count = ap (λ (x : Side). x .count) side-is
+
+  pub side-stride : sideOf s a l .stride ≡ s .n ^ l
+  side-stride = ap (λ (x : Side). x .stride) side-is
+
+  pub side-small : (sideOf s a l .first < serversOf s) × (sideOf s a l .stride ≤ 16777216)
+  side-small =
+      let v = h .server .valid in
+      let z : 0 < bound s l = omega (arith, bound-two v l) in
+      let f = side-reach 0 z in
+      let w = with-server (record { link = h; value = z }) .below in
+      (omega arith, omega (arith, side-stride, pow-small (s .n) l (v .ports) (omega (arith, h .level, v .levels))))

@@ -1,0 +1,42 @@
+-- Wrong answers of the functions that serve the layers above them, refuted.
+use mathlib.Core.Path.{refl, sym, ap}
+use Rattle.refusals.specs.declared.Refusal.{Refusal}
+use Rattle.refusals.specs.Refusals.{_or-else_}
+use Rattle.room.specs.declared.Side.{Side}
+use Rattle.room.specs.Shapes.{serversOf, bound, powerOf, serverCount}
+use Rattle.room.specs.Refusals.{shapeRefusal, serverRefusal, pairRefusal, endsRefusal}
+use Rattle.room.specs.Sides.{sideOf}
+use Rattle.links.specs.Table.{bit, withBit, changed, changedIn, fitsLevels, bitsFit, tableRefusal, roomRefusal}
+use Rattle.wrong.specs.Never.{Loan}
+use Rattle.wrong.specs.Helpers.{Helpers}
+use Rattle.wrong.proofs.Clash.{clash, clash-left}
+
+pub wrong-helpers : (o : Loan) → Helpers o
+unfolding serversOf bound powerOf serverCount shapeRefusal serverRefusal pairRefusal endsRefusal sideOf bit withBit changed changedIn fitsLevels bitsFit tableRefusal roomRefusal _or-else_
+wrong-helpers o =
+    record {
+      route-kept = λ r i j h n κ x e. n (ap (λ (y : Refusal). y .route) e);
+      hop-lost = λ r i j h n κ x e. n (sym (ap (λ (y : Refusal). y .hop) e));
+      base-and-level-exchanged = clash (λ y. y) refl;
+      level-4-taken = clash (λ y. y) refl;
+      one-level-less = clash (λ y. y) refl;
+      level-4-counted = clash (λ y. y) refl;
+      k-for-bound = clash (λ y. y) refl;
+      largest-for-bound = clash (λ y. y) refl;
+      second-not-tested = clash (λ y. y) refl;
+      same-server-refused = clash (λ y. y) refl;
+      server-for-first = clash (λ (y : Side). y .first) refl;
+      other-digit = clash (λ (y : Side). y .stride) refl;
+      marks-nothing = λ κ r x p. clash-left 3 refl p;
+      marked-twice = λ κ r x p. clash-left 3 refl p;
+      clears-nothing = λ κ r x p. clash-left 3 refl p;
+      cleared-twice = λ κ r x p. clash-left 3 refl p;
+      short-table-taken = clash (λ y. y) refl;
+      table-before-ends = clash (λ y. y) refl;
+      bit-above-k-taken = clash (λ y. y) refl;
+      good-room-refused = clash (λ y. y) refl;
+      level-in-low-bits = clash (λ y. y) refl;
+      level-not-moved = clash (λ y. y) refl;
+      value-in-high-bits = clash (λ y. y) refl;
+      byte-for-value = clash (λ y. y) refl;
+    }

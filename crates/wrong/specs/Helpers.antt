@@ -1,0 +1,85 @@
+-- Wrong answers of the functions that serve the layers above them, wherever the table lies.
+use Prim.Native.Nat.{ℕ, _+_}
+use mathlib.Core.Logic.{_≢_}
+use lib.ListN.{replicate}
+use denote.Ref.{now}
+use Rattle.refusals.specs.Refusals.{refusedAt}
+use Rattle.refusals.proofs.Refusal.of_route.Reads as of-route
+use Rattle.room.specs.declared.Side.{Side}
+use Rattle.room.specs.Shapes.{fullRoom}
+use Rattle.room.proofs.power.Reads as power
+use Rattle.room.proofs.server_count.Reads as server-count
+use Rattle.room.proofs.digit_bound.Reads as digit-bound
+use Rattle.room.proofs.pair_refusal.Reads as pair-refusal
+use Rattle.room.proofs.side_of.Reads as side-of
+use Rattle.links.proofs.mark.Reads as mark
+use Rattle.links.proofs.clear.Reads as clear
+use Rattle.links.proofs.room_refusal.Reads as room-refusal
+use Rattle.path.proofs.level_of.Reads as level-of
+use Rattle.path.proofs.value_of.Reads as value-of
+use Rattle.wrong.specs.Never.{Never, NeverLeaves, Loan, _&_, _lends_}
+use Rattle.wrong.specs.Examples.{healthy, failing}
+
+abbrev pub aSide : ℕ → ℕ → ℕ → Side
+aSide a p m = record { first = a; stride = p; count = m }
+
+pub record Helpers (o : Loan) : Type 0 where
+  -- ---- Refusal::of_route
+  -- the route that it had kept
+  pub route-kept : (r i j h : ℕ) → i ≢ j → Never of-route.Post (refusedAt r i h & j & tt) (refusedAt r i h)
+  -- the hop lost
+  pub hop-lost : (r i j h : ℕ) → h ≢ 0 → Never of-route.Post (refusedAt r i h & j & tt) (refusedAt r j 0)
+  -- ---- power
+  -- base and level exchanged
+  pub base-and-level-exchanged : Never power.Post (8 & 3 & tt) 6561
+  -- a power of a level above 3
+  pub level-4-taken : Never power.Post (2 & 4 & tt) 16
+  -- ---- server_count
+  -- n to the power k
+  pub one-level-less : Never server-count.Post (fullRoom 8 3 & tt) 512
+  -- a room of level 4 counted
+  pub level-4-counted : Never server-count.Post (fullRoom 2 4 & tt) 32
+  -- ---- digit_bound
+  -- k for n
+  pub k-for-bound : Never digit-bound.Post (fullRoom 8 3 & 0 & tt) 3
+  -- the largest digit for the bound
+  pub largest-for-bound : Never digit-bound.Post (fullRoom 8 3 & 0 & tt) 7
+  -- ---- pair_refusal
+  -- the second server not tested
+  pub second-not-tested : Never pair-refusal.Post (fullRoom 4 1 & 0 & 16 & tt) 0
+  -- a server twice refused
+  pub same-server-refused : Never pair-refusal.Post (fullRoom 4 1 & 7 & 7 & tt) 5
+  -- ---- side_of, of 13 of (4,1) at level 1
+  -- the server itself for the first
+  pub server-for-first : Never side-of.Post (fullRoom 4 1 & 7 & 1 & tt) (aSide 7 4 4)
+  -- the servers that differ in the other digit
+  pub other-digit : Never side-of.Post (fullRoom 4 1 & 7 & 1 & tt) (aSide 4 1 4)
+  -- ---- mark
+  -- nothing marked
+  pub marks-nothing : NeverLeaves mark.Post (o lends failing 3 1 & 3 & 1 & tt) (λ x. now (x .0)) (failing 3 1)
+  -- marked again, the bit added again
+  pub marked-twice : NeverLeaves mark.Post (o lends failing 3 2 & 3 & 1 & tt) (λ x. now (x .0)) (failing 3 4)
+  -- ---- clear
+  -- nothing cleared
+  pub clears-nothing : NeverLeaves clear.Post (o lends failing 3 3 & 3 & 0 & tt) (λ x. now (x .0)) (failing 3 3)
+  -- cleared again, the bit taken away again
+  pub cleared-twice : NeverLeaves clear.Post (o lends failing 3 2 & 3 & 0 & tt) (λ x. now (x .0)) (failing 3 1)
+  -- ---- room_refusal
+  -- 6 not tested: a table of 15 bytes
+  pub short-table-taken : Never room-refusal.Post (fullRoom 4 1 & o lends replicate 15 0 & 0 & 3 & tt) 0
+  -- 6 tested before 5
+  pub table-before-ends : Never room-refusal.Post (fullRoom 4 1 & o lends replicate 15 0 & 3 & 3 & tt) 6
+  -- the bits of a table not tested
+  pub bit-above-k-taken : Never room-refusal.Post (fullRoom 4 1 & o lends failing 3 4 & 0 & 3 & tt) 0
+  -- a good room refused
+  pub good-room-refused : Never room-refusal.Post (fullRoom 4 1 & o lends healthy & 0 & 3 & tt) 6
+  -- ---- level_of
+  -- the low bits
+  pub level-in-low-bits : Never level-of.Post (0x42 & tt) 0x02
+  -- the high bits not moved down
+  pub level-not-moved : Never level-of.Post (0xc1 & tt) 0xc0
+  -- ---- value_of
+  -- the high bits
+  pub value-in-high-bits : Never value-of.Post (0xc1 & tt) 0x03
+  -- the whole byte
+  pub byte-for-value : Never value-of.Post (0x41 & tt) 0x41
