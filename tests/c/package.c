@@ -75,7 +75,7 @@ static void steps(bcube_room room) {
     step = bcube_step(room, 1, 521, 0, path, sizeof path, neighbours, sizeof neighbours);
     holds(bcube_step_next(step) == 513 && bcube_step_index(step) == 1 && bcube_step_port(step) == 3, "step");
     holds(bcube_mac_byte(step.mac, 0) == 2 && bcube_mac_byte(step.mac, 5) == 7, "mac_byte");
-    holds(bcube_mac_byte(step.mac, 6) == 0 && bcube_mac_byte(step.mac, ~0u) == 0, "mac_byte is total");
+    holds(bcube_mac_byte(step.mac, 6) == 0 && bcube_mac_byte(step.mac, (uint64_t)1 << 32) == 0 && bcube_mac_byte(step.mac, UINT64_MAX) == 0, "mac_byte is total");
     holds(bcube_step_delivered(bcube_step(room, 521, 521, 9, path, sizeof path, neighbours, sizeof neighbours)), "delivered");
 }
 
