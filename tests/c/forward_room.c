@@ -12,6 +12,7 @@
 #include "plain.h"
 
 #include <inttypes.h>
+#include <stdarg.h>
 #include <stdio.h>
 #include <stdlib.h>
 #include <string.h>
@@ -43,10 +44,17 @@ static uint32_t with_digit(uint32_t address, uint32_t level, uint32_t value) {
 
 static unsigned long failures;
 
-static void wrong(const char *what, bcube_room of, uint64_t here, uint64_t destination, uint64_t index) {
-    if (failures++ < 20)
-        printf("wrong: %s, shape (%" PRIu64 ",%" PRIu64 "), at %" PRIu64 " for %" PRIu64 ", index %" PRIu64 "\n", what,
-               of.number & 255, of.number >> 8, here, destination, index);
+/* what was asked, then what was given and what was wanted */
+__attribute__((format(printf, 5, 6)))
+static void wrong(bcube_room of, uint64_t here, uint64_t destination, uint64_t index, const char *given, ...) {
+    if (failures++ >= 20) return;
+    printf("wrong: shape (%" PRIu64 ",%" PRIu64 "), at %" PRIu64 " for %" PRIu64 ", index %" PRIu64 ": ", of.number & 255,
+           of.number >> 8, here, destination, index);
+    va_list words;
+    va_start(words, given);
+    vprintf(given, words);
+    va_end(words);
+    printf("\n");
 }
 
 static unsigned long steps;
@@ -58,10 +66,9 @@ static bcube_stepped held_step(bcube_room of, uint64_t here, uint64_t destinatio
     bcube_stepped step = bcube_step(of, here, destination, index, path, path_len, table, table_len);
     steps++;
     if (step.word == plain.word && step.mac == plain.mac) return step;
-    wrong("a step is not as the rules say", of, here, destination, index);
-    if (failures <= 20)
-        printf("  given %016" PRIx64 " %012" PRIx64 ", wanted %016" PRIx64 " %012" PRIx64 "\n", step.word, step.mac,
-               plain.word, plain.mac);
+    wrong(of, here, destination, index,
+          "path of %zu, table of %zu: a step of %016" PRIx64 " %012" PRIx64 ", wanted %016" PRIx64 " %012" PRIx64, path_len,
+          table_len, step.word, step.mac, plain.word, plain.mac);
     return step;
 }
 
@@ -152,19 +159,23 @@ static int forward(const struct route *r, uint32_t destination) {
         bcube_stepped s = held_step(room, here, destination, index, r->path, 8, tables[here], BCUBE_NEIGHBOUR_TABLE_BYTES);
         if (bcube_step_refusal(s) != 0) {
             if (first == 0 || bcube_step_refusal(s) != 19 || bcube_step_hop(s) != first || count + 1 != first)
-                wrong("a route is refused that must not be, or elsewhere", room, here, destination, index);
+                wrong(room, here, destination, index, "refused %" PRIu32 " at hop %" PRIu32 ", wanted %d at hop %" PRIu32,
+                      bcube_step_refusal(s), bcube_step_hop(s), first == 0 ? 0 : 19, first);
             return 0;
         }
         if (bcube_step_delivered(s)) {
             if (first != 0 || count != r->hops || here != destination)
-                wrong("a delivery after another number of hops", room, here, destination, index);
+                wrong(room, here, destination, index,
+                      "delivered after %" PRIu32 " hops, wanted after %" PRIu32 " (first failed link at hop %" PRIu32 ")", count,
+                      r->hops, first);
             return 1;
         }
         count++;
         here = bcube_step_next(s);
         index = bcube_step_index(s);
         if (count > r->hops || here != r->met[count] || index != count) {
-            wrong("not the next server of the route", room, here, destination, index);
+            wrong(room, here, destination, index, "next, after %" PRIu32 " of %" PRIu32 " hops; wanted server %" PRIu32, count,
+                  r->hops, r->met[count]);
             return 0;
         }
     }
@@ -180,13 +191,15 @@ static void forward_selected(uint32_t source, uint32_t destination, uint32_t unb
         return;
     }
     if (bcube_refusal(answer) != BCUBE_NOT_REFUSED || count < unbroken || count < 1 || count > k + 1) {
-        wrong("a selection is refused, or has another number of routes", room, source, destination, 0);
+        wrong(room, source, destination, 0, "selection refused %" PRIu32 ", %" PRIu32 " routes; wanted %" PRIu32 " to %" PRIu32,
+              bcube_refusal(answer), count, unbroken > 1 ? unbroken : 1, k + 1);
         return;
     }
     for (uint32_t i = 0; i < count; i++) {
         struct route r = taken(source, destination, routes + 8 * i);
         if (r.hops == 0 || first_failed(&r) != 0 || !forward(&r, destination))
-            wrong("a selected route does not lead to the destination", room, source, destination, i);
+            wrong(room, source, destination, i, "selected route of %" PRIu32 " hops, first failed link at hop %" PRIu32
+                  "; wanted a delivery over live links", r.hops, first_failed(&r));
         else
             selected++;
     }
@@ -201,7 +214,7 @@ static void follow(const uint8_t *path, uint32_t source, uint32_t destination) {
         here = bcube_step_next(s);
         index = bcube_step_index(s);
     }
-    wrong("a path of more than eight hops", room, here, destination, index);
+    wrong(room, here, destination, index, "under way after nine steps, wanted at most eight hops");
 }
 
 static void damage(const struct route *r, uint32_t destination) {
@@ -297,10 +310,9 @@ int main(void) {
     /* the worked numbers: at the destination any index, elsewhere 18 */
     uint8_t path[8] = {0}, *table = tables[0];
     bcube_room four = bcube_room_of(4, 1);
-    if (!bcube_step_delivered(bcube_step(four, 3, 3, 8, path, 8, table, 2048)))
-        wrong("index 8 at the destination", four, 3, 3, 8);
-    if (bcube_step_refusal(bcube_step(four, 0, 3, 8, path, 8, table, 2048)) != BCUBE_REFUSED_HOP_INDEX)
-        wrong("index 8 elsewhere", four, 0, 3, 8);
+    bcube_stepped at = bcube_step(four, 3, 3, 8, path, 8, table, 2048), away = bcube_step(four, 0, 3, 8, path, 8, table, 2048);
+    if (!bcube_step_delivered(at)) wrong(four, 3, 3, 8, "%016" PRIx64 ", wanted a delivery", at.word);
+    if (bcube_step_refusal(away) != BCUBE_REFUSED_HOP_INDEX) wrong(four, 0, 3, 8, "%016" PRIx64 ", wanted refusal 18", away.word);
     printf("rooms (2,0) (5,0) (4,1) (2,3) (3,2) (3,3) (9,1), six failed-link tables each: %lu packets on built routes\n"
            "delivered after exactly their hops, %lu refused at their first failed link; %lu packets on selected routes\n"
            "delivered after exactly their hops, %lu pairs with no route; %lu damaged paths followed, %lu steps; %lu steps\n"
