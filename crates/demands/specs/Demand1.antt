@@ -1,4 +1,4 @@
--- Demand 1: every call takes every input: it answers, or refuses with document 01's number and place and nothing else, and every lent
+-- Demand 1: every call takes every input: it answers, or refuses with the rules' number and place and nothing else, and every lent
 -- buffer keeps its bytes. That a call may be made with every input is `EveryInput` in Uniqueness; here stands what it then answers, in
 -- Refusals exactly when it refuses, and in Buffers what it leaves of what it was lent.
 use Prim.Native.Nat.{ℕ, _/_, _≤_}
@@ -54,7 +54,7 @@ ofTheWhole r = leb r 7 || ((leb 16 r && leb r 18) || (leb 20 r && leb r 22))
 abbrev pub ofAHop : ℕ → Bool
 ofAHop r = (leb 8 r && leb r 12) || (eqb r 14 || (eqb r 19 || eqb r 23))
 
--- the form of a refusal of m routes, by document 01: routes and hops count from 1; both are zero for a refusal of the whole; for 13 the
+-- the form of a refusal of m routes, by rule 8.3: routes and hops count from 1; both are zero for a refusal of the whole; for 13 the
 -- hop is 8; for 15 the hop is zero. Which number is given, and at which route and hop, is said exactly in Refusals.
 pub data Place (m : ℕ) : Refusal → Type 0 where
   whole : {r : ℕ} → ofTheWhole r ≡ true → Place m (plain r)
@@ -64,7 +64,7 @@ pub data Place (m : ℕ) : Refusal → Type 0 where
 
 -- ---- an answer, or a refusal and nothing else
 
--- an answer over m routes, which holds a refusal: its number is one of these, its place has document 01's form, and where it is not 0
+-- an answer over m routes, which holds a refusal: its number is one of these, its place has the rules' form, and where it is not 0
 -- all the rest of the answer is zero; `bare` is the answer that holds a refusal and zeros
 pub record Refuses {X : Type 0} (refusal : X → Refusal) (bare : Refusal → X) (m : ℕ) (numbers : List ℕ) (x : X) : Type 0 where
   pub number : OneOf numbers (refusal x .number)

@@ -1,5 +1,5 @@
 -- Demand 1: a number only where it applies, and at its place. For each call, exactly which refusal it gives: that of the first test that
--- fails, in document 01's order. What a chain of tests means is in Tests.
+-- fails, in the rules' order. What a chain of tests means is in Tests.
 use Prim.Native.Nat.{ℕ, suc, _+_, _-_, _*_, _/_, _%_, _≤_, _<_}
 use mathlib.Core.Path.{_≡_}
 use mathlib.Core.Logic.{_≢_, _↔_, _⊎_}
