@@ -248,7 +248,7 @@ BCUBE_RESULT bcube_answer bcube_neighbour(bcube_room room, uint64_t server, uint
 
 /* Whether two servers are neighbours: they differ in one digit only. Refuses 1, 2, 3, 4. Value: the level at
  * which they differ, plus 1; 0 where they are no neighbours (a server is not its own).
- * Cost: constant; 128 bytes of stack. */
+ * Cost: constant; 0 bytes of stack. */
 BCUBE_RESULT bcube_answer bcube_between(bcube_room room, uint64_t one, uint64_t other);
 
 /* ---- the failed-link table (of N bytes, as above) */
@@ -297,19 +297,19 @@ static inline uint32_t bcube_byte_value(bcube_answer parts) { return bcube_value
 /* Reads one array as a route from source to destination. It looks at no failed links.
  * Refuses 1, 2, 3, 4 (either end), 5, 7; then hop by hop 8, 9, 10, 12; 13 after the eighth hop; 14 on the
  * arrival. Value: how many servers the route has, its hops + 1. Written: those servers in order, the
- * source first; zeros after the last. Cost: constant; 768 bytes of stack. */
+ * source first; zeros after the last. Cost: constant; 704 bytes of stack. */
 BCUBE_BUFFER(6) BCUBE_RESULT bcube_answer bcube_read(bcube_room room, uint64_t source, uint64_t destination,
                                                      const uint8_t *path, size_t path_len, uint64_t servers[9]);
 
 /* Writes a route as path bytes: the servers in order, the source first, servers_len of them (2 to 9).
  * Refuses 1, 2, 3, 22, 4 (any of them), 5 (the first is the last); then hop by hop 23, 12. Value: 0.
- * Written: the 8 path bytes, zeros after the last hop. Cost: constant; 512 bytes of stack. */
+ * Written: the 8 path bytes, zeros after the last hop. Cost: constant; 384 bytes of stack. */
 BCUBE_BUFFER(4) BCUBE_RESULT bcube_answer bcube_write(bcube_room room, const uint64_t *servers, size_t servers_len,
                                                       uint8_t path[8]);
 
 /* The same route backwards. `path` is a route from source to destination, and refusals are those of
  * bcube_read. Value: 0. Written: the path bytes of the route from destination to source that meets the same
- * servers. Twice gives the first bytes again. Cost: constant; 1024 bytes of stack. */
+ * servers. Twice gives the first bytes again. Cost: constant; 960 bytes of stack. */
 BCUBE_BUFFER(6) BCUBE_RESULT bcube_answer bcube_reverse(bcube_room room, uint64_t source, uint64_t destination,
                                                         const uint8_t *path, size_t path_len, uint8_t reversed[8]);
 
@@ -324,7 +324,7 @@ BCUBE_RESULT bcube_answer bcube_check(bcube_room room, uint64_t source, uint64_t
 
 /* The built routes of a room in which all links are live: k+1 parallel routes.
  * Refuses 1, 2, 3, 4 (either end), 5. Value: how many arrays are written, k+1. Written: the arrays, that of
- * slot k first; zeros after them. Cost: constant; 448 bytes of stack. */
+ * slot k first; zeros after them. Cost: constant; 512 bytes of stack. */
 BCUBE_BUFFER(4) BCUBE_RESULT bcube_answer bcube_build(bcube_room room, uint64_t source, uint64_t destination,
                                                       uint8_t routes[32]);
 
@@ -343,7 +343,7 @@ BCUBE_BUFFER(6) BCUBE_RESULT bcube_answer bcube_find(bcube_room room, uint64_t s
  * Refuses 1, 2, 3, 4 (either end), 5, 6; and last 16, when no route at all of eight hops or fewer crosses
  * only live links. Value: how many arrays are written, 1 to k+1. Written: the arrays in slot order, closed
  * up; zeros after them.
- * Cost: the table, and a search for each broken route; 45888 bytes of stack. */
+ * Cost: the table, and a search for each broken route; 45824 bytes of stack. */
 BCUBE_BUFFER(6) BCUBE_RESULT bcube_answer bcube_select(bcube_room room, uint64_t source, uint64_t destination,
                                                        const uint8_t *table, size_t table_len, uint8_t routes[32]);
 
@@ -353,7 +353,7 @@ BCUBE_BUFFER(6) BCUBE_RESULT bcube_answer bcube_select(bcube_room room, uint64_t
  * means that bcube_check would take it as a list of one. Either list may be empty. Refuses 1, 2, 3, 4 (either
  * end), 5, 6, 7 (either list; an empty list is allowed); and last 16, when no route of either list is usable.
  * Value: which route it is; read it by the three functions below.
- * Cost: the table; 768 bytes of stack. */
+ * Cost: the table; 704 bytes of stack. */
 BCUBE_RESULT bcube_answer bcube_pick(bcube_room room, uint64_t source, uint64_t destination, const uint8_t *table,
                                      size_t table_len, const uint8_t *fresh, size_t fresh_len, const uint8_t *kept,
                                      size_t kept_len);
@@ -396,7 +396,7 @@ static inline size_t bcube_pick_offset(bcube_answer answer) {
  * Refuses 1, 2, 3, 4 (here or the destination), 17, 7, 18, 8, 9, 10, 19. Between 7 and 18 it is asked whether the
  * packet has arrived, and an arrived packet is delivered with any index. On a refusal all but the refusal and
  * its hop is 0. At a delivery all but the 1 that says so is 0. A stored MAC may be 0 too.
- * Cost: constant; 0 bytes of stack. */
+ * Cost: constant; 64 bytes of stack. */
 BCUBE_RESULT bcube_stepped bcube_step(bcube_room room, uint64_t here, uint64_t destination, uint64_t index,
                                       const uint8_t *path, size_t path_len, const uint8_t *neighbours,
                                       size_t neighbours_len);
