@@ -11,7 +11,7 @@ use lib.ListN.{length, getD, take, replicate, length-append, drop-of-length-le, 
 use lib.Seq.{getD-append-seam, append-snoc, split-at, length-take-le}
 use borrow.Author.Tests.{eq-eqb, ne-eqb, not-true}
 use Rattle.lists.proofs.ListLaws.{both-held, length-snoc, snoc-last, snoc-at, once-snoc, once-front, length-turn, turn-snoc, turn-front}
-use Rattle.lists.specs.Lists.{isIn, Once, inTurn, filled}
+use Rattle.lists.specs.Lists.{isIn, inTurn, filled}
 use Rattle.refusals.specs.Refusals.{_or-else_, _unless_}
 use Rattle.refusals.proofs.ChainLaws.{or-else-zero, test-held}
 use Rattle.room.specs.declared.Shape.{Shape}

@@ -3,7 +3,7 @@ use Prim.Native.Nat.{ℕ, zero, suc, _+_, _-_, _≤_, _<_}
 use mathlib.Core.Path.{_≡_, refl, sym, ap, ap₂, _∙_}
 use mathlib.Core.List.{List, [], _++_, append-nil, reverse}
 use native.Mathlib.Omega.{arith}
-use lib.ListN.{length, getD, set, take, drop, replicate, length-set, length-reverse}
+use lib.ListN.{length, getD, set, take, drop, replicate, length-set, length-take, length-reverse}
 use lib.Seq.{append-snoc}
 use Rattle.lists.specs.Lists.{filled}
 use Rattle.lists.proofs.ListLaws.{last-first, filled-is, rest-on, taken-on, take-filled}
@@ -11,9 +11,10 @@ use Rattle.refusals.specs.Refusals.{plain, answer}
 use Rattle.room.specs.declared.Shape.{Shape}
 use Rattle.path.specs.declared.Walked.{Walked}
 use Rattle.path.specs.declared.Writing.{Writing}
-use Rattle.path.specs.Routes.{encode, Route}
+use Rattle.path.specs.Routes.{encode, Route, Encodes}
 use Rattle.path.specs.Walks.{Walk, stopped, arrived, walk}
 use Rattle.path.specs.Answers.{arrayRefusal, noWalk, walked, walkAnswer, noWriting, aWriting, reversed, reverseAnswer}
+use Rattle.path.proofs.ReverseLaws.{route-reverse}
 use Rattle.path.proofs.CodecLaws.{walk-exactly, walk-given, reverse-given}
 
 -- ---- a list backwards, one place at a time
@@ -53,40 +54,50 @@ turn-end {l} {count} {turned} {i} g h few =
 
 -- ---- the answer
 
--- the servers of a walk that arrived, in the form of its answer
-pub record Met (s : Shape) (w : Walked) (r : Writing) : Type 0 where
-  pub servers : List ℕ
-  pub route : Route s [] servers
-  pub count : w .count ≡ length servers
-  pub held : w .servers ≡ filled 9 servers
-  pub answer : aWriting (encode s (reverse servers)) ≡ r
-
+-- w is the walk that was found
 module _ (s : Shape) (a d : ℕ) (bs : List ℕ) (w : Walked) (e : w ≡ walkAnswer s [] a d bs) where
-  pub reverse-refused : (w .refusal .number ≡ 0 → ⊥) → noWriting (w .refusal) ≡ reverseAnswer s a d bs
+  pub reverse-refused : (w .refusal .number ≡ 0 → ⊥) → (x : Writing) → x ≡ noWriting (w .refusal) → x ≡ reverseAnswer s a d bs
   unfolding walkAnswer reverseAnswer
-  reverse-refused n =
-      ap (λ (x : Walked). noWriting (x .refusal)) e ∙ go (arrayRefusal s a d bs) (walk s [] a d bs) (λ z. n (ap (λ (x : Walked). x .refusal .number) e ∙ z))
+  reverse-refused n x f =
+      f ∙ ap (λ (x : Walked). noWriting (x .refusal)) e ∙ go (arrayRefusal s a d bs) (walk s [] a d bs) (λ z. n (ap (λ (x : Walked). x .refusal .number) e ∙ z))
     where
       go : (q : ℕ) (k : Walk) → (answer q (λ r. noWalk (plain r)) (walked k) .refusal .number ≡ 0 → ⊥) → noWriting (answer q (λ r. noWalk (plain r)) (walked k) .refusal) ≡ answer q (λ r. noWriting (plain r)) (reversed s k)
       go zero (stopped r h) f = refl
       go zero (arrived vs ws) f = absurd (f refl)
       go (suc q) k f = refl
 
-  pub reverse-met : w .refusal .number ≡ 0 → Met s w (reverseAnswer s a d bs)
-  reverse-met z =
-      let p = walk-exactly s [] a d bs .0 (sym (ap (λ (x : Walked). x .refusal .number) e) ∙ z) in
-      let g = e ∙ walk-given (p .1) in
-      record {
-        servers = p .0;
-        route = p .1 .route .route;
-        count = ap (λ (x : Walked). x .count) g;
-        held = ap (λ (x : Walked). x .servers) g;
-        answer = sym (reverse-given (p .1));
-      }
+  module _ (z : w .refusal .number ≡ 0) where
+    -- the route that it walked, and its servers in the form of the answer
+    abbrev found : (vs : List ℕ) × Encodes s [] a d bs vs
+    found = walk-exactly s [] a d bs .0 (sym (ap (λ (x : Walked). x .refusal .number) e) ∙ z)
 
--- the first places of the servers turned are the servers backwards
-pub turned-is : {s : Shape} {w : Walked} {r : Writing} (m : Met s w r) (t : List ℕ) → t ≡ filled 9 (reverse (take (w .count) (w .servers))) → take (w .count) t ≡ reverse (m .servers)
-turned-is {s} {w} {r} m t e =
-    let f : take (w .count) (w .servers) ≡ m .servers = ap₂ (λ (n : ℕ) (xs : List ℕ). take n xs) (m .count) (m .held) ∙ take-filled 9 (m .servers) in
-    ap₂ (λ (n : ℕ) (xs : List ℕ). take n xs) (m .count ∙ sym (length-reverse (m .servers))) (e ∙ ap (λ (xs : List ℕ). filled 9 (reverse xs)) f)
-    ∙ take-filled 9 (reverse (m .servers))
+    abbrev vs : List ℕ
+    vs = found .0
+
+    counted : w .count ≡ length vs
+    counted = ap (λ (x : Walked). x .count) (e ∙ walk-given (found .1))
+
+    held : take (w .count) (w .servers) ≡ vs
+    held = ap₂ (λ (n : ℕ) (xs : List ℕ). take n xs) counted (ap (λ (x : Walked). x .servers) (e ∙ walk-given (found .1))) ∙ take-filled 9 vs
+
+    pub turn-few : w .count ≤ 9
+    turn-few = omega (arith, counted, found .1 .route .route .few)
+
+    -- t is the list turned round: its first places are the servers backwards
+    module _ (t : List ℕ) (f : t ≡ filled 9 (reverse (take (w .count) (w .servers)))) where
+      turned : take (w .count) t ≡ reverse vs
+      turned =
+          ap₂ (λ (n : ℕ) (xs : List ℕ). take n xs) (counted ∙ sym (length-reverse vs)) (f ∙ ap (λ (xs : List ℕ). filled 9 (reverse xs)) held)
+          ∙ take-filled 9 (reverse vs)
+
+      pub turn-long : w .count ≡ length (take (w .count) t)
+      turn-long = counted ∙ sym (length-reverse vs) ∙ ap (λ (xs : List ℕ). length xs) (sym turned)
+
+      pub turn-within : w .count ≤ length t
+      turn-within = omega (arith, turn-long, length-take (w .count) t)
+
+      pub turn-route : Route s [] (take (w .count) t)
+      turn-route = rw turned (route-reverse (found .1 .route .route))
+
+      pub turn-written : (x : Writing) → x ≡ aWriting (encode s (take (w .count) t)) → x ≡ reverseAnswer s a d bs
+      turn-written x k = k ∙ ap (λ (xs : List ℕ). aWriting (encode s xs)) turned ∙ sym (reverse-given (found .1))

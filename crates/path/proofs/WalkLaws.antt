@@ -30,18 +30,20 @@ use Rattle.path.proofs.RouteLaws.{fault-hop, walk-refused, walk-arrives
 
 -- ---- what is new on a route: 12
 
-module _ (met used : List ℕ) (b w : ℕ) where
-  pub server-again : (x : Bool) → x ≡ isIn b met → x ≡ true → noTry 12 ≡ newly met used b w
+-- x is whether the server was met, y whether the switch was used
+module _ (met used : List ℕ) (b w : ℕ) (x : Bool) (e : x ≡ isIn b met) where
+  pub server-again : x ≡ true → (r : Tried) → r ≡ noTry 12 → r ≡ newly met used b w
   unfolding newly
-  server-again x e h = rw (← e, h)
+  server-again h r k = rw (← e, h) k
 
-  pub switch-again : (x y : Bool) → x ≡ isIn b met → x ≡ false → y ≡ isIn w used → y ≡ true → noTry 12 ≡ newly met used b w
-  unfolding newly
-  switch-again x y e h f g = rw (← e, h, ← f, g)
+  module _ (h : x ≡ false) (y : Bool) (f : y ≡ isIn w used) where
+    pub switch-again : y ≡ true → (r : Tried) → r ≡ noTry 12 → r ≡ newly met used b w
+    unfolding newly
+    switch-again g r k = rw (← e, h, ← f, g) k
 
-  pub both-new : (x y : Bool) → x ≡ isIn b met → x ≡ false → y ≡ isIn w used → y ≡ false → adds b w ≡ newly met used b w
-  unfolding newly
-  both-new x y e h f g = rw (← e, h, ← f, g)
+    pub both-new : y ≡ false → adds b w ≡ newly met used b w
+    unfolding newly
+    both-new g = rw (← e, h, ← f, g)
 
 -- ---- trying a hop: 8, 9, 10, then 11, then 12
 
@@ -95,22 +97,37 @@ module _ (s : Shape) (t met used : List ℕ) (a b : ℕ) (x : Tried) (e : x ≡ 
 
 -- ---- on arrival: 14
 
-module _ (path met used : List ℕ) where
-  pub ended-zero : (i : ℕ) → i < length path → getD path i 0 ≡ 0 → ended (i + 1) met used (drop (i + 1) path) ≡ ended i met used (drop i path)
-  unfolding ended
-  ended-zero i h e = sym (rw (left path i 0 h, eq-eqb (getD path i 0) 0 e))
+-- the loop's invariant: what the bytes from i on tell is what all bytes after the arrival tell
+pub record Ending (path met used : List ℕ) (h i : ℕ) : Type 0 where
+  pub within : i ≤ 8
+  pub same : ended i (take (h + 1) met) (take h used) (drop i path) ≡ ended h (take (h + 1) met) (take h used) (drop h path)
 
-  pub ended-stop : (i : ℕ) → i < length path → (getD path i 0 ≡ 0 → ⊥) → stopped 14 (i + 1) ≡ ended i met used (drop i path)
-  unfolding ended
-  ended-stop i h e = sym (rw (left path i 0 h, ne-eqb (getD path i 0) 0 e))
+pub ending-start : (path met used : List ℕ) (h : ℕ) → h ≤ 8 → Ending path met used h h
+ending-start path met used h p = record { within = p; same = refl }
 
-  pub ended-done : (i : ℕ) → length path ≤ i → arrived met used ≡ ended i met used (drop i path)
+module _ {path met used : List ℕ} {h i : ℕ} (g : Ending path met used h i) (hl : length path ≡ 8) where
+  -- a byte that is not zero
+  pub ending-stop : i < 8 → (getD path i 0 ≡ 0 → ⊥) → (r : Refusal) → r ≡ refusedAt 14 1 (i + 1) → (w : Walked) → w ≡ noWalk r → w ≡ walked (ended h (take (h + 1) met) (take h used) (drop h path))
   unfolding ended
-  ended-done i h = rw (drop-of-length-le path h)
+  ending-stop hi n r f w k =
+      let q : i < length path = omega arith in
+      let z : ended i (take (h + 1) met) (take h used) (drop i path) ≡ stopped 14 (i + 1) = rw (left path i 0 q, ne-eqb (getD path i 0) 0 n) in
+      k ∙ ap noWalk f ∙ ap walked (sym z ∙ g .same)
 
--- the answer on arrival after h hops
-pub arrival : (r : Refusal) (h : ℕ) (met used : List ℕ) → r ≡ none → length met ≡ 9 → h ≤ 8 → filled 9 (take (h + 1) met) ≡ met → filled 8 (take h used) ≡ used → record { refusal = r; count = h + 1; servers = met; switches = used } ≡ walked (arrived (take (h + 1) met) (take h used))
-arrival r h met used e l p f g = let q : h + 1 ≤ length met = omega arith in rw (length-take-le (h + 1) met q, f, g, e)
+  pub ending-next : i < 8 → getD path i 0 ≡ 0 → Ending path met used h (i + 1)
+  unfolding ended
+  ending-next hi e =
+      let q : i < length path = omega arith in
+      record { within = omega arith; same = sym (rw (left path i 0 q, eq-eqb (getD path i 0) 0 e)) ∙ g .same }
+
+  -- none is left: the answer on arrival after h hops
+  pub ending-done : 8 ≤ i → h ≤ 8 → length met ≡ 9 → filled 9 (take (h + 1) met) ≡ met → filled 8 (take h used) ≡ used → (r : Refusal) → r ≡ none → record { refusal = r; count = h + 1; servers = met; switches = used } ≡ walked (ended h (take (h + 1) met) (take h used) (drop h path))
+  unfolding ended
+  ending-done hi p l fm fu r e =
+      let q : h + 1 ≤ length met = omega arith in
+      let b : length path ≤ i = omega arith in
+      let z : ended i (take (h + 1) met) (take h used) (drop i path) ≡ arrived (take (h + 1) met) (take h used) = rw (drop-of-length-le path b) in
+      rw (← g .same, z, length-take-le (h + 1) met q, fm, fu, e)
 
 -- ---- the loop over the bytes
 

@@ -1,38 +1,41 @@
 -- Laws of writing: the byte of one hop, servers in turn, and what is refused on the way.
-use Prim.Native.Nat.{ℕ, suc, _+_, _-_, _≤_, _<_}
-use mathlib.Core.Path.{_≡_, refl, sym, ap, _∙_}
+use Prim.Native.Nat.{ℕ, suc, _+_, _-_, _*_, _≤_, _<_}
+use mathlib.Core.Path.{_≡_, refl, sym, ap, ap₂, _∙_}
 use mathlib.Core.Bool.{true, false, _&&_}
 use mathlib.Core.List.{List, [], _∷_, _++_, append-nil}
 use native.Mathlib.Numerals.{add-one}
 use native.Mathlib.Omega.{arith}
 use lib.Dec.{leb}
 use lib.ListN.{length, getD, set, take, drop, replicate, drop-of-length-le, length-set, length-drop}
-use lib.Seq.{take-suc, append-snoc}
+use lib.Seq.{take-suc, append-snoc, length-take-le}
+use mir.Syntax.{w64}
+use mir.Val.{Fits}
 use borrow.Author.Tests.{eq-eqb, ne-eqb, le-leb, lt-leb}
 use Rattle.lists.proofs.ListLaws.{left, filled-is, rest-on, taken-on}
 use Rattle.lists.specs.Lists.{inTurn, filled}
 use Rattle.refusals.specs.declared.Refusal.{Refusal}
-use Rattle.refusals.specs.Refusals.{none, refusedAt, _or-else_, _unless_, answer}
-use Rattle.refusals.proofs.AnswerLaws.{answered, answer-chain, answer-number}
-use Rattle.refusals.proofs.ChainLaws.{or-else-left}
+use Rattle.refusals.specs.Refusals.{none, plain, refusedAt, _or-else_, _unless_, answer}
+use Rattle.refusals.proofs.AnswerLaws.{answered, answer-chain, answer-number, answer-refused, answer-given}
+use Rattle.refusals.proofs.ChainLaws.{or-else-left, chain-stops, chain-goes, same-refused, apart-passed}
 use Rattle.room.specs.declared.Shape.{Shape}
 use Rattle.room.specs.declared.Number.{Number}
 use Rattle.room.specs.declared.Between.{Between}
-use Rattle.room.specs.Shapes.{Server, Link}
+use Rattle.room.specs.Shapes.{Server}
 use Rattle.room.specs.Addresses.{digit, differing}
-use Rattle.room.specs.Refusals.{serverRefusal, linkRefusal}
+use Rattle.room.specs.Refusals.{shapeRefusal, serverRefusal, pairRefusal, linkRefusal}
 use Rattle.room.specs.Answers.{onlyLevel, betweenAnswer, digitAnswer}
-use Rattle.room.proofs.RefusalLaws.{link-none}
+use Rattle.room.proofs.RefusalLaws.{link-none, pair-of, pair-none}
 use Rattle.room.proofs.AnswerLaws.{between-answered}
 use Rattle.room.proofs.RoomLaws.{digit-lt, bound-le, neighbours-exactly}
 use Rattle.path.specs.declared.Tried.{Tried}
-use Rattle.path.specs.Routes.{levelTo, switchAt, switchTo, byteTo, encode, Route}
+use Rattle.path.specs.declared.Writing.{Writing}
+use Rattle.path.specs.Routes.{byteOf, levelTo, switchAt, switchTo, byteTo, encode, Route}
 use Rattle.path.specs.Inside.{Next}
 use Rattle.path.specs.Walks.{single, writeFault, writeFrom}
-use Rattle.path.specs.Answers.{serversRefusal, noWriting, aWriting, written, onTheWay}
+use Rattle.path.specs.Answers.{serversRefusal, writeRefusal, noWriting, aWriting, written, onTheWay, writeAnswer}
 use Rattle.path.specs.Inside.{noTry, adds, newly, triedTo}
 use Rattle.path.proofs.HopLaws.{digit-found}
-use Rattle.path.proofs.CodecLaws.{Listed, single-one}
+use Rattle.path.proofs.CodecLaws.{Listed, listed-of, way-route, single-one}
 
 -- ---- two servers in a row
 
@@ -44,24 +47,27 @@ pub next-level : {s : Shape} {a b : ℕ} → Next s a b → (x : Between) → x 
 next-level n x e =
     ap (λ (y : Between). y .level) (between-answered (n .from) (n .to) x e ∙ ap onlyLevel (next-differing n))
 
--- what the code finds of a hop: its level and the new value
-pub record Found (s : Shape) (a b l v : ℕ) : Type 0 where
-  pub level : l ≡ levelTo s a b
-  pub value : v ≡ digit s (levelTo s a b) b
-  pub low : l ≤ 3
-  pub small : v < 64
+-- what the code finds of a hop: its level l and the new value v
+module _ {s : Shape} {a b : ℕ} (n : Next s a b) (x : Between) (e : x ≡ betweenAnswer s a b) (y : Number) (f : y ≡ digitAnswer s b (x .level)) where
+  byte-value : y .value ≡ digit s (levelTo s a b) b
+  byte-value = digit-found (record { server = n .to; level = n .hop .level }) y (f ∙ ap (digitAnswer s b) (next-level n x e))
 
-pub byte-found : {s : Shape} {a b : ℕ} → Next s a b → (x : Between) → x ≡ betweenAnswer s a b → (y : Number) → y ≡ digitAnswer s b (x .level) → Found s a b (x .level) (y .value)
-byte-found {s} {a} {b} n x e y f =
-    let l : x .level ≡ levelTo s a b = next-level n x e in
-    let k : Link s b (levelTo s a b) = record { server = n .to; level = n .hop .level } in
-    let v : y .value ≡ digit s (levelTo s a b) b = digit-found k y (f ∙ ap (digitAnswer s b) l) in
-    record {
-      level = l;
-      value = v;
-      low = omega (arith, n .hop .level, n .to .valid .levels);
-      small = omega (arith, digit-lt (n .to) (levelTo s a b) (n .hop .level), bound-le (n .to .valid) (levelTo s a b), n .to .valid .ports);
-    }
+  pub byte-level : Fits w64 (64 * x .level)
+  byte-level = let l = next-level n x e in omega (arith, n .hop .level, n .to .valid .levels)
+
+  pub byte-small : 64 * x .level + y .value < 256
+  byte-small =
+      let l = next-level n x e in
+      let v = byte-value in
+      let d = levelTo s a b in
+      omega (arith, n .hop .level, n .to .valid .levels, digit-lt (n .to) d (n .hop .level), bound-le (n .to .valid) d, n .to .valid .ports)
+
+  pub byte-fits : Fits w64 (64 * x .level + y .value)
+  byte-fits = omega (arith, byte-small)
+
+  pub byte-is : 64 * x .level + y .value ≡ byteTo s a b
+  unfolding byteTo byteOf
+  byte-is = ap₂ (λ (l v : ℕ). 64 * l + v) (next-level n x e) byte-value
 
 -- two in a row on a route
 pub route-next : {s : Shape} {t vs : List ℕ} → Route s t vs → (i : ℕ) → i + 1 < length vs → Next s (getD vs i 0) (getD vs (i + 1) 0)
@@ -75,11 +81,11 @@ turn-on f vs i h =
     let p : i < length vs = omega arith in
     rw (left vs i 0 p, left vs (i + 1) 0 h)
 
-turn-end : (f : ℕ → ℕ → ℕ) (xs : List ℕ) → length xs ≤ 1 → inTurn f xs ≡ []
+turn-short : (f : ℕ → ℕ → ℕ) (xs : List ℕ) → length xs ≤ 1 → inTurn f xs ≡ []
 unfolding inTurn
-turn-end f [] h = refl
-turn-end f (x ∷ []) h = refl
-turn-end f (x ∷ y ∷ ys) h = let z : ⊥ = omega arith in absurd z
+turn-short f [] h = refl
+turn-short f (x ∷ []) h = refl
+turn-short f (x ∷ y ∷ ys) h = let z : ⊥ = omega arith in absurd z
 
 -- the loop's invariant: the bytes put so far and those of the servers left are the whole
 pub record Putting (s : Shape) (vs bytes : List ℕ) (i : ℕ) : Type 0 where
@@ -91,14 +97,14 @@ pub record Putting (s : Shape) (vs bytes : List ℕ) (i : ℕ) : Type 0 where
 pub put-start : (s : Shape) (vs : List ℕ) → Putting s vs (replicate 8 0) 0
 put-start s vs = record { within = omega arith; long = refl; blank = refl; same = refl }
 
-pub put-next : {s : Shape} {vs bytes : List ℕ} {i : ℕ} → Putting s vs bytes i → i + 1 < length vs → length vs ≤ 9 → (x : ℕ) → x ≡ byteTo s (getD vs i 0) (getD vs (i + 1) 0) → Putting s vs (set bytes i x) (i + 1)
-put-next {s} {vs} {bytes} {i} g h few x e =
+pub put-next : {s : Shape} {vs bytes : List ℕ} {i : ℕ} → Putting s vs bytes i → Route s [] vs → i + 1 < length vs → (x : ℕ) → x ≡ byteTo s (getD vs i 0) (getD vs (i + 1) 0) → Putting s vs (set bytes i x) (i + 1)
+put-next {s} {vs} {bytes} {i} g v h x e =
     record {
-      within = omega arith;
+      within = omega (arith, v .few);
       long = length-set bytes i x ∙ g .long;
       blank = rest-on 8 bytes i x (g .blank);
       same =
-          rw (taken-on bytes i x (omega arith), append-snoc)
+          rw (taken-on bytes i x (omega (arith, v .few, g .long)), append-snoc)
           (ap (λ (xs : List ℕ). take i bytes ++ xs) (rw e (sym (turn-on (byteTo s) vs i h))) ∙ g .same);
     }
 
@@ -106,33 +112,66 @@ pub put-end : {s : Shape} {vs bytes : List ℕ} {i : ℕ} → Putting s vs bytes
 unfolding encode
 put-end {s} {vs} {bytes} {i} g h =
     let q : length (drop i vs) ≤ 1 = rw length-drop (omega arith) in
-    let e : take i bytes ≡ inTurn (byteTo s) vs = sym (append-nil (take i bytes)) ∙ ap (λ (xs : List ℕ). take i bytes ++ xs) (sym (turn-end (byteTo s) (drop i vs) q)) ∙ g .same in
+    let e : take i bytes ≡ inTurn (byteTo s) vs = sym (append-nil (take i bytes)) ∙ ap (λ (xs : List ℕ). take i bytes ++ xs) (sym (turn-short (byteTo s) (drop i vs) q)) ∙ g .same in
     sym (filled-is 8 bytes i (g .within) (g .long) (g .blank)) ∙ ap (filled 8) e
 
--- ---- what is refused before the way: 4 at each address, 22
+-- ---- what is refused before the way: the first of the servers, by 1, 2, 3, 4
 
-module _ (s : Shape) (vs : List ℕ) where
-  pub servers-stop : (i r : ℕ) → i < length vs → r ≡ serverRefusal s (getD vs i 0) → (r ≡ 0 → ⊥) → r ≡ serversRefusal s (drop i vs)
+-- the loop's invariant: what refuses the servers from i on refuses the list
+pub record FineTo (s : Shape) (vs : List ℕ) (i : ℕ) : Type 0 where
+  pub within : i ≤ length vs
+  pub same : serversRefusal s (drop i vs) ≡ serversRefusal s vs
+
+pub fine-start : (s : Shape) (vs : List ℕ) → FineTo s vs 0
+fine-start s vs = record { within = omega arith; same = refl }
+
+module _ {s : Shape} {vs : List ℕ} {i : ℕ} (g : FineTo s vs i) where
+  pub fine-end : length vs ≤ i → 0 ≡ serversRefusal s vs
   unfolding serversRefusal
-  servers-stop i r h e n = rw (left vs i 0 h, ← e) (sym (or-else-left r _ n))
+  fine-end h = (rw (drop-of-length-le vs h)) ∙ g .same
 
-  pub servers-step : (i r : ℕ) → i < length vs → r ≡ serverRefusal s (getD vs i 0) → r ≡ 0 → serversRefusal s (drop (i + 1) vs) ≡ serversRefusal s (drop i vs)
-  unfolding serversRefusal _or-else_
-  servers-step i r h e z = sym (rw (left vs i 0 h, ← e, z))
+  module _ (h : i < length vs) (r : ℕ) (e : r ≡ serverRefusal s (getD vs i 0)) where
+    pub fine-stop : (r ≡ 0 → ⊥) → r ≡ serversRefusal s vs
+    unfolding serversRefusal
+    fine-stop n = (rw (left vs i 0 h, ← e) (sym (or-else-left r _ n))) ∙ g .same
 
-  pub servers-end : (i : ℕ) → length vs ≤ i → 0 ≡ serversRefusal s (drop i vs)
-  unfolding serversRefusal
-  servers-end i h = rw (drop-of-length-le vs h)
+    pub fine-next : r ≡ 0 → FineTo s vs (i + 1)
+    unfolding serversRefusal _or-else_
+    fine-next z = record { within = omega arith; same = sym (rw (left vs i 0 h, ← e, z)) ∙ g .same }
 
-module _ (n : ℕ) where
-  pub few-refused : n < 2 → 22 ≡ 22 unless (leb 2 n && leb n 9)
-  few-refused h = simp (lt-leb 2 n h)
+-- ---- and the list: r is what was found of the shape, q of the servers
 
-  pub many-refused : 2 ≤ n → 9 < n → 22 ≡ 22 unless (leb 2 n && leb n 9)
-  many-refused h p = simp (le-leb 2 n h, lt-leb n 9 p)
+module _ (s : Shape) (vs : List ℕ) (r : ℕ) (e : r ≡ shapeRefusal s) where
+  pub write-shape : (r ≡ 0 → ⊥) → r ≡ writeRefusal s vs
+  unfolding writeRefusal
+  write-shape n = chain-stops _ _ _ (chain-stops _ _ _ (chain-stops _ _ _ e n) n) n
 
-  pub count-passed : 2 ≤ n → n ≤ 9 → 0 ≡ 22 unless (leb 2 n && leb n 9)
-  count-passed h p = simp (le-leb 2 n h, le-leb n 9 p)
+  module _ (z : r ≡ 0) where
+    count-refused : 22 ≡ 22 unless (leb 2 (length vs) && leb (length vs) 9) → 22 ≡ writeRefusal s vs
+    unfolding writeRefusal
+    count-refused h = chain-stops _ _ _ (chain-stops _ _ _ (chain-goes _ _ _ _ e z h) (λ y. omega arith)) (λ y. omega arith)
+
+    pub write-few : length vs < 2 → 22 ≡ writeRefusal s vs
+    write-few h = count-refused (simp (lt-leb 2 (length vs) h))
+
+    pub write-many : 2 ≤ length vs → 9 < length vs → 22 ≡ writeRefusal s vs
+    write-many h p = count-refused (simp (le-leb 2 (length vs) h, lt-leb (length vs) 9 p))
+
+    module _ (some : 2 ≤ length vs) (few : length vs ≤ 9) (q : ℕ) (f : q ≡ serversRefusal s vs) where
+      passed : 0 ≡ shapeRefusal s or-else 22 unless (leb 2 (length vs) && leb (length vs) 9)
+      passed = chain-goes _ _ _ _ e z (simp (le-leb 2 (length vs) some, le-leb (length vs) 9 few))
+
+      pub write-server : (q ≡ 0 → ⊥) → q ≡ writeRefusal s vs
+      unfolding writeRefusal
+      write-server n = chain-stops _ _ _ (chain-goes _ _ _ _ passed refl f) n
+
+      pub write-same : q ≡ 0 → getD vs 0 0 ≡ getD vs (length vs - 1) 0 → 5 ≡ writeRefusal s vs
+      unfolding writeRefusal
+      write-same y h = chain-goes _ _ _ _ (chain-goes _ _ _ _ passed refl f) y (same-refused _ _ _ h)
+
+      pub write-apart : q ≡ 0 → (getD vs 0 0 ≡ getD vs (length vs - 1) 0 → ⊥) → 0 ≡ writeRefusal s vs
+      unfolding writeRefusal
+      write-apart y h = chain-goes _ _ _ _ (chain-goes _ _ _ _ passed refl f) y (apart-passed _ _ _ h)
 
 -- ---- one hop: 23, then 12
 
@@ -146,17 +185,19 @@ unfolding levelTo
 single-next {s} {a} {b} ha hb e =
     record { from = ha; to = hb; hop = neighbours-exactly ha hb (getD (differing s a b) 0 0) .0 (single-one (differing s a b) e) }
 
-module _ {s : Shape} {a b : ℕ} (ha : Server s a) (hb : Server s b) (x : Between) (e : x ≡ betweenAnswer s a b) where
+module _ (s : Shape) (a b : ℕ) (p : pairRefusal s a b ≡ 0) (x : Between) (e : x ≡ betweenAnswer s a b) where
   adjacent-single : x .adjacent ≡ single (differing s a b)
-  adjacent-single = ap (λ (y : Between). y .adjacent) (between-answered ha hb x e) ∙ level-single (differing s a b)
+  adjacent-single =
+      let h = pair-of s a b p in
+      ap (λ (y : Between). y .adjacent) (between-answered (h .0) (h .1) x e) ∙ level-single (differing s a b)
 
   adjacent-next : x .adjacent ≡ true → Next s a b
-  adjacent-next h = single-next ha hb (sym adjacent-single ∙ h)
+  adjacent-next h = let v = pair-of s a b p in single-next (v .0) (v .1) (sym adjacent-single ∙ h)
 
   pub adjacent-link : x .adjacent ≡ true → linkRefusal s a (x .level) ≡ 0
   adjacent-link h =
       let n = adjacent-next h in
-      ap (linkRefusal s a) (next-level n x e) ∙ sym (link-none (record { server = ha; level = n .hop .level }))
+      ap (linkRefusal s a) (next-level n x e) ∙ sym (link-none (record { server = n .from; level = n .hop .level }))
 
   module _ (met used : List ℕ) where
     abbrev after : Tried
@@ -212,34 +253,65 @@ pub record Way (s : Shape) (vs used : List ℕ) (i : ℕ) : Type 0 where
   pub wide : length used ≡ 8
   pub same : writeFrom s i (take (i + 1) vs) (take i used) (getD vs i 0) (drop (i + 1) vs) ≡ onTheWay s vs
 
-pub way-start : (s : Shape) (vs : List ℕ) → Listed s vs → Way s vs (replicate 8 0) 0
+pub way-start : (s : Shape) (vs : List ℕ) → writeRefusal s vs ≡ 0 → Way s vs (replicate 8 0) 0
 unfolding onTheWay
-way-start s [] h = let z : ⊥ = omega (arith, h .some) in absurd z
-way-start s (v ∷ vs) h = record { fine = h; within = omega (arith, h .some); wide = refl; same = refl }
+way-start s vs e = go vs (listed-of s vs e)
+  where
+    go : (vs : List ℕ) → Listed s vs → Way s vs (replicate 8 0) 0
+    go [] h = let z : ⊥ = omega (arith, h .some) in absurd z
+    go (v ∷ vs) h = record { fine = h; within = omega (arith, h .some); wide = refl; same = refl }
 
 module _ {s : Shape} {vs used : List ℕ} {i : ℕ} (g : Way s vs used i) where
-  pub way-end : length vs ≤ i + 1 → none ≡ onTheWay s vs
+  pub way-end : length vs ≤ i + 1 → (r : Refusal) → r ≡ none → r ≡ onTheWay s vs
   unfolding writeFrom
-  way-end h = (rw (drop-of-length-le vs h)) ∙ g .same
+  way-end h r f = f ∙ (rw (drop-of-length-le vs h)) ∙ g .same
 
-  module _ (h : i + 1 < length vs) (x : Tried) (e : x ≡ triedTo s (take (i + 1) vs) (take i used) (getD vs i 0) (getD vs (i + 1) 0)) where
-    pub way-stop : (x .number ≡ 0 → ⊥) → refusedAt (x .number) 1 (i + 1) ≡ onTheWay s vs
-    way-stop n = way-refused s vs used i h x e n ∙ g .same
+  module _ (h : i + 1 < length vs) where
+    -- the servers met and the switches used so far
+    pub way-met : i + 1 ≡ length (take (i + 1) vs)
+    way-met = sym (length-take-le (i + 1) vs (omega arith))
 
-    pub way-next : x .number ≡ 0 → Way s vs (set used i (x .switch)) (i + 1)
-    way-next z =
-        record {
-          fine = g .fine;
-          within = h;
-          wide = length-set used i (x .switch) ∙ g .wide;
-          same = way-on s vs used i h x e (omega (arith, g .fine .few)) z ∙ g .same;
-        }
+    pub way-used : i ≡ length (take i used)
+    way-used = sym (length-take-le i used (omega (arith, g .wide, g .fine .few)))
 
--- ---- what is answered
+    pub way-pair : pairRefusal s (getD vs i 0) (getD vs (i + 1) 0) ≡ 0
+    way-pair = sym (pair-none (g .fine .servers .each i (omega arith)) (g .fine .servers .each (i + 1) h))
 
-module _ (s : Shape) (vs : List ℕ) (r : Refusal) where
-  pub written-refused : (r .number ≡ 0 → ⊥) → noWriting r ≡ written s vs r
-  written-refused n = rw (ne-eqb (r .number) 0 n)
+    module _ (x : Tried) (e : x ≡ triedTo s (take (i + 1) vs) (take i used) (getD vs i 0) (getD vs (i + 1) 0)) where
+      pub way-stop : (x .number ≡ 0 → ⊥) → (r : Refusal) → r ≡ refusedAt (x .number) 1 (i + 1) → r ≡ onTheWay s vs
+      way-stop n r f = f ∙ way-refused s vs used i h x e n ∙ g .same
 
-  pub written-given : r .number ≡ 0 → aWriting (encode s vs) ≡ written s vs r
-  written-given z = rw (eq-eqb (r .number) 0 z)
+      pub way-next : x .number ≡ 0 → Way s vs (set used i (x .switch)) (i + 1)
+      way-next z =
+          record {
+            fine = g .fine;
+            within = h;
+            wide = length-set used i (x .switch) ∙ g .wide;
+            same = way-on s vs used i h x e (omega (arith, g .fine .few)) z ∙ g .same;
+          }
+
+-- ---- what is answered: n is what was found of the list, r of the way
+
+module _ (s : Shape) (vs : List ℕ) (n : ℕ) (e : n ≡ writeRefusal s vs) where
+  pub list-refused : (n ≡ 0 → ⊥) → (r : Refusal) → r ≡ plain n → (x : Writing) → x ≡ noWriting r → x ≡ writeAnswer s vs
+  unfolding writeAnswer
+  list-refused h r f x k = answer-refused n _ (λ (m : ℕ). noWriting (plain m)) x _ (k ∙ ap noWriting f) e h
+
+  module _ (z : n ≡ 0) where
+    pub list-fine : writeRefusal s vs ≡ 0
+    list-fine = sym e ∙ z
+
+    module _ (r : Refusal) (f : r ≡ onTheWay s vs) where
+      written-is : (x : Writing) → x ≡ written s vs r → x ≡ writeAnswer s vs
+      unfolding writeAnswer
+      written-is x k = answer-given n _ (λ (m : ℕ). noWriting (plain m)) x _ e z (k ∙ ap (written s vs) f)
+
+      pub way-refuses : (r .number ≡ 0 → ⊥) → (x : Writing) → x ≡ noWriting r → x ≡ writeAnswer s vs
+      way-refuses h x k = written-is x (rw (ne-eqb (r .number) 0 h) k)
+
+      module _ (y : r .number ≡ 0) where
+        pub way-taken : Route s [] vs
+        way-taken = way-route vs (listed-of s vs list-fine) (sym (ap (λ (q : Refusal). q .number) f) ∙ y)
+
+        pub way-written : (x : Writing) → x ≡ aWriting (encode s vs) → x ≡ writeAnswer s vs
+        way-written x k = written-is x (rw (eq-eqb (r .number) 0 y) k)

@@ -1,19 +1,17 @@
 -- `path::writings::byte_to` meets its contract. Assumes nothing.
 use borrow.Author.Needs.{needs}
-use native.Mathlib.Omega.{arith}
-use Rattle.path.specs.Routes.{byteOf, byteTo}
-use Rattle.path.proofs.WriteLaws.{byte-found}
+use Rattle.path.proofs.WriteLaws.{byte-level, byte-fits, byte-small, byte-is}
 use Rattle.path.proofs.writings.byte_to.Statement.{statement}
 use Rattle.path.proofs.writings.byte_to.Tie as tie
 
 pub byte-to-spec : {M : Type 1} → statement M
-unfolding byteTo byteOf
 byte-to-spec =
     tie.close
     (tie.spec
     (λ c κs. search needs)
     (λ c κs. search needs)
-    (λ c. let f = byte-found (c .before .before .before .pre) _ (c .before .before .level-between .ensures) _ (c .before .digit-of .ensures) in omega arith)
-    (λ c. let f = byte-found (c .before .before .before .before .pre) _ (c .before .before .before .level-between .ensures) _ (c .before .before .digit-of .ensures) in omega arith)
-    (λ c. let f = byte-found (c .before .before .before .before .pre) _ (c .before .before .before .level-between .ensures) _ (c .before .before .digit-of .ensures) in omega arith)
-    (λ c. let f = byte-found (c .before .before .before .before .pre) _ (c .before .before .before .level-between .ensures) _ (c .before .before .digit-of .ensures) in omega arith))
+    -- neither the level times 64 nor the byte is too large
+    (λ c. search byte-level)
+    (λ c. search byte-fits)
+    (λ c. search byte-small)
+    (λ c. search byte-is))

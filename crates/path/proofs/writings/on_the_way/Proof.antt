@@ -1,13 +1,8 @@
 -- `path::writings::on_the_way` meets its contract. Assumes nothing.
 use borrow.Author.Needs.{needs}
-use native.Mathlib.Omega.{arith}
-use mathlib.Core.Path.{sym, _∙_}
-use Prim.Native.Nat.{_+_, _-_}
+use Prim.Native.Nat.{_-_}
 use lib.ListN.{length}
-use lib.Seq.{length-take-le}
-use Rattle.room.proofs.RefusalLaws.{pair-none}
-use Rattle.path.proofs.CodecLaws.{listed-of}
-use Rattle.path.proofs.WriteLaws.{Way, way-start, way-stop, way-next, way-end}
+use Rattle.path.proofs.WriteLaws.{Way, way-start, way-met, way-used, way-pair, way-stop, way-next, way-end}
 use Rattle.path.proofs.writings.on_the_way.Statement.{statement}
 use Rattle.path.proofs.writings.on_the_way.Tie as tie
 
@@ -23,22 +18,27 @@ on-the-way-spec =
     (tie.spec
     Inv-loop
     μ-loop
-    (λ c. way-start _ _ (listed-of _ _ (c .before .pre)))
+    -- before the loop
+    (λ c. search way-start)
+    -- the servers met, the switches used, and the two servers of the hop
     (λ c. search needs)
     (λ c. search needs)
-    (λ c. sym (length-take-le (c .before .before .loop .i + 1) (c .before .before .before .before .args .servers .now) (omega arith)))
+    (λ c. search way-met)
     (λ c. search needs)
-    (λ c. let g = c .before .before .before .loop in sym (length-take-le (g .i) (g .used) (omega arith)))
-    (λ c. search needs)
-    (λ c. search needs)
+    (λ c. search way-used)
     (λ c. search needs)
     (λ c. search needs)
-    (λ c κs. let g = c .before .before .before .before .before .loop .inv .fine in sym (pair-none (g .servers .each _ (omega arith)) (g .servers .each _ (c .before .before .before .before .loop-test .taken))))
+    (λ c. search needs)
+    (λ c. search needs)
+    (λ c κs. search way-pair)
+    -- refused
     (λ c κs. search needs)
-    (λ c. c .at .ensures ∙ way-stop (c .before .before .before .before .before .before .before .before .before .loop .inv) (c .before .before .before .before .before .before .before .before .loop-test .taken) _ (c .before .before .before .try-next .ensures) (c .before .if1 .taken))
+    (λ c. search way-stop)
+    -- put down, and on to the next
     (λ c. search needs)
     (λ c. search needs)
     (λ c. search needs)
-    (λ c. way-next (c .before .before .before .before .before .before .before .before .loop .inv) (c .before .before .before .before .before .before .before .loop-test .taken) _ (c .before .before .try-next .ensures) (c .if1 .left))
+    (λ c. search way-next)
+    -- the last server
     (λ c κs. search needs)
-    (λ c. c .none .ensures ∙ way-end (c .before .before .loop .inv) (c .before .loop-test .left)))
+    (λ c. search way-end))

@@ -18,7 +18,7 @@ put-bytes-spec =
     (tie.spec
     Inv-loop
     μ-loop
-    (λ c. put-start _ _)
+    (λ c. search put-start)
     (λ c. search needs)
     (λ c. search needs)
     (λ c. search needs)
@@ -28,5 +28,5 @@ put-bytes-spec =
     (λ c κs. search route-next)
     (λ c. search needs)
     (λ c. search needs)
-    (λ c. put-next (c .before .before .before .before .loop .inv) (c .before .before .before .loop-test .taken) (c .before .before .before .before .before .before .pre .few) _ (c .byte-to .ensures))
-    (λ c. put-end (c .before .loop .inv) (c .loop-test .left)))
+    (λ c. search put-next)
+    (λ c. search put-end))

@@ -1,16 +1,13 @@
 -- `path::writings::servers_refusal` meets its contract. Assumes nothing.
 use borrow.Author.Needs.{needs}
-use native.Mathlib.Omega.{arith}
-use mathlib.Core.Path.{_≡_, refl, _∙_}
-use Prim.Native.Nat.{_≤_, _-_}
-use lib.ListN.{length, drop}
-use Rattle.path.specs.Answers.{serversRefusal}
-use Rattle.path.proofs.WriteLaws.{servers-stop, servers-step, servers-end}
+use Prim.Native.Nat.{_-_}
+use lib.ListN.{length}
+use Rattle.path.proofs.WriteLaws.{FineTo, fine-start, fine-stop, fine-next, fine-end}
 use Rattle.path.proofs.writings.servers_refusal.Statement.{statement}
 use Rattle.path.proofs.writings.servers_refusal.Tie as tie
 
 abbrev Inv-loop : tie.InvT-loop
-Inv-loop shape servers i₀ i = (i ≤ length servers) × (serversRefusal shape (drop i servers) ≡ serversRefusal shape servers)
+Inv-loop shape servers i₀ i = FineTo shape servers i
 
 abbrev μ-loop : tie.MeasureT-loop
 μ-loop shape servers i₀ i = length servers - i
@@ -21,12 +18,12 @@ servers-refusal-spec =
     (tie.spec
     Inv-loop
     μ-loop
-    (λ c. (omega arith, refl))
+    (λ c. search fine-start)
     (λ c. search needs)
     (λ c. search needs)
     (λ c κs. search needs)
-    (λ c. servers-stop _ _ _ _ (c .before .before .before .loop-test .taken) (c .before .server-refusal .ensures) (c .if1 .taken) ∙ c .before .before .before .before .loop .inv .1)
+    (λ c. search fine-stop)
     (λ c. search needs)
     (λ c. search needs)
-    (λ c. (omega arith, servers-step _ _ _ _ (c .before .before .before .loop-test .taken) (c .before .server-refusal .ensures) (c .if1 .left) ∙ c .before .before .before .before .loop .inv .1))
-    (λ c. servers-end _ _ _ (c .loop-test .left) ∙ c .before .loop .inv .1))
+    (λ c. search fine-next)
+    (λ c. search fine-end))
