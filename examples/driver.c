@@ -4,7 +4,7 @@
  * To build and run it on x86-64 Linux, from the root of the repository:
  *
  *     ./library target/bcube
- *     cc -Wall -Wextra -Werror -o target/driver examples/driver.c \
+ *     cc -static -Wall -Wextra -Werror -o target/driver examples/driver.c \
  *         $(PKG_CONFIG_PATH=target/bcube/lib/pkgconfig pkg-config --cflags --libs --static bcube)
  *     target/driver
  *

@@ -16,8 +16,8 @@
  *   a hop        from one server to another that differs in one digit, at level l; it uses both servers'
  *                links at level l, and the switch between them
  *
- * PATH BYTES. A route joins two different servers in 1 to 8 hops, meets no server twice and uses no switch
- * twice. It is written as an array of 8 bytes, one byte a hop: 64 times the level plus the new value of
+ * PATH BYTES. A route leads from a server to another one by 1 to 8 hops; no server and no switch comes on it a
+ * second time. It is written as an array of 8 bytes, one byte a hop: 64 times the level plus the new value of
  * the digit at that level. The route ends where it first reaches the destination, and not at a zero byte:
  * a zero byte is a hop like any other (level 0, value 0). The bytes after the last hop are zero.
  * A list of routes is one array after another, at most k+1 of them. Two routes are parallel when they
@@ -88,7 +88,7 @@ extern "C" {
 #define BCUBE_VERSION 20000 /* 2.0.0; docs/CHANGES.md says what each version changed */
 
 /* The version of the library that the program runs with, to hold against BCUBE_VERSION, the header's. Another
- * first number says that the two do not fit. */
+ * first number says that the two do not fit. Cost: constant; 0 bytes of stack. */
 BCUBE_RESULT uint64_t bcube_version(void);
 
 /* ---- limits and sizes */
@@ -337,8 +337,8 @@ BCUBE_BUFFER(4) BCUBE_RESULT bcube_answer bcube_build(bcube_room room, uint64_t 
 BCUBE_BUFFER(6) BCUBE_RESULT bcube_answer bcube_find(bcube_room room, uint64_t source, uint64_t destination,
                                                      const uint8_t *table, size_t table_len, uint8_t path[8]);
 
-/* Parallel routes around the failed links. For the slots k down to 0: a built route without a failed link is
- * kept; a broken one is replaced by the least route, in the order of bcube_find, over live links that shares
+/* Parallel routes around the failed links. Slot after slot, from k down: the built route stays if all its hops
+ * are live; if not, its place is taken by the least route, in the order of bcube_find, over live links that shares
  * no switch and no middle server with the routes already settled or with the built routes of the lower
  * slots. Where there is none of eight hops or fewer, the slot gets nothing.
  * Refuses 1, 2, 3, 4 (either end), 5, 6; and last 16, when no route at all of eight hops or fewer crosses
