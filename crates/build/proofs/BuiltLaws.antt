@@ -19,7 +19,8 @@ use Rattle.build.specs.Built.{builtHops, metBy, builtRoute, builtBytes}
 use Rattle.build.proofs.ListLaws.{and-left, and-right, or-right, T-true, once, apart, once-map, apart-map, inner, middle-map}
 use Rattle.build.proofs.Symbolic.{Word, zerosB, hopsB, metB, leftB, lastB, fitsB, sameWord, sameSwitch, count, route-holds, count-holds, pair-holds}
 use Rattle.build.proofs.Lift.{liftHop}
-use Rattle.build.proofs.HopLaws.{all-live, Fits, usedBy, met-long, met-first, met-servers, met-next, switches-met, bytes-met}
+use Rattle.links.proofs.TableLaws.{live-empty}
+use Rattle.build.proofs.HopLaws.{Fits, usedBy, met-long, met-first, met-servers, met-next, switches-met, bytes-met}
 use Rattle.build.proofs.Words.{same-word}
 use Rattle.build.proofs.ServerWords.{val, place, ends, zeros-long, ends-long, ends-at, place-source, place-target, hops-are, place-same, Linked, switchB, switch-same, Long, met-are, used-are, fits-are, met-all, left-all, last-at, ends-count, ends-differ}
 
@@ -140,7 +141,7 @@ module _ (s : Shape) (a d : ℕ) (ha : Server s a) (hd : Server s d) (ne : a ≢
         few = omega (arith, route-long, built-short, ha .valid .levels);
         servers = servers-in;
         hops = hops-in;
-        alive = λ j h. all-live (levelTo s (getD (builtRoute s i a d) j 0) (getD (builtRoute s i a d) (suc j) 0)) (getD (builtRoute s i a d) j 0) (getD (builtRoute s i a d) (suc j) 0);
+        alive = λ j h. live-empty (levelTo s (getD (builtRoute s i a d) j 0) (getD (builtRoute s i a d) (suc j) 0)) (getD (builtRoute s i a d) j 0) (getD (builtRoute s i a d) (suc j) 0);
         servers-once = subst Once (sym route-is) (once-map sameWord (place s a d) (Long s a d ha hd) (place-same s a d ha hd) (metB zs hs) (met-all s a d ha hd zs zs-long hs) (and-left metTest leftTest once-test));
         switches-once = subst Once (sym switches-are) (once-map sameSwitch (switchB s a d ha hd) (Linked s a d ha hd) (switch-same s a d ha hd) (leftB zs hs) (left-all s a d ha hd zs zs-long hs fit-test) (and-right metTest leftTest once-test));
       }

@@ -1,31 +1,18 @@
 -- Hops over addresses: a list of levels and new values, and the servers, switches and path bytes that it comes to.
-use Prim.Native.Nat.{ℕ, zero, suc, _/_, _%_, _^_, _<_}
+use Prim.Native.Nat.{ℕ, zero, suc, _<_}
 use mathlib.Core.Path.{_≡_, refl, sym, ap, ap₂, _∙_, subst}
 use mathlib.Core.Logic.{_≢_}
-use mathlib.Core.Bool.{Bool, true, false, not, _&&_}
 use mathlib.Core.List.{List, [], _∷_}
 use native.Mathlib.Omega.{arith}
-use native.Mathlib.Nat.{le-of-suc-le-suc, zero-div, zero-mod, div-le-self}
-use lib.Dec.{eqb}
+use native.Mathlib.Nat.{le-of-suc-le-suc}
 use lib.ListN.{length, getD}
 use Rattle.lists.specs.Lists.{inTurn}
 use Rattle.room.specs.declared.Shape.{Shape}
-use Rattle.room.specs.Shapes.{serversOf, bound, Server, Link, Value}
-use Rattle.room.specs.Addresses.{digit, withDigit, switchOf, switchesAt, Neighbours, Beside}
-use Rattle.room.proofs.RoomLaws.{with-server, with-same, with-beside, neighbours-exactly, switch-lt, switch-same}
-use Rattle.links.specs.Table.{bit, failed, live}
+use Rattle.room.specs.Shapes.{Server, Link, Value}
+use Rattle.room.specs.Addresses.{digit, withDigit, switchOf, Neighbours, Beside}
+use Rattle.room.proofs.RoomLaws.{with-server, with-same, with-beside, neighbours-exactly, switch-small, switch-same}
 use Rattle.path.specs.Routes.{byteOf, switchAt, levelTo, switchTo, byteTo, switchesOf}
 use Rattle.build.specs.Built.{metBy, bytesOf}
-
--- over the table with no bytes every hop is live
-none-failed : (l a : ℕ) → failed [] a l ≡ false
-unfolding failed bit
-none-failed l a =
-    let e : 0 / 2 ^ l % 2 ≡ 0 = ap (λ (x : ℕ). x % 2) (zero-div (2 ^ l)) ∙ zero-mod 2 in ap (λ (x : ℕ). eqb x 1) e
-
-pub all-live : (l a b : ℕ) → live [] l a b ≡ true
-unfolding live
-all-live l a b = ap₂ (λ (x y : Bool). not x && not y) (none-failed l a) (none-failed l b)
 
 -- ---- one hop
 
@@ -48,12 +35,6 @@ byte-with {s} {a} {l} {v} h q =
     ap (λ (x : ℕ). byteOf x (digit s x (withDigit s l v a))) (level-with h q) ∙ ap (byteOf l) (with-same h)
 
 -- ---- the number of a switch tells its level and its number there
-
-pub switch-small : {s : Shape} {a l : ℕ} → Link s a l → switchOf s l a < 4096
-unfolding switchesAt
-switch-small {s} {a} {l} h =
-    let v = h .server .valid in
-    omega (arith, switch-lt h, div-le-self (serversOf s) (bound s l), v .small)
 
 pub switch-at-level : {s : Shape} {a b l m : ℕ} → Link s a l → Link s b m → switchAt s l a ≡ switchAt s m b → l ≡ m
 unfolding switchAt
