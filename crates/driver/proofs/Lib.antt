@@ -1,5 +1,4 @@
 pub mod WordLaws
-pub mod BoundLaws
 pub mod ShapeLaws
 pub mod RoomSmall
 pub mod PathSmall

@@ -7,44 +7,22 @@ use mathlib.Core.Bool.{Bool, true, false, cond}
 use native.Mathlib.Omega.{arith}
 use native.Mathlib.Decide.{ℕ-discrete}
 use lib.ListN.{length, getD, replicate}
-use lib.Dec.{ltb, eqb, lit<, lit≤}
+use lib.Dec.{eqb, lit<, lit≤}
 use borrow.Author.Tests.{eq-eqb, ne-eqb}
-use Rattle.refusals.specs.Refusals.{plain, refusedAt, _or-else_, _unless_, answer}
+use Rattle.refusals.specs.Refusals.{plain, refusedAt, answer}
+use Rattle.refusals.proofs.NumberLaws.{one-le}
 use Rattle.room.specs.declared.Shape.{Shape}
-use Rattle.room.specs.Refusals.{pairRefusal}
-use Rattle.path.specs.Walks.{hopRefusal}
 use Rattle.path.proofs.HopLaws.{hop-server}
 use Rattle.step.specs.declared.Step.{Step}
-use Rattle.step.specs.Steps.{entry, macAt, portAt, flagAt, givenRefusal, byteRefusal, awayRefusal, stepRefusal, atHop, placed, noStep, delivery, forwarded, stepAnswer}
+use Rattle.step.specs.Steps.{entry, macAt, portAt, stepRefusal, atHop, placed, noStep, delivery, forwarded, stepAnswer}
+use Rattle.step.proofs.NumberLaws.{step-numbers}
 use Rattle.step.proofs.StepLaws.{placed-number, hop-le, goes-of}
 use Rattle.driver.specs.declared.Stepped.{Stepped}
 use Rattle.driver.specs.Packed.{flagOf, bytesNumber, macNumber, stepWord, packed, stepIn, unpacked, Bytes}
-use Rattle.driver.proofs.WordLaws.{chain-le, test-le}
-use Rattle.driver.proofs.BoundLaws.{pair-le}
-use Rattle.driver.proofs.PathSmall.{hop-byte-le}
 
 -- ---- how large a step's numbers are
 
 module _ (s : Shape) (a d i : ℕ) (bs e : List ℕ) where
-  byte-le : (b : ℕ) → byteRefusal s a e b ≤ 23
-  unfolding byteRefusal
-  byte-le b = chain-le 23 (hopRefusal s a b) (19 unless eqb (flagAt e b) 1) (hop-byte-le s a b) (test-le 23 19 (eqb (flagAt e b) 1) (lit≤ tt))
-
-  away-le : (t : Bool) → cond t 0 (awayRefusal s a i bs e) ≤ 23
-  unfolding awayRefusal
-  away-le true = lit≤ tt
-  away-le false =
-      chain-le 23 (18 unless ltb i 8) (byteRefusal s a e (getD bs i 0)) (test-le 23 18 (ltb i 8) (lit≤ tt)) (byte-le (getD bs i 0))
-
-  number-le : stepRefusal s a d i bs e ≤ 23
-  unfolding stepRefusal givenRefusal
-  number-le =
-      chain-le 23 (givenRefusal s a d bs e) (cond (eqb a d) 0 (awayRefusal s a i bs e))
-      (chain-le 23 (pairRefusal s a d or-else 17 unless eqb (length e) 2048) (7 unless eqb (length bs) 8)
-      (chain-le 23 (pairRefusal s a d) (17 unless eqb (length e) 2048) (pair-le s a d) (test-le 23 17 (eqb (length e) 2048) (lit≤ tt)))
-      (test-le 23 7 (eqb (length bs) 8) (lit≤ tt)))
-      (away-le (eqb a d))
-
   placed-route : (r : ℕ) → placed i r .route ≡ cond (eqb (placed i r .hop) 0) 0 1
   unfolding placed
   placed-route r = go (atHop r)
@@ -111,7 +89,7 @@ module _ (s : Shape) (a d i : ℕ) (bs e : List ℕ) where
   step-fits =
       step-so Fits
       (λ n.
-      let m = number-le s a d i bs e in
+      let m = one-le 255 refl (step-numbers s a d i bs e) in
       let k = hop-le s a d i bs e in
       let p = placed-number i (stepRefusal s a d i bs e) in
       record { number = omega arith; hop = omega arith; route = placed-route s a d i bs e (stepRefusal s a d i bs e); index = lit< tt; next = lit< tt })

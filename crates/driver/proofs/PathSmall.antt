@@ -1,35 +1,34 @@
 -- The answers on path bytes fit the result word.
-use Prim.Native.Nat.{ℕ, zero, suc, _+_, _-_, _*_, _/_, _%_, _≤_, _<_}
+use Prim.Native.Nat.{ℕ, zero, suc, _+_, _*_, _/_, _≤_, _<_}
 use native.Mathlib.Omega.{arith}
 use mathlib.Core.Path.{_≡_, refl, sym, ap, subst}
-use mathlib.Core.Bool.{Bool, true, false, not, cond, _&&_}
+use mathlib.Core.Bool.{Bool, true, false, cond}
 use mathlib.Core.List.{List, [], _∷_, _++_, map}
-use lib.Dec.{ltb, leb, eqb, lit≤, lit<}
-use lib.ListN.{length, getD, drop}
-use Rattle.lists.specs.Lists.{isIn}
+use lib.Dec.{eqb, lit≤, lit<}
+use lib.ListN.{length, drop}
 use Rattle.lists.proofs.ListLaws.{length-snoc}
 use Rattle.refusals.specs.declared.Refusal.{Refusal}
-use Rattle.refusals.specs.Refusals.{plain, refusedAt, _or-else_, _unless_, answer}
+use Rattle.refusals.specs.Refusals.{plain, refusedAt, answer}
+use Rattle.refusals.proofs.NumberLaws.{one-le}
 use Rattle.room.specs.declared.Shape.{Shape}
-use Rattle.room.specs.Shapes.{bound}
-use Rattle.room.specs.Addresses.{digit, differing}
-use Rattle.room.specs.Refusals.{shapeRefusal, serverRefusal}
+use Rattle.room.specs.Refusals.{shapeRefusal}
+use Rattle.room.proofs.NumberLaws.{shape-numbers}
 use Rattle.room.proofs.RoomLaws.{bound-le}
-use Rattle.links.specs.Table.{live, roomRefusal}
 use Rattle.path.specs.declared.Walked.{Walked}
 use Rattle.path.specs.declared.Writing.{Writing}
 use Rattle.path.specs.declared.Parts.{Parts}
 use Rattle.path.specs.Bytes.{madeRefusal, byteAnswer, partsRefusal, noParts, someParts, partsAnswer}
 use Rattle.path.specs.Routes.{byteOf, switchAt, switchTo, levelOf, valueOf}
-use Rattle.path.specs.Walks.{Walk, stopped, arrived, hopTo, hopRefusal, fault, ended, walkFrom, walk, single, writeFault, writeFrom}
-use Rattle.path.specs.Answers.{arrayRefusal, noWalk, walked, walkAnswer, readAnswer, noWriting, reversed, reverseAnswer, serversRefusal, writeRefusal, written, onTheWay, writeAnswer}
+use Rattle.path.specs.Walks.{Walk, stopped, arrived, hopTo, fault, ended, walkFrom, walk, writeFault, writeFrom}
+use Rattle.path.specs.Answers.{arrayRefusal, noWalk, walked, walkAnswer, readAnswer, noWriting, reversed, reverseAnswer, writeRefusal, written, onTheWay, writeAnswer}
+use Rattle.path.proofs.NumberLaws.{made-numbers, parts-numbers, fault-numbers, array-numbers, write-numbers, write-fault-numbers}
 use Rattle.path.proofs.ByteLaws.{made-of, parts-of}
 use Rattle.path.proofs.CodecLaws.{array-of, listed-of}
 use Rattle.verdict.specs.Checks.{arrays, parallel, firstStop, firstMeeting, firstOf, firstPair, listRefusal, walksOf, checkAnswer}
+use Rattle.verdict.proofs.NumberLaws.{list-numbers}
 use Rattle.verdict.proofs.LengthLaws.{list-few}
 use Rattle.driver.specs.Words.{Small}
-use Rattle.driver.proofs.WordLaws.{chain-le, test-le, none-small, plain-small, number-small}
-use Rattle.driver.proofs.BoundLaws.{shape-le, server-le, made-le, array-le, room-le}
+use Rattle.driver.proofs.WordLaws.{none-small, plain-small, number-small}
 
 -- what is so of both arms is so of the one taken
 either : {X : Type 0} (P : X → Type 0) (b : Bool) (x y : X) → P x → P y → P (cond b x y)
@@ -37,11 +36,11 @@ either P true x y p q = p
 either P false x y p q = q
 
 -- what is so of each refusal and of what is asked for where there is none is so of the answer
-answer-so : {X : Type 0} (P : X → Type 0) (q : ℕ) (refused : ℕ → X) (x : X) → ((r : ℕ) → r ≤ 23 → P (refused r)) → q ≤ 23 → (q ≡ 0 → P x) → P (answer q refused x)
+answer-so : {X : Type 0} (P : X → Type 0) (q : ℕ) (refused : ℕ → X) (x : X) → ((r : ℕ) → r ≤ 255 → P (refused r)) → q ≤ 255 → (q ≡ 0 → P x) → P (answer q refused x)
 answer-so P zero refused x f h g = g refl
 answer-so P (suc q) refused x f h g = f (suc q) h
 
-at-small : (r i h : ℕ) → r ≤ 23 → i < 256 → h < 256 → Small (refusedAt r i h) 0
+at-small : (r i h : ℕ) → r ≤ 255 → i < 256 → h < 256 → Small (refusedAt r i h) 0
 at-small r i h a b c = record { number = omega arith; route = b; hop = c; value = lit< tt }
 
 -- ---- one path byte
@@ -49,15 +48,8 @@ at-small r i h a b c = record { number = omega arith; route = b; hop = c; value 
 pub byte-small : (s : Shape) (l v : ℕ) → Small (byteAnswer s l v .refusal) (byteAnswer s l v .value)
 unfolding byteAnswer byteOf
 byte-small s l v =
-    number-small (madeRefusal s l v) (byteOf l v) (made-le s l v)
+    number-small (madeRefusal s l v) (byteOf l v) (one-le 255 refl (made-numbers s l v))
     (λ z. let h = made-of s l v z in omega (arith, h .level, h .value, bound-le (h .valid) l, h .valid .ports, h .valid .levels))
-
-parts-le : (s : Shape) (b : ℕ) → partsRefusal s b ≤ 23
-unfolding partsRefusal
-parts-le s b =
-    let t = leb (levelOf b) (s .k) in
-    let u = ltb (valueOf b) (bound s (levelOf b)) in
-    chain-le 23 (8 unless t) (9 unless u) (test-le 23 8 t (lit≤ tt)) (test-le 23 9 u (lit≤ tt))
 
 -- the value of the word is 256 times the level plus the value
 pub record PartsFit (x : Parts) : Type 0 where
@@ -70,36 +62,17 @@ unfolding partsAnswer
 parts-small s b =
     answer-so PartsFit (shapeRefusal s) (λ r. noParts (plain r)) _
     (λ r h. record { level = lit≤ tt; value = lit< tt; small = plain-small r h })
-    (shape-le s)
+    (one-le 255 refl (shape-numbers s))
     (λ v.
     answer-so PartsFit (partsRefusal s b) (λ r. noParts (refusedAt r 1 1)) (someParts (levelOf b) (valueOf b))
     (λ r h. record { level = lit≤ tt; value = lit< tt; small = at-small r 1 1 h (lit< tt) (lit< tt) })
-    (parts-le s b)
+    (one-le 255 refl (parts-numbers s b))
     (λ z. let h = parts-of s b v z in let l : levelOf b ≤ 3 = omega (arith, h .level, h .valid .levels) in let q : valueOf b < 64 = omega arith in record { level = l; value = q; small = none-small (256 * levelOf b + valueOf b) (omega arith) }))
 
 pub parts-found : (s : Shape) (b : ℕ) (x : Parts) → x ≡ partsAnswer s b → PartsFit x
 parts-found s b x e = subst PartsFit (sym e) (parts-small s b)
 
 -- ---- a walk
-
-pub hop-byte-le : (s : Shape) (a b : ℕ) → hopRefusal s a b ≤ 23
-unfolding hopRefusal
-hop-byte-le s a b =
-    let p = 8 unless leb (levelOf b) (s .k) in
-    let q = 9 unless ltb (valueOf b) (bound s (levelOf b)) in
-    let r = 10 unless not (eqb (digit s (levelOf b) a) (valueOf b)) in
-    chain-le 23 (p or-else q) r
-    (chain-le 23 p q (test-le 23 8 (leb (levelOf b) (s .k)) (lit≤ tt)) (test-le 23 9 (ltb (valueOf b) (bound s (levelOf b))) (lit≤ tt)))
-    (test-le 23 10 (not (eqb (digit s (levelOf b) a) (valueOf b))) (lit≤ tt))
-
-fault-le : (s : Shape) (t met used : List ℕ) (a b : ℕ) → fault s t met used a b ≤ 23
-unfolding fault
-fault-le s t met used a b =
-    let l = live t (levelOf b) a (hopTo s a b) in
-    let o = not (isIn (hopTo s a b) met) && not (isIn (switchAt s (levelOf b) a) used) in
-    chain-le 23 (hopRefusal s a b or-else 11 unless l) (12 unless o)
-    (chain-le 23 (hopRefusal s a b) (11 unless l) (hop-byte-le s a b) (test-le 23 11 l (lit≤ tt)))
-    (test-le 23 12 o (lit≤ tt))
 
 -- the refusal that a walk comes to and the count of the servers met fit
 abbrev Fits : Walk → Type 0
@@ -126,7 +99,7 @@ walk-fits s t d h met used a (b ∷ bs) l m =
     let w = walkFrom s t d (h + 1) met' used' next bs in
     either Fits (eqb r 0) (cond (eqb next d) e w) (stopped r (h + 1))
     (either Fits (eqb next d) e w (ended-fits (h + 1) met' used' bs (omega arith) (omega arith)) (walk-fits s t d (h + 1) met' used' next bs (omega arith) k))
-    (at-small r 1 (h + 1) (fault-le s t met used a b) (lit< tt) (omega arith))
+    (at-small r 1 (h + 1) (one-le 255 refl (fault-numbers s t met used a b)) (lit< tt) (omega arith))
 
 eight-fit : (s : Shape) (t : List ℕ) (a d : ℕ) (bs : List ℕ) → arrayRefusal s a d bs ≡ 0 → Fits (walk s t a d bs)
 unfolding walk
@@ -136,7 +109,7 @@ pub walk-small : (s : Shape) (t : List ℕ) (a d : ℕ) (bs : List ℕ) → Smal
 unfolding walkAnswer
 walk-small s t a d bs =
     answer-so (λ (w : Walked). Small (w .refusal) (w .count)) (arrayRefusal s a d bs) (λ r. noWalk (plain r)) (walked (walk s t a d bs))
-    plain-small (array-le s a d bs) (eight-fit s t a d bs)
+    plain-small (one-le 255 refl (array-numbers s a d bs)) (eight-fit s t a d bs)
 
 -- ---- reading and reversal
 
@@ -152,30 +125,9 @@ pub reverse-small : (s : Shape) (a d : ℕ) (bs : List ℕ) → Small (reverseAn
 unfolding reverseAnswer
 reverse-small s a d bs =
     answer-so (λ (w : Writing). Small (w .refusal) 0) (arrayRefusal s a d bs) (λ r. noWriting (plain r)) (reversed s (walk s [] a d bs))
-    plain-small (array-le s a d bs) (λ e. reversed-fits s (walk s [] a d bs) (eight-fit s [] a d bs e))
+    plain-small (one-le 255 refl (array-numbers s a d bs)) (λ e. reversed-fits s (walk s [] a d bs) (eight-fit s [] a d bs e))
 
 -- ---- writing
-
-servers-le : (s : Shape) (vs : List ℕ) → serversRefusal s vs ≤ 23
-unfolding serversRefusal
-servers-le s [] = lit≤ tt
-servers-le s (v ∷ vs) = chain-le 23 (serverRefusal s v) (serversRefusal s vs) (server-le s v) (servers-le s vs)
-
-write-le : (s : Shape) (vs : List ℕ) → writeRefusal s vs ≤ 23
-unfolding writeRefusal
-write-le s vs =
-    let m = leb 2 (length vs) && leb (length vs) 9 in
-    let o = not (eqb (getD vs 0 0) (getD vs (length vs - 1) 0)) in
-    chain-le 23 (shapeRefusal s or-else 22 unless m or-else serversRefusal s vs) (5 unless o)
-    (chain-le 23 (shapeRefusal s or-else 22 unless m) (serversRefusal s vs)
-    (chain-le 23 (shapeRefusal s) (22 unless m) (shape-le s) (test-le 23 22 m (lit≤ tt))) (servers-le s vs))
-    (test-le 23 5 o (lit≤ tt))
-
-write-fault-le : (s : Shape) (met used : List ℕ) (a b : ℕ) → writeFault s met used a b ≤ 23
-unfolding writeFault
-write-fault-le s met used a b =
-    let o = not (isIn b met) && not (isIn (switchTo s a b) used) in
-    chain-le 23 (23 unless single (differing s a b)) (12 unless o) (test-le 23 23 (single (differing s a b)) (lit≤ tt)) (test-le 23 12 o (lit≤ tt))
 
 way-small : (s : Shape) (h : ℕ) (met used : List ℕ) (a : ℕ) (bs : List ℕ) → h + length bs ≤ 9 → Small (writeFrom s h met used a bs) 0
 unfolding writeFrom
@@ -186,7 +138,7 @@ way-small s h met used a (b ∷ bs) l =
     let used' = used ++ (switchTo s a b ∷ []) in
     either (λ (x : Refusal). Small x 0) (eqb r 0) (writeFrom s (h + 1) met' used' b bs) (refusedAt r 1 (h + 1))
     (way-small s (h + 1) met' used' b bs (omega arith))
-    (at-small r 1 (h + 1) (write-fault-le s met used a b) (lit< tt) (omega arith))
+    (at-small r 1 (h + 1) (one-le 255 refl (write-fault-numbers s met used a b)) (lit< tt) (omega arith))
 
 on-the-way-small : (s : Shape) (vs : List ℕ) → length vs ≤ 9 → Small (onTheWay s vs) 0
 unfolding onTheWay
@@ -197,7 +149,7 @@ pub write-small : (s : Shape) (vs : List ℕ) → Small (writeAnswer s vs .refus
 unfolding writeAnswer
 write-small s vs =
     let P : Writing → Type 0 = λ w. Small (w .refusal) 0 in
-    answer-so P (writeRefusal s vs) (λ r. noWriting (plain r)) (written s vs (onTheWay s vs)) plain-small (write-le s vs)
+    answer-so P (writeRefusal s vs) (λ r. noWriting (plain r)) (written s vs (onTheWay s vs)) plain-small (one-le 255 refl (write-numbers s vs))
     (λ e.
     let o = onTheWay s vs in
     either P (eqb (o .number) 0) _ (noWriting o) (none-small 0 (lit< tt)) (on-the-way-small s vs (listed-of s vs e .few)))
@@ -241,19 +193,13 @@ unfolding arrays
 arrays-long zero bs = refl
 arrays-long (suc m) bs = ap suc (arrays-long m (drop 8 bs))
 
-list-le : (s : Shape) (t : List ℕ) (a d : ℕ) (bs : List ℕ) → listRefusal s t a d bs ≤ 23
-unfolding listRefusal
-list-le s t a d bs =
-    let m = eqb (length bs % 8) 0 && (leb 1 (length bs) && leb (length bs) (8 * suc (s .k))) in
-    chain-le 23 (roomRefusal s t a d) (7 unless m) (room-le s t a d) (test-le 23 7 m (lit≤ tt))
-
 pub check-small : (s : Shape) (t : List ℕ) (a d : ℕ) (bs : List ℕ) → Small (checkAnswer s t a d bs) 0
 unfolding checkAnswer walksOf
 check-small s t a d bs =
     let m = length bs / 8 in
     let l = arrays-long m bs in
     let W = map (walkAnswer s t a d) (arrays m bs) in
-    answer-so (λ (x : Refusal). Small x 0) (listRefusal s t a d bs) plain (firstOf (firstStop 1 W) (firstPair 1 W)) plain-small (list-le s t a d bs)
+    answer-so (λ (x : Refusal). Small x 0) (listRefusal s t a d bs) plain (firstOf (firstStop 1 W) (firstPair 1 W)) plain-small (one-le 255 refl (list-numbers s t a d bs))
     (λ e.
     let f = list-few s t a d bs e in
     first-small (firstStop 1 W) (firstPair 1 W)

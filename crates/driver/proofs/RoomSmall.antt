@@ -10,6 +10,7 @@ use lib.ListN.{length}
 use Rattle.lists.specs.Lists.{filled}
 use Rattle.refusals.specs.declared.Refusal.{Refusal}
 use Rattle.refusals.specs.Refusals.{plain, answer}
+use Rattle.refusals.proofs.NumberLaws.{one-le}
 use Rattle.room.specs.declared.Shape.{Shape}
 use Rattle.room.specs.declared.Digits.{Digits}
 use Rattle.room.specs.declared.Between.{Between}
@@ -20,6 +21,7 @@ use Rattle.room.specs.Refusals.{shapeRefusal, levelRefusal, serverRefusal, pair
 use Rattle.room.specs.Answers.{noDigits, someDigits, noSwitch, aSwitch, noBetween, onlyLevel, serversAnswer, boundAnswer, digitsAnswer, digitAnswer, addressAnswer, switchAnswer, neighbourAnswer, betweenAnswer}
 use Rattle.room.specs.Wiring.{serverAt, portRefusal, switchesAnswer, serverAtAnswer}
 use Rattle.room.proofs.RefusalLaws.{valid-of, level-of, pair-of, link-of, value-of, places-of}
+use Rattle.room.proofs.NumberLaws.{shape-numbers, level-numbers, server-numbers, pair-numbers, link-numbers, value-numbers, places-numbers, port-numbers}
 use Rattle.room.proofs.DigitLaws.{pow-small}
 use Rattle.room.proofs.FourPlaces.{sums}
 use Rattle.room.proofs.RoomLaws.{bound-le, digit-lt, with-server, switches-power, switch-lt, neighbours-exactly, places-below}
@@ -28,17 +30,17 @@ use Rattle.links.specs.declared.Asked.{Asked}
 use Rattle.links.specs.Table.{failed, tableLinkRefusal}
 use Rattle.links.specs.Answers.{notAsked, asked, failedAnswer, linkAnswer}
 use Rattle.links.specs.Servers.{tableServerRefusal, serverAnswer}
+use Rattle.links.proofs.NumberLaws.{table-link-numbers, table-server-numbers}
 use Rattle.driver.specs.declared.Answer.{Answer}
 use Rattle.driver.specs.Words.{word, Small, betweenWord, askedWord}
 use Rattle.driver.proofs.WordLaws.{none-small, plain-small, number-small}
-use Rattle.driver.proofs.BoundLaws.{shape-le, level-le, server-le, pair-le, link-le, value-le, places-le, port-le, table-link-le, table-server-le}
 
 -- ---- a refusal of a call as a whole, with any number
 
-plain-with : (r v : ℕ) → r ≤ 23 → v < 4294967296 → Small (plain r) v
+plain-with : (r v : ℕ) → r ≤ 255 → v < 4294967296 → Small (plain r) v
 plain-with r v h k = record { number = omega arith; route = lit< tt; hop = lit< tt; value = k }
 
-pub plain-fits : {r q : ℕ} {x : Refusal} (v : ℕ) → q ≤ 23 → v < 4294967296 → r ≡ q → x ≡ plain r → Small x v
+pub plain-fits : {r q : ℕ} {x : Refusal} (v : ℕ) → q ≤ 255 → v < 4294967296 → r ≡ q → x ≡ plain r → Small x v
 plain-fits {r} {q} {x} v h k e g = subst (λ (z : Refusal). Small z v) (sym (g ∙ ap plain e)) (plain-with q v h k)
 
 pub plain-said : (f : Shape → ℕ) {s t : Shape} {r : ℕ} {x : Refusal} {w : Answer} → w ≡ word x 0 → x ≡ plain r → r ≡ f s → s ≡ t → w ≡ word (plain (f t)) 0
@@ -49,18 +51,18 @@ plain-said f {s} {t} {r} {x} {w} h e g k = h ∙ ap (λ (z : Refusal). word z 0)
 pub servers-small : (s : Shape) → Small (serversAnswer s .refusal) (serversAnswer s .value)
 unfolding serversAnswer
 servers-small s =
-    number-small (shapeRefusal s) (serversOf s) (shape-le s) (λ z. let v = valid-of s z in omega (arith, v .small))
+    number-small (shapeRefusal s) (serversOf s) (one-le 255 refl (shape-numbers s)) (λ z. let v = valid-of s z in omega (arith, v .small))
 
 pub bound-small : (s : Shape) (l : ℕ) → Small (boundAnswer s l .refusal) (boundAnswer s l .value)
 unfolding boundAnswer
 bound-small s l =
-    number-small (levelRefusal s l) (bound s l) (level-le s l)
+    number-small (levelRefusal s l) (bound s l) (one-le 255 refl (level-numbers s l))
     (λ z. let v = level-of s l z in omega (arith, bound-le (v .0) l, v .0 .ports))
 
 pub switches-small : (s : Shape) (l : ℕ) → Small (switchesAnswer s l .refusal) (switchesAnswer s l .value)
 unfolding switchesAnswer
 switches-small s l =
-    number-small (levelRefusal s l) (switchesAt s l) (level-le s l)
+    number-small (levelRefusal s l) (switchesAt s l) (one-le 255 refl (level-numbers s l))
     (λ z.
     let v = level-of s l z .0 in
     omega (arith, switches-power v l, pow-small (s .n) (s .k) (v .ports) (omega (arith, v .levels))))
@@ -68,7 +70,7 @@ switches-small s l =
 pub server-at-small : (s : Shape) (l w v : ℕ) → Small (serverAtAnswer s l w v .refusal) (serverAtAnswer s l w v .value)
 unfolding serverAtAnswer
 server-at-small s l w v =
-    number-small (portRefusal s l w v) (serverAt s l w v) (port-le s l w v)
+    number-small (portRefusal s l w v) (serverAt s l w v) (one-le 255 refl (port-numbers s l w v))
     (λ z. let a = port-server (port-of s l w v z) in omega (arith, a .below, a .valid .small))
 
 digit-lt-64 : {s : Shape} {a : ℕ} → Server s a → (l : ℕ) → l ≤ s .k → digit s l a < 64
@@ -77,13 +79,13 @@ digit-lt-64 h l p = omega (arith, digit-lt h l p, bound-le (h .valid) l, h .vali
 pub digit-small : (s : Shape) (a l : ℕ) → Small (digitAnswer s a l .refusal) (digitAnswer s a l .value)
 unfolding digitAnswer
 digit-small s a l =
-    number-small (linkRefusal s a l) (digit s l a) (link-le s a l)
+    number-small (linkRefusal s a l) (digit s l a) (one-le 255 refl (link-numbers s a l))
     (λ z. let h = link-of s a l z in omega (arith, digit-lt-64 (h .server) l (h .level)))
 
 pub address-small : (s : Shape) (ds : List ℕ) → length ds ≡ 4 → Small (addressAnswer s ds .refusal) (addressAnswer s ds .value)
 unfolding addressAnswer
 address-small s ds e =
-    number-small (placesRefusal s ds) (addressOf (s .n) ds) (places-le s ds)
+    number-small (placesRefusal s ds) (addressOf (s .n) ds) (one-le 255 refl (places-numbers s ds))
     (λ z.
     let p = places-of s ds z in
     omega (arith, sums (s .n) ds (p .valid .ports) (places-below p) e .whole-fits))
@@ -91,7 +93,7 @@ address-small s ds e =
 pub neighbour-small : (s : Shape) (a l v : ℕ) → Small (neighbourAnswer s a l v .refusal) (neighbourAnswer s a l v .value)
 unfolding neighbourAnswer
 neighbour-small s a l v =
-    number-small (valueRefusal s a l v) (withDigit s l v a) (value-le s a l v)
+    number-small (valueRefusal s a l v) (withDigit s l v a) (one-le 255 refl (value-numbers s a l v))
     (λ z. let h = with-server (value-of s a l v z) in omega (arith, h .below, h .valid .small))
 
 -- ---- switches
@@ -101,13 +103,13 @@ switch-lt-word {s} {a} {l} h =
     let v = h .server .valid in
     omega (arith, switch-lt h, switches-power v l, pow-small (s .n) (s .k) (v .ports) (omega (arith, v .levels)))
 
-switch-part : (r l w : ℕ) → r ≤ 23 → (r ≡ 0 → w < 4294967296) → Small (answer r noSwitch (aSwitch l w) .refusal) (answer r noSwitch (aSwitch l w) .number)
+switch-part : (r l w : ℕ) → r ≤ 255 → (r ≡ 0 → w < 4294967296) → Small (answer r noSwitch (aSwitch l w) .refusal) (answer r noSwitch (aSwitch l w) .number)
 switch-part zero l w h f = none-small w (f refl)
 switch-part (suc r) l w h f = plain-small (suc r) h
 
 pub switch-small : (s : Shape) (a l : ℕ) → Small (switchAnswer s a l .refusal) (switchAnswer s a l .number)
 unfolding switchAnswer
-switch-small s a l = switch-part (linkRefusal s a l) l (switchOf s l a) (link-le s a l) (λ z. switch-lt-word (link-of s a l z))
+switch-small s a l = switch-part (linkRefusal s a l) l (switchOf s l a) (one-le 255 refl (link-numbers s a l)) (λ z. switch-lt-word (link-of s a l z))
 
 -- ---- the level between two servers
 
@@ -137,14 +139,14 @@ only-refusal [] v k = none-small v k
 only-refusal (l ∷ []) v k = none-small v k
 only-refusal (l ∷ m ∷ ls) v k = none-small v k
 
-between-part : (r v : ℕ) (y : Between) → r ≤ 23 → v < 4294967296 → Small (y .refusal) v → Small (answer r noBetween y .refusal) v
+between-part : (r v : ℕ) (y : Between) → r ≤ 255 → v < 4294967296 → Small (y .refusal) v → Small (answer r noBetween y .refusal) v
 between-part zero v y h k f = f
 between-part (suc r) v y h k f = plain-with (suc r) v h k
 
 between-at : (s : Shape) (a b v : ℕ) → v < 4294967296 → Small (betweenAnswer s a b .refusal) v
 unfolding betweenAnswer
 between-at s a b v k =
-    between-part (pairRefusal s a b) v (onlyLevel (differing s a b)) (pair-le s a b) k (only-refusal (differing s a b) v k)
+    between-part (pairRefusal s a b) v (onlyLevel (differing s a b)) (one-le 255 refl (pair-numbers s a b)) k (only-refusal (differing s a b) v k)
 
 pub between-fits : (s : Shape) (a b v : ℕ) {x : Between} → v < 4294967296 → x ≡ betweenAnswer s a b → Small (x .refusal) v
 between-fits s a b v {x} k e = subst (λ (z : Between). Small (z .refusal) v) (sym e) (between-at s a b v k)
@@ -166,26 +168,26 @@ apart-said f {s} {t} {x} {w} h q e g =
 
 -- ---- digits
 
-digits-refusal : (r v : ℕ) (ds : List ℕ) → r ≤ 23 → v < 4294967296 → Small (answer r noDigits (someDigits ds) .refusal) v
+digits-refusal : (r v : ℕ) (ds : List ℕ) → r ≤ 255 → v < 4294967296 → Small (answer r noDigits (someDigits ds) .refusal) v
 digits-refusal zero v ds h k = none-small v k
 digits-refusal (suc r) v ds h k = plain-with (suc r) v h k
 
 digits-with : (s : Shape) (a v : ℕ) → v < 4294967296 → Small (digitsAnswer s a .refusal) v
 unfolding digitsAnswer
-digits-with s a v k = digits-refusal (serverRefusal s a) v (filled 4 (digits s a)) (server-le s a) k
+digits-with s a v k = digits-refusal (serverRefusal s a) v (filled 4 (digits s a)) (one-le 255 refl (server-numbers s a)) k
 
 pub digits-fits : (s : Shape) (a v : ℕ) {x : Digits} → v < 4294967296 → x ≡ digitsAnswer s a → Small (x .refusal) v
 digits-fits s a v {x} k e = subst (λ (z : Digits). Small (z .refusal) v) (sym e) (digits-with s a v k)
 
 -- ---- the failed-link table
 
-asked-part : (r v : ℕ) (b : Bool) → r ≤ 23 → v < 4294967296 → Small (answer r notAsked (asked b) .refusal) v
+asked-part : (r v : ℕ) (b : Bool) → r ≤ 255 → v < 4294967296 → Small (answer r notAsked (asked b) .refusal) v
 asked-part zero v b h k = none-small v k
 asked-part (suc r) v b h k = plain-with (suc r) v h k
 
 asked-at : (s : Shape) (t : List ℕ) (a l v : ℕ) → v < 4294967296 → Small (failedAnswer s t a l .refusal) v
 unfolding failedAnswer
-asked-at s t a l v k = asked-part (tableLinkRefusal s t a l) v (failed t a l) (table-link-le s t a l) k
+asked-at s t a l v k = asked-part (tableLinkRefusal s t a l) v (failed t a l) (one-le 255 refl (table-link-numbers s t a l)) k
 
 pub asked-fits : (s : Shape) (t : List ℕ) (a l v : ℕ) {x : Asked} → v < 4294967296 → x ≡ failedAnswer s t a l → Small (x .refusal) v
 asked-fits s t a l v {x} k e = subst (λ (z : Asked). Small (z .refusal) v) (sym e) (asked-at s t a l v k)
@@ -203,7 +205,7 @@ live-said f {s} {t} {x} {w} h q e g =
 -- marking and clearing say the refusal alone
 link-at : (s : Shape) (t : List ℕ) (a l v : ℕ) → v < 4294967296 → Small (linkAnswer s t a l) v
 unfolding linkAnswer
-link-at s t a l v k = plain-with (tableLinkRefusal s t a l) v (table-link-le s t a l) k
+link-at s t a l v k = plain-with (tableLinkRefusal s t a l) v (one-le 255 refl (table-link-numbers s t a l)) k
 
 pub link-fits : (s : Shape) (t : List ℕ) (a l v : ℕ) {x : Refusal} → v < 4294967296 → x ≡ linkAnswer s t a l → Small x v
 link-fits s t a l v {x} k e = subst (λ (z : Refusal). Small z v) (sym e) (link-at s t a l v k)
@@ -211,4 +213,4 @@ link-fits s t a l v {x} k e = subst (λ (z : Refusal). Small z v) (sym e) (link-
 -- and so do marking and clearing a whole server
 pub server-fits : (s : Shape) (t : List ℕ) (a : ℕ) {x : Refusal} → x ≡ serverAnswer s t a → Small x 0
 unfolding serverAnswer
-server-fits s t a {x} e = subst (λ (z : Refusal). Small z 0) (sym e) (plain-with (tableServerRefusal s t a) 0 (table-server-le s t a) (lit< tt))
+server-fits s t a {x} e = subst (λ (z : Refusal). Small z 0) (sym e) (plain-with (tableServerRefusal s t a) 0 (one-le 255 refl (table-server-numbers s t a)) (lit< tt))

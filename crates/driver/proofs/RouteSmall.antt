@@ -9,12 +9,15 @@ use lib.ListN.{length}
 use lib.Dec.{lit≤}
 use Rattle.refusals.specs.declared.Refusal.{Refusal}
 use Rattle.refusals.specs.Refusals.{plain, answer}
+use Rattle.refusals.proofs.NumberLaws.{one-le}
 use Rattle.room.specs.declared.Shape.{Shape}
 use Rattle.room.specs.Refusals.{endsRefusal}
 use Rattle.room.specs.Shapes.{Ends}
 use Rattle.room.proofs.RefusalLaws.{ends-of}
+use Rattle.room.proofs.NumberLaws.{ends-numbers}
 use Rattle.links.specs.Table.{roomRefusal}
 use Rattle.links.proofs.TableLaws.{room-of}
+use Rattle.links.proofs.NumberLaws.{room-numbers}
 use Rattle.path.specs.Routes.{encode}
 use Rattle.build.specs.declared.Building.{Building}
 use Rattle.build.specs.declared.RouteSet.{RouteSet}
@@ -32,14 +35,13 @@ use Rattle.driver.specs.declared.Answer.{Answer}
 use Rattle.driver.specs.Words.{word, Small, left}
 use Rattle.driver.specs.Routes.{FoundWord, SelectedWord}
 use Rattle.driver.proofs.WordLaws.{none-small, plain-small}
-use Rattle.driver.proofs.BoundLaws.{ends-le, room-le}
 
 -- ---- built routes
 
 abbrev SmallSet : Refusal → RouteSet → Type 0
 SmallSet r x = Small r (x .count)
 
-building-small : (r : ℕ) (x : RouteSet) → r ≤ 23 → (r ≡ 0 → x .count < 4294967296) → SmallSet (answer r noBuilding (aBuilding x) .refusal) (answer r noBuilding (aBuilding x) .routes)
+building-small : (r : ℕ) (x : RouteSet) → r ≤ 255 → (r ≡ 0 → x .count < 4294967296) → SmallSet (answer r noBuilding (aBuilding x) .refusal) (answer r noBuilding (aBuilding x) .routes)
 building-small zero x h f = none-small (x .count) (f refl)
 building-small (suc r) x h f = plain-small (suc r) h
 
@@ -47,7 +49,7 @@ pub build-small : (s : Shape) (a d : ℕ) (x : Building) → x ≡ buildAnswer s
 unfolding buildAnswer setOf
 build-small s a d x e =
     subst (λ (y : Building). SmallSet (y .refusal) (y .routes)) (sym e)
-    (building-small (endsRefusal s a d) (setOf (builtArrays s a d)) (ends-le s a d) (λ z. let h = ends-of s a d z in omega (arith, arrays-count s a d, h .source .valid .levels)))
+    (building-small (endsRefusal s a d) (setOf (builtArrays s a d)) (one-le 255 refl (ends-numbers s a d)) (λ z. let h = ends-of s a d z in omega (arith, arrays-count s a d, h .source .valid .levels)))
 
 -- what the call says of the answer of the builder, asked with the shape t
 pub build-said : {s t : Shape} (a d : ℕ) {w : Answer} {x : Building} (lent : List ℕ) {bytes : List ℕ} → x ≡ buildAnswer s a d → s ≡ t → w ≡ word (x .refusal) (x .routes .count) → bytes ≡ left (x .refusal .number) lent (x .routes .bytes) → (w ≡ word (buildAnswer t a d .refusal) (buildAnswer t a d .routes .count)) × (bytes ≡ left (buildAnswer t a d .refusal .number) lent (buildAnswer t a d .routes .bytes))
@@ -61,7 +63,7 @@ pub find-small : {s : Shape} {t : List ℕ} {a d : ℕ} (x : Found) → Finding 
 find-small {s} {t} {a} {d} x f =
     elim (ℕ-discrete (roomRefusal s t a d) 0) [
       | yes z ↦ subst (λ (r : Refusal). Small r (x .hops)) (sym (found-refusal f ∙ ap plain z)) (none-small (x .hops) (few z))
-      | no n ↦ subst (λ (y : Found). Small (y .refusal) (y .hops)) (sym (f .refused n)) (plain-small (roomRefusal s t a d) (room-le s t a d))
+      | no n ↦ subst (λ (y : Found). Small (y .refusal) (y .hops)) (sym (f .refused n)) (plain-small (roomRefusal s t a d) (one-le 255 refl (room-numbers s t a d)))
     ]
   where
     few : roomRefusal s t a d ≡ 0 → x .hops < 4294967296
@@ -90,7 +92,7 @@ pub select-small : {s : Shape} {t : List ℕ} {a d : ℕ} (x : Selection) → Se
 select-small {s} {t} {a} {d} x f =
     elim (ℕ-discrete (roomRefusal s t a d) 0) [
       | yes z ↦ given (f .given z) (room-of s t a d z .0)
-      | no n ↦ subst (λ (y : Selection). Small (y .refusal) (y .routes .count)) (sym (f .refused n)) (plain-small (roomRefusal s t a d) (room-le s t a d))
+      | no n ↦ subst (λ (y : Selection). Small (y .refusal) (y .routes .count)) (sym (f .refused n)) (plain-small (roomRefusal s t a d) (one-le 255 refl (room-numbers s t a d)))
     ]
   where
     given : GivesRoutes s t a d x → Ends s a d → Small (x .refusal) (x .routes .count)

@@ -4,10 +4,9 @@ use native.Mathlib.Omega.{arith}
 use mathlib.Core.Path.{_≡_, refl, sym, ap, _∙_, subst}
 use mathlib.Core.Logic.{_≢_}
 use mathlib.Core.List.{List}
-use mathlib.Core.Bool.{Bool, true, false}
 use lib.Dec.{lit<}
 use Rattle.refusals.specs.declared.Refusal.{Refusal}
-use Rattle.refusals.specs.Refusals.{none, plain, _or-else_, _unless_, answer}
+use Rattle.refusals.specs.Refusals.{none, plain, answer}
 use Rattle.room.specs.declared.Shape.{Shape}
 use Rattle.room.specs.declared.Number.{Number}
 use Rattle.room.specs.Answers.{noNumber, aNumber}
@@ -59,26 +58,16 @@ number-fits y x h e = subst (λ (z : Number). Small (z .refusal) (z .value)) (sy
 
 -- ---- what is small
 
--- the first of two numbers, and a test's number, are no larger than these
-pub chain-le : (m p q : ℕ) → p ≤ m → q ≤ m → (p or-else q) ≤ m
-unfolding _or-else_
-chain-le m zero q e f = f
-chain-le m (suc p) q e f = e
-
-pub test-le : (m r : ℕ) (t : Bool) → r ≤ m → (r unless t) ≤ m
-test-le m r true e = omega arith
-test-le m r false e = e
-
 -- no refusal, with a number
 pub none-small : (v : ℕ) → v < 4294967296 → Small none v
 none-small v h = record { number = lit< tt; route = lit< tt; hop = lit< tt; value = h }
 
 -- a refusal of a call as a whole
-pub plain-small : (r : ℕ) → r ≤ 23 → Small (plain r) 0
+pub plain-small : (r : ℕ) → r ≤ 255 → Small (plain r) 0
 plain-small r h = record { number = omega arith; route = lit< tt; hop = lit< tt; value = lit< tt }
 
 -- a number, or the refusal of a call as a whole
-pub number-small : (r v : ℕ) → r ≤ 23 → (r ≡ 0 → v < 4294967296) → Small (answer r noNumber (aNumber v) .refusal) (answer r noNumber (aNumber v) .value)
+pub number-small : (r v : ℕ) → r ≤ 255 → (r ≡ 0 → v < 4294967296) → Small (answer r noNumber (aNumber v) .refusal) (answer r noNumber (aNumber v) .value)
 number-small zero v h f = none-small v (f refl)
 number-small (suc r) v h f = plain-small (suc r) h
 

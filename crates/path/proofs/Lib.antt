@@ -1,3 +1,4 @@
+pub mod NumberLaws
 pub mod HopLaws
 pub mod RouteLaws
 pub mod ReverseLaws

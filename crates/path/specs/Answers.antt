@@ -1,6 +1,6 @@
 -- What each call on path bytes answers. On a refusal all but the refusal is zero.
 use Prim.Native.Nat.{ℕ, _-_}
-use mathlib.Core.List.{List, [], _∷_, reverse}
+use mathlib.Core.List.{List, [], _∷_, _++_, reverse}
 use mathlib.Core.Bool.{not, cond, _&&_}
 use lib.Dec.{leb, eqb}
 use lib.ListN.{length, getD, replicate}
@@ -8,7 +8,7 @@ use Rattle.lists.specs.Lists.{filled}
 use Rattle.refusals.specs.declared.Refusal.{Refusal}
 use Rattle.refusals.specs.Refusals.{none, plain, refusedAt, _or-else_, _unless_, answer}
 use Rattle.room.specs.declared.Shape.{Shape}
-use Rattle.room.specs.Refusals.{shapeRefusal, serverRefusal, endsRefusal}
+use Rattle.room.specs.Refusals.{shapeRefusal, shapeNumbers, serverRefusal, endsRefusal, endsNumbers}
 use Rattle.path.specs.declared.Hop.{Hop}
 use Rattle.path.specs.declared.Walked.{Walked}
 use Rattle.path.specs.declared.Reading.{Reading}
@@ -32,6 +32,9 @@ hopAnswer s a b = answer (serverRefusal s a or-else hopRefusal s a b) noHop (aHo
 -- one array of eight bytes: 7
 unfoldable pub arrayRefusal : Shape → ℕ → ℕ → List ℕ → ℕ
 arrayRefusal s a d bs = endsRefusal s a d or-else 7 unless eqb (length bs) 8
+
+abbrev pub arrayNumbers : List ℕ
+arrayNumbers = endsNumbers ++ (7 ∷ [])
 
 abbrev pub noWalk : Refusal → Walked
 noWalk r = record { refusal = r; count = 0; servers = replicate 9 0; switches = replicate 8 0 }
@@ -74,6 +77,9 @@ serversRefusal s (a ∷ bs) = serverRefusal s a or-else serversRefusal s bs
 unfoldable pub writeRefusal : Shape → List ℕ → ℕ
 writeRefusal s vs =
     shapeRefusal s or-else 22 unless (leb 2 (length vs) && leb (length vs) 9) or-else serversRefusal s vs or-else 5 unless not (eqb (getD vs 0 0) (getD vs (length vs - 1) 0))
+
+abbrev pub writeNumbers : List ℕ
+writeNumbers = shapeNumbers ++ (22 ∷ 4 ∷ 5 ∷ [])
 
 -- what is written where no refusal arises on the way
 abbrev pub written : Shape → List ℕ → Refusal → Writing

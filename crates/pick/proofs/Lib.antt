@@ -1,3 +1,4 @@
+pub mod NumberLaws
 pub mod LengthLaws
 pub mod UsableLaws
 pub mod PickLaws

@@ -1,56 +1,27 @@
 -- What a caller of picking may count on.
-use Prim.Native.Nat.{ℕ, zero, suc, _/_, _≤_, _<_}
+use Prim.Native.Nat.{ℕ, _/_, _≤_, _<_}
 use mathlib.Core.Path.{_≡_, refl, sym, ap, subst, _∙_}
 use mathlib.Core.Logic.{_≢_, _↔_}
-use mathlib.Core.Bool.{Bool, true, false, not, _&&_}
+use mathlib.Core.Bool.{true, not}
 use mathlib.Core.List.{List, []}
 use native.Mathlib.Omega.{arith}
 use native.Mathlib.Decide.{decLt, ℕ-discrete}
-use lib.Dec.{ltb, leb, eqb}
+use lib.Dec.{eqb}
 use lib.ListN.{length}
-use Rattle.refusals.specs.Refusals.{_or-else_, _unless_}
+use borrow.Author.Tests.{eqb-false, not-true}
 use Rattle.refusals.proofs.ChainLaws.{or-else-zero, or-else-left, chain-goes}
+use Rattle.refusals.proofs.NumberLaws.{one-passes}
 use Rattle.room.specs.declared.Shape.{Shape}
-use Rattle.room.specs.Shapes.{serversOf}
-use Rattle.room.specs.Refusals.{shapeRefusal, serverRefusal, pairRefusal, endsRefusal}
-use Rattle.links.specs.Table.{bitsFit, tableRefusal, roomRefusal}
+use Rattle.links.specs.Table.{roomRefusal}
 use Rattle.verdict.specs.Accepted.{Accepted}
-use Rattle.pick.specs.Picks.{usable, firstIn, Source, inFresh, inKept, nowhere, found, fits, listsRefusal, pickSource, missing, pickRefusal, arrayAt, pickedBytes}
+use Rattle.pick.specs.Picks.{usable, firstIn, Source, inFresh, inKept, nowhere, found, listsRefusal, pickSource, missing, pickRefusal, arrayAt, pickedBytes}
 use Rattle.pick.specs.Chosen.{FirstUsable, NoneUsable, Chosen}
+use Rattle.pick.proofs.NumberLaws.{lists-numbers}
 use Rattle.pick.proofs.LengthLaws.{lists-room}
 use Rattle.pick.proofs.UsableLaws.{usable-accepted, array-long, clash, found-first, found-not, first-found, not-found}
 use Rattle.pick.proofs.PickLaws.{from-refused, from-found, found-fresh, found-kept, found-none}
 
--- ---- the numbers that come before 16
-
-either-small : (b p q : ℕ) → p ≤ b → q ≤ b → (p or-else q) ≤ b
-unfolding _or-else_
-either-small b zero q h g = g
-either-small b (suc p) q h g = h
-
-test-small : (b r : ℕ) (t : Bool) → r ≤ b → (r unless t) ≤ b
-test-small b r true h = omega arith
-test-small b r false h = h
-
-shape-small : (s : Shape) → shapeRefusal s ≤ 6
-unfolding shapeRefusal
-shape-small s =
-    either-small 6 _ _ (either-small 6 _ _ (test-small 6 1 (leb 2 (s .n) && leb (s .n) 64) (omega arith)) (test-small 6 2 (leb (s .k) 3) (omega arith))) (test-small 6 3 (leb (serversOf s) 4096) (omega arith))
-
-server-small : (s : Shape) (a : ℕ) → serverRefusal s a ≤ 6
-unfolding serverRefusal
-server-small s a = either-small 6 _ _ (shape-small s) (test-small 6 4 (ltb a (serversOf s)) (omega arith))
-
-room-small : (s : Shape) (t : List ℕ) (a d : ℕ) → roomRefusal s t a d ≤ 6
-unfolding roomRefusal endsRefusal pairRefusal tableRefusal
-room-small s t a d =
-    either-small 6 _ _ (either-small 6 _ _ (either-small 6 _ _ (server-small s a) (server-small s d)) (test-small 6 5 (not (eqb a d)) (omega arith))) (test-small 6 6 (eqb (length t) (serversOf s) && bitsFit (s .k) t) (omega arith))
-
 module _ (s : Shape) (t : List ℕ) (a d : ℕ) (fs ks : List ℕ) where
-  pub lists-small : listsRefusal s t a d fs ks ≤ 7
-  unfolding listsRefusal
-  lists-small = either-small 7 _ _ (omega (arith, room-small s t a d)) (test-small 7 7 (fits s (length fs) && fits s (length ks)) (omega arith))
-
   -- ---- the source is the first usable route, the fresh list before the kept one, and there is no other
 
   found-chosen : Chosen s t a d fs ks (found s t a d fs ks)
@@ -159,8 +130,7 @@ module _ (s : Shape) (t : List ℕ) (a d : ℕ) (fs ks : List ℕ) where
         | yes e ↦ (e, missing-only (found s t a d fs ks) (chain-goes 0 (listsRefusal s t a d fs ks) _ _ (sym e) refl refl ∙ z) found-chosen)
         | no m ↦
             let k : listsRefusal s t a d fs ks ≡ 16 = sym (or-else-left (listsRefusal s t a d fs ks) _ m) ∙ z in
-            let n : ⊥ = omega (arith, lists-small) in
-            absurd n
+            absurd (eqb-false _ 16 (not-true _ (one-passes (λ r. not (eqb r 16)) refl refl (lists-numbers s t a d fs ks))) k)
       ]
 
   of-sixteen : (listsRefusal s t a d fs ks ≡ 0) × (NoneUsable s t a d fs × NoneUsable s t a d ks) → pickRefusal s t a d fs ks ≡ 16

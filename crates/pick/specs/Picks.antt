@@ -1,7 +1,7 @@
 -- Picking: the first usable route of a fresh list, else of a kept one.
 use Prim.Native.Nat.{ℕ, suc, _+_, _*_, _/_, _%_}
 use mathlib.Core.Path.{_≡_}
-use mathlib.Core.List.{List, [], _∷_}
+use mathlib.Core.List.{List, [], _∷_, _++_}
 use mathlib.Core.Bool.{Bool, cond, _&&_}
 use lib.Dec.{ltb, leb, eqb}
 use lib.ListN.{length, take, drop}
@@ -9,7 +9,7 @@ use denote.Ref.{RefT, now, ptr}
 use Rattle.refusals.specs.declared.Refusal.{Refusal}
 use Rattle.refusals.specs.Refusals.{plain, _or-else_, _unless_, answer}
 use Rattle.room.specs.declared.Shape.{Shape}
-use Rattle.links.specs.Table.{roomRefusal}
+use Rattle.links.specs.Table.{roomRefusal, roomNumbers}
 use Rattle.verdict.specs.Checks.{arrays, checkAnswer}
 
 -- whether checking takes an array as a list of one (rule 6.2)
@@ -48,6 +48,9 @@ fits s n = eqb (n % 8) 0 && leb n (8 * (s .k + 1))
 unfoldable pub listsRefusal : Shape → List ℕ → ℕ → ℕ → List ℕ → List ℕ → ℕ
 listsRefusal s t a d fs ks = roomRefusal s t a d or-else 7 unless (fits s (length fs) && fits s (length ks))
 
+abbrev pub listsNumbers : List ℕ
+listsNumbers = roomNumbers ++ (7 ∷ [])
+
 -- the same where the lists are not refused
 unfoldable pub pickSource : Shape → List ℕ → ℕ → ℕ → List ℕ → List ℕ → Source
 pickSource s t a d fs ks = answer (listsRefusal s t a d fs ks) (λ r. nowhere) (found s t a d fs ks)
@@ -61,6 +64,9 @@ missing nowhere = 16
 -- the refusal's number, or 0: 16 comes last
 unfoldable pub pickRefusal : Shape → List ℕ → ℕ → ℕ → List ℕ → List ℕ → ℕ
 pickRefusal s t a d fs ks = listsRefusal s t a d fs ks or-else missing (found s t a d fs ks)
+
+abbrev pub pickNumbers : List ℕ
+pickNumbers = listsNumbers ++ (16 ∷ [])
 
 -- what the companion question answers: the number, with no route and no hop
 unfoldable pub pickAnswer : Shape → List ℕ → ℕ → ℕ → List ℕ → List ℕ → Refusal

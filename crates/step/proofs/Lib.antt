@@ -1,3 +1,4 @@
+pub mod NumberLaws
 pub mod StepLaws
 pub mod DeliveryLaws
 pub mod Unique

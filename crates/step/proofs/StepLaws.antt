@@ -2,28 +2,29 @@
 use Prim.Native.Nat.{ℕ, zero, suc, _+_, _≤_, _<_}
 use mathlib.Core.Path.{_≡_, refl, sym, ap, _∙_}
 use mathlib.Core.Logic.{_≢_}
-use mathlib.Core.List.{List}
-use mathlib.Core.Bool.{Bool, true, false, not, cond, _&&_}
+use mathlib.Core.List.{List, [], _∷_}
+use mathlib.Core.Bool.{Bool, true, false, not, cond}
 use native.Mathlib.Omega.{arith}
 use native.Mathlib.Decide.{decLt}
 use lib.ListN.{length, getD}
-use lib.Dec.{ltb, leb, eqb}
-use borrow.Author.Tests.{lt-ltb, le-ltb, ltb-true, eq-eqb, ne-eqb, eqb-true}
+use lib.Dec.{ltb, eqb}
+use borrow.Author.Tests.{lt-ltb, le-ltb, ltb-true, eq-eqb, ne-eqb, eqb-true, not-true}
 use Rattle.refusals.specs.declared.Refusal.{Refusal}
-use Rattle.refusals.specs.Refusals.{none, plain, refusedAt, _or-else_, _unless_, answer}
+use Rattle.refusals.specs.Refusals.{none, plain, refusedAt, _or-else_, _unless_, OneOf, nought, answer}
 use Rattle.refusals.proofs.ChainLaws.{or-else-zero, chain-stops, chain-goes, test-held}
+use Rattle.refusals.proofs.NumberLaws.{test-one, chain-one, one-passes, refused-passes}
 use Rattle.refusals.proofs.AnswerLaws.{answered}
 use Rattle.room.specs.declared.Shape.{Shape}
 use Rattle.room.specs.declared.Number.{Number}
-use Rattle.room.specs.Shapes.{serversOf, bound, Server}
-use Rattle.room.specs.Addresses.{digit}
-use Rattle.room.specs.Refusals.{shapeRefusal, serverRefusal, pairRefusal}
+use Rattle.room.specs.Shapes.{Server}
+use Rattle.room.specs.Refusals.{pairRefusal}
 use Rattle.room.specs.Answers.{aNumber}
 use Rattle.room.proofs.RefusalLaws.{pair-of, pair-none}
-use Rattle.path.specs.Routes.{levelOf, valueOf}
 use Rattle.path.specs.Walks.{hopTo, hopRefusal}
+use Rattle.path.proofs.NumberLaws.{hop-numbers}
 use Rattle.step.specs.declared.Step.{Step}
 use Rattle.step.specs.Steps.{macAt, portAt, flagAt, givenRefusal, byteRefusal, awayRefusal, stepRefusal, atHop, placed, stopped, noStep, delivery, forwarded, stepAnswer, nextAnswer}
+use Rattle.step.proofs.NumberLaws.{given-numbers}
 
 -- ---- what a step is given
 
@@ -48,43 +49,15 @@ given-none {s} {a} {d} {bs} {e} h =
 
 -- ---- which refusals arise at the hop
 
--- none of a chain does where none of its parts does
-pub chain-plain : (p q : ℕ) → atHop p ≡ false → atHop q ≡ false → atHop (p or-else q) ≡ false
-unfolding _or-else_
-chain-plain zero q e f = f
-chain-plain (suc p) q e f = e
-
-test-plain : (r : ℕ) (t : Bool) → atHop r ≡ false → atHop (r unless t) ≡ false
-unfolding atHop
-test-plain r true e = refl
-test-plain r false e = e
-
+-- none of what is given
 pub given-plain : (s : Shape) (a d : ℕ) (bs e : List ℕ) → atHop (givenRefusal s a d bs e) ≡ false
-unfolding givenRefusal pairRefusal serverRefusal shapeRefusal atHop
-given-plain s a d bs e =
-    chain-plain (pairRefusal s a d or-else 17 unless eqb (length e) 2048) (7 unless eqb (length bs) 8)
-    (chain-plain (pairRefusal s a d) (17 unless eqb (length e) 2048)
-    (chain-plain (serverRefusal s a) (serverRefusal s d) (server a) (server d))
-    (test-plain 17 (eqb (length e) 2048) refl))
-    (test-plain 7 (eqb (length bs) 8) refl)
-  where
-    server : (x : ℕ) → atHop (serverRefusal s x) ≡ false
-    server x =
-        chain-plain (shapeRefusal s) (4 unless ltb x (serversOf s))
-        (chain-plain (1 unless (leb 2 (s .n) && leb (s .n) 64) or-else 2 unless leb (s .k) 3) (3 unless leb (serversOf s) 4096)
-        (chain-plain (1 unless (leb 2 (s .n) && leb (s .n) 64)) (2 unless leb (s .k) 3) (test-plain 1 (leb 2 (s .n) && leb (s .n) 64) refl) (test-plain 2 (leb (s .k) 3) refl))
-        (test-plain 3 (leb (serversOf s) 4096) refl))
-        (test-plain 4 (ltb x (serversOf s)) refl)
+unfolding atHop
+given-plain s a d bs e = not-true _ (one-passes (λ r. not (atHop r)) refl refl (given-numbers s a d bs e))
 
+-- all of a byte's
 pub hop-placed : (s : Shape) (a b : ℕ) → hopRefusal s a b ≢ 0 → atHop (hopRefusal s a b) ≡ true
-unfolding hopRefusal atHop _or-else_
-hop-placed s a b h = go (leb (levelOf b) (s .k)) (ltb (valueOf b) (bound s (levelOf b))) (not (eqb (digit s (levelOf b) a) (valueOf b))) h
-  where
-    go : (t u v : Bool) → 8 unless t or-else 9 unless u or-else 10 unless v ≢ 0 → atHop (8 unless t or-else 9 unless u or-else 10 unless v) ≡ true
-    go true true true h = absurd (h refl)
-    go true true false h = refl
-    go true false v h = refl
-    go false u v h = refl
+unfolding atHop
+hop-placed s a b h = refused-passes atHop refl (hop-numbers s a b) h
 
 pub placed-plain : (i r : ℕ) → atHop r ≡ false → placed i r ≡ plain r
 unfolding placed
@@ -104,13 +77,14 @@ placed-number i r = go (atHop r)
 
 -- a step's hop is at most 8: past the eighth byte nothing arises at a hop
 module _ (s : Shape) (a d i : ℕ) (bs e : List ℕ) where
+  far-away : 8 ≤ i → (t : Bool) → OneOf (18 ∷ []) (cond t 0 (awayRefusal s a i bs e))
+  unfolding awayRefusal _or-else_
+  far-away h true = nought refl
+  far-away h false = rw (le-ltb i 8 h) (test-one 18 false)
+
   far-plain : 8 ≤ i → atHop (stepRefusal s a d i bs e) ≡ false
-  unfolding stepRefusal awayRefusal _or-else_ atHop
-  far-plain h = chain-plain (givenRefusal s a d bs e) _ (given-plain s a d bs e) (go (eqb a d))
-    where
-      go : (t : Bool) → atHop (cond t 0 (awayRefusal s a i bs e)) ≡ false
-      go true = refl
-      go false = rw (le-ltb i 8 h)
+  unfolding stepRefusal atHop
+  far-plain h = not-true _ (one-passes (λ r. not (atHop r)) refl refl (chain-one _ _ (given-numbers s a d bs e) (far-away h (eqb a d))))
 
   placed-le : (r : ℕ) → placed i r .hop ≤ i + 1
   unfolding placed

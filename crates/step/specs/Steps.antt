@@ -1,16 +1,16 @@
 -- One forwarding step: at server a, of a packet for server d, with next hop index i, path bytes bs and a's neighbour table e.
 use Prim.Native.Nat.{ℕ, _+_, _*_}
-use mathlib.Core.List.{List, [], _∷_}
+use mathlib.Core.List.{List, [], _∷_, _++_}
 use mathlib.Core.Bool.{Bool, true, false, cond, _||_}
 use lib.Dec.{ltb, eqb}
 use lib.ListN.{length, getD, replicate}
 use Rattle.refusals.specs.declared.Refusal.{Refusal}
 use Rattle.refusals.specs.Refusals.{none, plain, refusedAt, _or-else_, _unless_, answer}
 use Rattle.room.specs.declared.Shape.{Shape}
-use Rattle.room.specs.Refusals.{pairRefusal}
+use Rattle.room.specs.Refusals.{pairRefusal, serverNumbers}
 use Rattle.room.specs.declared.Number.{Number}
 use Rattle.room.specs.Answers.{aNumber}
-use Rattle.path.specs.Walks.{hopTo, hopRefusal}
+use Rattle.path.specs.Walks.{hopTo, hopRefusal, hopNumbers}
 use Rattle.step.specs.declared.Step.{Step}
 
 -- byte j of the entry of path byte b in a neighbour table
@@ -31,17 +31,29 @@ flagAt e b = entry e b 7
 unfoldable pub givenRefusal : Shape → ℕ → ℕ → List ℕ → List ℕ → ℕ
 givenRefusal s a d bs e = pairRefusal s a d or-else 17 unless eqb (length e) 2048 or-else 7 unless eqb (length bs) 8
 
+abbrev pub givenNumbers : List ℕ
+givenNumbers = serverNumbers ++ (17 ∷ 7 ∷ [])
+
 -- why the hop by byte b is not taken: 8, 9, 10, and 19 unless its flag is exactly 1
 unfoldable pub byteRefusal : Shape → ℕ → List ℕ → ℕ → ℕ
 byteRefusal s a e b = hopRefusal s a b or-else 19 unless eqb (flagAt e b) 1
+
+abbrev pub byteNumbers : List ℕ
+byteNumbers = hopNumbers ++ (19 ∷ [])
 
 -- away from the destination: 18, then the byte that the index names
 unfoldable pub awayRefusal : Shape → ℕ → ℕ → List ℕ → List ℕ → ℕ
 awayRefusal s a i bs e = 18 unless ltb i 8 or-else byteRefusal s a e (getD bs i 0)
 
+abbrev pub awayNumbers : List ℕ
+awayNumbers = 18 ∷ byteNumbers
+
 -- the chain: at the destination there is no refusal more, whatever the index (rule 8.4)
 unfoldable pub stepRefusal : Shape → ℕ → ℕ → ℕ → List ℕ → List ℕ → ℕ
 stepRefusal s a d i bs e = givenRefusal s a d bs e or-else cond (eqb a d) 0 (awayRefusal s a i bs e)
+
+abbrev pub stepNumbers : List ℕ
+stepNumbers = givenNumbers ++ awayNumbers
 
 -- whether a step's refusal arises at its hop: 8, 9, 10, 19
 unfoldable pub atHop : ℕ → Bool

@@ -1,3 +1,4 @@
+pub mod NumberLaws
 pub mod ScanLaws
 pub mod AcceptLaws
 pub mod ListWalk

@@ -1,6 +1,6 @@
 -- Checking a list of arrays: each is walked in list order, then every two are held against each other.
 use Prim.Native.Nat.{ℕ, zero, suc, _+_, _-_, _*_, _/_, _%_}
-use mathlib.Core.List.{List, [], _∷_, map}
+use mathlib.Core.List.{List, [], _∷_, _++_, map}
 use mathlib.Core.Bool.{Bool, true, not, cond, _&&_}
 use lib.Dec.{leb, eqb}
 use lib.ListN.{length, take, drop}
@@ -8,7 +8,7 @@ use Rattle.lists.specs.Lists.{isIn, middle}
 use Rattle.refusals.specs.declared.Refusal.{Refusal}
 use Rattle.refusals.specs.Refusals.{none, plain, refusedAt, ofRoute, _or-else_, _unless_, answer}
 use Rattle.room.specs.declared.Shape.{Shape}
-use Rattle.links.specs.Table.{roomRefusal}
+use Rattle.links.specs.Table.{roomRefusal, roomNumbers}
 use Rattle.path.specs.declared.Walked.{Walked}
 use Rattle.path.specs.Answers.{walkAnswer}
 
@@ -56,6 +56,9 @@ firstPair i (w ∷ ws) = firstOf (firstMeeting w (i + 1) ws) (firstPair (i + 1) 
 unfoldable pub listRefusal : Shape → List ℕ → ℕ → ℕ → List ℕ → ℕ
 listRefusal s t a d bs =
     roomRefusal s t a d or-else 7 unless (eqb (length bs % 8) 0 && (leb 1 (length bs) && leb (length bs) (8 * suc (s .k))))
+
+abbrev pub listNumbers : List ℕ
+listNumbers = roomNumbers ++ (7 ∷ [])
 
 -- the arrays of a list, each walked
 unfoldable pub walksOf : Shape → List ℕ → ℕ → ℕ → List ℕ → List Walked

@@ -1,8 +1,10 @@
 -- `driver::rooms::bcube_shape` meets its contract. Assumes nothing.
 use borrow.Author.Needs.{needs}
 use native.Mathlib.Omega.{arith}
+use mathlib.Core.Path.{refl}
+use Rattle.refusals.proofs.NumberLaws.{one-le}
 use Rattle.room.specs.Refusals.{shapeRefusal}
-use Rattle.driver.proofs.BoundLaws.{shape-le}
+use Rattle.room.proofs.NumberLaws.{shape-numbers}
 use Rattle.driver.proofs.RoomSmall.{plain-fits, plain-said}
 use Rattle.driver.proofs.rooms.bcube_shape.Statement.{statement}
 use Rattle.driver.proofs.rooms.bcube_shape.Tie as tie
@@ -14,5 +16,5 @@ bcube-shape-spec =
     (λ c κs. search needs)
     (λ c κs. search needs)
     (λ c κs. search needs)
-    (λ c κs. plain-fits _ (shape-le _) (omega arith) (c .before .shape-refusal .ensures) (c .plain .ensures))
+    (λ c κs. plain-fits _ (one-le 255 refl (shape-numbers _)) (omega arith) (c .before .shape-refusal .ensures) (c .plain .ensures))
     (λ c. plain-said shapeRefusal (c .result-word .ensures) (c .before .plain .ensures) (c .before .before .shape-refusal .ensures) (c .before .before .before .shape-in .ensures)))
