@@ -4,16 +4,11 @@ use mathlib.Core.List.{List, [], _∷_, map}
 use mathlib.Core.Bool.{Bool, cond}
 use lib.Dec.{eqb}
 use lib.ListN.{getD, set}
-use Rattle.lists.specs.Lists.{filled}
+use Rattle.lists.specs.Lists.{filled, downFrom}
 use Rattle.room.specs.declared.Shape.{Shape}
 use Rattle.room.specs.Shapes.{bound}
 use Rattle.room.specs.Addresses.{digits, withDigit}
 use Rattle.path.specs.Routes.{byteOf}
-
--- m-1, .. , 0
-abbrev pub downFrom : ℕ → List ℕ
-downFrom zero = []
-downFrom (suc m) = m ∷ downFrom m
 
 -- the level after l: the next lower one, and k after 0
 abbrev pub next : ℕ → ℕ → ℕ

@@ -39,11 +39,11 @@ pub over : (a p q r : ℕ) → p ≡ q → p ≤ a → r ≡ r unless ltb a q
 over a p q r e h = let k : q ≤ a = omega arith in simp (le-ltb a q k)
 
 -- a test that a call made
-pub passed : (r : ℕ) (t u : Bool) → t ≡ u → t ≡ true → 0 ≡ r unless u
-passed r t u e h = rw (← e, h)
+pub test-passed : (r : ℕ) (t u : Bool) → t ≡ u → t ≡ true → 0 ≡ r unless u
+test-passed r t u e h = rw (← e, h)
 
-pub failed : (r : ℕ) (t u : Bool) → t ≡ u → t ≡ false → r ≡ r unless u
-failed r t u e h = rw (← e, h)
+pub test-failed : (r : ℕ) (t u : Bool) → t ≡ u → t ≡ false → r ≡ r unless u
+test-failed r t u e h = rw (← e, h)
 
 -- a test that two numbers are the same, or not
 module _ (r x y : ℕ) where

@@ -1,7 +1,7 @@
 -- Laws of refusals: which test refuses, and what no refusal means.
-use Prim.Native.Nat.{ℕ, zero, suc, _+_, _≤_, _<_, suc-le-suc}
+use Prim.Native.Nat.{ℕ, zero, suc, _+_, _*_, _≤_, _<_, suc-le-suc}
 use mathlib.Core.Path.{_≡_, refl, sym, ap, _∙_}
-use mathlib.Core.Bool.{true, false, not, _&&_}
+use mathlib.Core.Bool.{Bool, true, false, not, _&&_}
 use mathlib.Core.List.{List, [], _∷_}
 use native.Mathlib.Numerals.{add-one}
 use native.Mathlib.Omega.{arith}
@@ -9,6 +9,8 @@ use native.Mathlib.Nat.{add-zero, zero-add, add-suc, suc-add, le-of-suc-le-suc}
 use lib.ListN.{length, getD, drop, drop-of-length-le}
 use lib.Seq.{drop-cons}
 use lib.Dec.{ltb, leb, eqb}
+use mir.Syntax.{w64}
+use mir.Val.{Fits}
 use borrow.Author.Tests.{lt-ltb, le-ltb, le-leb, lt-leb, ltb-true, leb-true, eqb-false, ne-eqb, not-true}
 use Rattle.lists.proofs.ListLaws.{both-held}
 use Rattle.refusals.specs.Refusals.{_or-else_, _unless_}
@@ -16,7 +18,7 @@ use Rattle.refusals.proofs.ChainLaws.{or-else-zero, chain-goes, test-held}
 use Rattle.room.specs.declared.Shape.{Shape}
 use Rattle.room.specs.Shapes.{serversOf, bound, serverCount, Valid, Server, Ends, Link, Value}
 use Rattle.room.specs.Refusals.{shapeRefusal, levelRefusal, serverRefusal, pairRefusal, endsRefusal, linkRefusal, valueRefusal, placeBound, placesFit, placesRefusal}
-use Rattle.room.proofs.PowerLaws.{count-servers}
+use Rattle.room.proofs.PowerLaws.{count-servers, count-within}
 
 -- ---- shapes
 
@@ -115,6 +117,13 @@ value-none {s} {a} {l} {v} h = chain-goes _ _ _ _ (link-none (h .link)) refl (si
 
 -- ---- as the program tests: r is what it found of the tests before, x the number of servers that it counted
 
+module _ (s : Shape) (some : 2 ≤ s .n) (few : s .n ≤ 64) (low : s .k ≤ 3) (x : ℕ) (e : x ≡ serverCount s) where
+  pub count-many : 4096 < x → 3 ≡ shapeRefusal s
+  count-many h = let n = count-within s some few low in many-servers s some few low (omega arith)
+
+  pub count-fine : x ≤ 4096 → 0 ≡ shapeRefusal s
+  count-fine h = let n = count-within s some few low in valid-none (record { two = some; ports = few; levels = low; small = omega arith })
+
 pub counted : (s : Shape) (r x : ℕ) → r ≡ shapeRefusal s → r ≡ 0 → x ≡ serverCount s → x ≡ serversOf s
 counted s r x e z f = f ∙ count-servers (valid-of s (sym e ∙ z))
 
@@ -143,19 +152,56 @@ module _ (s : Shape) (a l r : ℕ) (e : r ≡ serverRefusal s a) (z : r ≡ 0) w
   pub link-failed : s .k < l → 20 ≡ linkRefusal s a l
   link-failed h = level-tested 20 (rw (lt-leb l (s .k) h))
 
+-- what follows where nothing was refused
+module _ (s : Shape) (a b r : ℕ) (e : r ≡ pairRefusal s a b) (z : r ≡ 0) where
+  pub pair-first : serverRefusal s a ≡ 0
+  pair-first = sym (server-none (pair-of s a b (sym e ∙ z) .0))
+
+  pub pair-second : serverRefusal s b ≡ 0
+  pair-second = sym (server-none (pair-of s a b (sym e ∙ z) .1))
+
+module _ (s : Shape) (a l r : ℕ) (e : r ≡ linkRefusal s a l) (z : r ≡ 0) where
+  pub link-server : serverRefusal s a ≡ 0
+  link-server = sym (server-none (link-of s a l (sym e ∙ z) .server))
+
+  pub link-low : l < 4
+  link-low = let h = link-of s a l (sym e ∙ z) in omega (arith, h .level, h .server .valid .levels)
+
+  pub link-fits : Fits w64 (l * 8)
+  link-fits = omega (arith, link-low)
+
 -- ---- four places
 
-pub fit-step : (s : Shape) (i : ℕ) (ds : List ℕ) → i < length ds → getD ds i 0 < placeBound s i → placesFit s i (drop i ds) ≡ placesFit s (i + 1) (drop (i + 1) ds)
-unfolding placesFit
-fit-step s i ds h b = rw (add-one, drop-cons ds i 0 h) (simp (lt-ltb _ _ b))
+-- the loop's invariant: whether the places from i on fit is whether all do
+pub record Fitting (s : Shape) (ds : List ℕ) (i : ℕ) : Type 0 where
+  pub within : i ≤ 4
+  pub long : length ds ≡ 4
+  pub same : placesFit s i (drop i ds) ≡ placesFit s 0 ds
 
-pub fit-stop : (s : Shape) (i : ℕ) (ds : List ℕ) → i < length ds → placeBound s i ≤ getD ds i 0 → placesFit s i (drop i ds) ≡ false
-unfolding placesFit
-fit-stop s i ds h b = rw (drop-cons ds i 0 h) (simp (le-ltb _ _ b))
+pub fitting-start : (s : Shape) (ds : List ℕ) → length ds ≡ 4 → Fitting s ds 0
+fitting-start s ds l = record { within = omega arith; long = l; same = refl }
 
-pub fit-done : (s : Shape) (i : ℕ) (ds : List ℕ) → length ds ≤ i → placesFit s i (drop i ds) ≡ true
-unfolding placesFit
-fit-done s i ds h = rw (drop-of-length-le ds h)
+module _ {s : Shape} {ds : List ℕ} {i : ℕ} (g : Fitting s ds i) where
+  pub fitting-done : 4 ≤ i → true ≡ placesFit s 0 ds
+  unfolding placesFit
+  fitting-done h = let q : length ds ≤ i = omega (arith, g .long) in (rw (drop-of-length-le ds q)) ∙ g .same
+
+  -- m is the bound of place i
+  module _ (h : i < 4) (m : ℕ) (e : m ≡ placeBound s i) where
+    place-left : placesFit s i (drop i ds) ≡ (ltb (getD ds i 0) m && placesFit s (i + 1) (drop (i + 1) ds))
+    unfolding placesFit
+    place-left = let q : i < length ds = omega (arith, g .long) in rw (e, add-one, drop-cons ds i 0 q)
+
+    pub fitting-stop : m ≤ getD ds i 0 → false ≡ placesFit s 0 ds
+    fitting-stop b = sym (place-left ∙ ap (λ (t : Bool). t && placesFit s (i + 1) (drop (i + 1) ds)) (le-ltb _ _ b)) ∙ g .same
+
+    pub fitting-next : getD ds i 0 < m → Fitting s ds (i + 1)
+    fitting-next b =
+        record {
+          within = omega arith;
+          long = g .long;
+          same = sym (place-left ∙ ap (λ (t : Bool). t && placesFit s (i + 1) (drop (i + 1) ds)) (lt-ltb _ _ b)) ∙ g .same;
+        }
 
 fit-at : (s : Shape) (o : ℕ) (ds : List ℕ) → placesFit s o ds ≡ true → (i : ℕ) → i < length ds → getD ds i 0 < placeBound s (o + i)
 unfolding placesFit

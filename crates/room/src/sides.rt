@@ -8,7 +8,7 @@ use crate::shapes::power;
 
 // The servers at the switch of a server at a level: with v from 0 up to `count`, the one that has the
 // value v there is `first` plus v times `stride`. Zeros where n is not among 1 to 64 or the level is
-// above 4; of a link of a room nothing else is tested.
+// above 3; of a link of a room nothing else is tested.
 pub fn side_of(shape: Shape, server: usize, level: usize) -> Side
     ensures { λ r. ⌜ r ≡ sideOf shape server level ⌝ }
 {

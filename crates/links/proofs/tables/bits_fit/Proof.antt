@@ -22,14 +22,17 @@ bits-fit-spec =
     (tie.spec
     Inv-loop
     μ-loop
+    -- none so far
     (λ c. (omega arith, omega arith))
     (λ c. search needs)
     (λ c. search needs)
     (λ c. search needs)
+    -- one byte more: the greater of it and of those before
     (λ c.
     let g = c .before .before .before .loop in
     let n = greatest-next (c .before .before .before .before .before .args .table .now) (g .i) (omega arith) in
     ⊎-elim (λ w. (omega arith, omega arith)) (λ w. (omega arith, omega arith)) (c .if1 .came))
+    -- the weight of the level above k, which is at most 7; the greatest against it
     (λ c. search needs)
     (λ c κs. search needs)
     (λ c. search greatest-end))

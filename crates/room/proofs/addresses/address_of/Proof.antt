@@ -1,10 +1,10 @@
 -- `room::addresses::address_of` meets its contract. Assumes nothing.
 use borrow.Author.Needs.{needs}
-use mathlib.Core.Path.{sym, ap, _∙_}
-use Rattle.refusals.proofs.AnswerLaws.{answer-refused, answer-given}
+use mathlib.Core.Path.{sym, _∙_}
 use Rattle.room.proofs.RefusalLaws.{places-of}
 use Rattle.room.proofs.RoomLaws.{places-below}
-use Rattle.room.specs.Answers.{addressAnswer, aNumber, noNumber}
+use Rattle.room.proofs.AnswerLaws.{number-refused, number-given}
+use Rattle.room.specs.Answers.{addressAnswer}
 use Rattle.room.proofs.addresses.address_of.Statement.{statement}
 use Rattle.room.proofs.addresses.address_of.Tie as tie
 
@@ -15,7 +15,7 @@ address-of-spec =
     (tie.spec
     (λ c κs. search needs)
     (λ c κs. search needs)
-    (λ c. answer-refused _ _ noNumber _ _ (c .no-number .ensures) (c .before .before .places-refusal .ensures) (c .before .if1 .taken))
+    (λ c. search number-refused)
     (λ c κs. let p = places-of _ _ (sym (c .before .places-refusal .ensures) ∙ c .if1 .left) in (p .valid .ports, places-below p))
     (λ c κs. search needs)
-    (λ c. answer-given _ _ noNumber _ _ (c .before .before .before .places-refusal .ensures) (c .before .before .if1 .left) (c .a-number .ensures ∙ ap aNumber (c .before .number-of .ensures))))
+    (λ c. search number-given))

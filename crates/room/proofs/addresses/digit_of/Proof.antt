@@ -1,14 +1,8 @@
 -- `room::addresses::digit_of` meets its contract. Assumes nothing.
 use borrow.Author.Needs.{needs}
-use mathlib.Core.Path.{sym, ap, _∙_}
-use native.Mathlib.Omega.{arith}
-use Prim.Native.Nat.{ℕ}
-use mathlib.Core.List.{List}
-use lib.ListN.{getD}
-use Rattle.refusals.proofs.AnswerLaws.{answer-refused, answer-given}
-use Rattle.room.proofs.RefusalLaws.{link-of, server-none}
-use Rattle.room.proofs.RoomLaws.{place-digit}
-use Rattle.room.specs.Answers.{digitAnswer, aNumber, noNumber}
+use Rattle.room.specs.Answers.{digitAnswer}
+use Rattle.room.proofs.RefusalLaws.{link-server, link-fits, link-low}
+use Rattle.room.proofs.AnswerLaws.{number-refused, number-given, digit-held}
 use Rattle.room.proofs.addresses.digit_of.Statement.{statement}
 use Rattle.room.proofs.addresses.digit_of.Tie as tie
 
@@ -19,9 +13,10 @@ digit-of-spec =
     (tie.spec
     (λ c κs. search needs)
     (λ c κs. search needs)
-    (λ c. answer-refused _ _ noNumber _ _ (c .no-number .ensures) (c .before .before .link-refusal .ensures) (c .before .if1 .taken))
-    (λ c κs. sym (server-none (link-of _ _ _ (sym (c .before .link-refusal .ensures) ∙ c .if1 .left) .server)))
-    (λ c. let h = link-of _ _ _ (sym (c .before .before .link-refusal .ensures) ∙ c .before .if1 .left) in omega arith)
-    (λ c. let h = link-of _ _ _ (sym (c .before .before .link-refusal .ensures) ∙ c .before .if1 .left) in omega arith)
+    (λ c. search number-refused)
+    -- the four digits; the level is one of their places
+    (λ c κs. search link-server)
+    (λ c. search link-fits)
+    (λ c. search link-low)
     (λ c κs. search needs)
-    (λ c. answer-given _ _ noNumber _ _ (c .before .before .before .link-refusal .ensures) (c .before .before .if1 .left) (c .a-number .ensures ∙ ap aNumber (ap (λ (x : List ℕ). getD x (c .before .before .before .before .args .level) 0) (c .before .digit-places .ensures) ∙ place-digit _ _ _))))
+    (λ c. search (number-given, digit-held)))

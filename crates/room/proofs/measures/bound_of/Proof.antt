@@ -1,8 +1,7 @@
 -- `room::measures::bound_of` meets its contract. Assumes nothing.
 use borrow.Author.Needs.{needs}
-use mathlib.Core.Path.{ap, _∙_}
-use Rattle.refusals.proofs.AnswerLaws.{answer-refused, answer-given}
-use Rattle.room.specs.Answers.{boundAnswer, aNumber, noNumber}
+use Rattle.room.specs.Answers.{boundAnswer}
+use Rattle.room.proofs.AnswerLaws.{number-refused, number-given}
 use Rattle.room.proofs.measures.bound_of.Statement.{statement}
 use Rattle.room.proofs.measures.bound_of.Tie as tie
 
@@ -13,7 +12,7 @@ bound-of-spec =
     (tie.spec
     (λ c κs. search needs)
     (λ c κs. search needs)
-    (λ c. answer-refused _ _ noNumber _ _ (c .no-number .ensures) (c .before .before .level-refusal .ensures) (c .before .if1 .taken))
+    (λ c. search number-refused)
     (λ c κs. search needs)
     (λ c κs. search needs)
-    (λ c. answer-given _ _ noNumber _ _ (c .before .before .before .level-refusal .ensures) (c .before .before .if1 .left) (c .a-number .ensures ∙ ap aNumber (c .before .digit-bound .ensures))))
+    (λ c. search number-given))

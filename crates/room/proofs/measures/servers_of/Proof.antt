@@ -1,9 +1,8 @@
 -- `room::measures::servers_of` meets its contract. Assumes nothing.
 use borrow.Author.Needs.{needs}
-use mathlib.Core.Path.{ap, _∙_}
-use Rattle.refusals.proofs.AnswerLaws.{answer-refused, answer-given}
+use Rattle.room.specs.Answers.{serversAnswer}
 use Rattle.room.proofs.RefusalLaws.{counted}
-use Rattle.room.specs.Answers.{serversAnswer, aNumber, noNumber}
+use Rattle.room.proofs.AnswerLaws.{number-refused, number-given}
 use Rattle.room.proofs.measures.servers_of.Statement.{statement}
 use Rattle.room.proofs.measures.servers_of.Tie as tie
 
@@ -14,7 +13,7 @@ servers-of-spec =
     (tie.spec
     (λ c κs. search needs)
     (λ c κs. search needs)
-    (λ c. answer-refused _ _ noNumber _ _ (c .no-number .ensures) (c .before .before .shape-refusal .ensures) (c .before .if1 .taken))
+    (λ c. search number-refused)
     (λ c κs. search needs)
     (λ c κs. search needs)
-    (λ c. answer-given _ _ noNumber _ _ (c .before .before .before .shape-refusal .ensures) (c .before .before .if1 .left) (c .a-number .ensures ∙ ap aNumber (search counted))))
+    (λ c. search (number-given, counted)))

@@ -1,10 +1,7 @@
 -- `room::switches::struck` meets its contract. Assumes nothing.
-use native.Mathlib.Omega.{arith}
 use borrow.Author.Needs.{needs}
-use mathlib.Core.Path.{_≡_, sym, ap, _∙_}
-use Prim.Native.Nat.{ℕ}
-use lib.ListN.{length}
-use Rattle.room.proofs.FourPlaces.{struckOf, struck-places}
+use native.Mathlib.Omega.{arith}
+use Rattle.room.proofs.FourPlaces.{struck-at}
 use Rattle.room.proofs.switches.struck.Statement.{statement}
 use Rattle.room.proofs.switches.struck.Tie as tie
 
@@ -15,16 +12,16 @@ struck-spec =
     (λ c. search needs)
     (λ c. search needs)
     (λ c. search needs)
-    (λ c. let t = c .before .args .t1 in let l : length t ≡ 4 = search needs in let e : c .before .args .level ≡ 0 = omega arith in ap (λ (x : ℕ). struckOf x t) (sym e) ∙ struck-places (c .before .args .level) t (omega arith) l)
+    (λ c. struck-at 0 (c .before .args .level) _ (omega arith) (omega arith) (search needs))
     (λ c. search needs)
     (λ c. search needs)
     (λ c. search needs)
-    (λ c. let t = c .before .before .args .t1 in let l : length t ≡ 4 = search needs in let e : c .before .before .args .level ≡ 1 = omega arith in ap (λ (x : ℕ). struckOf x t) (sym e) ∙ struck-places (c .before .before .args .level) t (omega arith) l)
+    (λ c. struck-at 1 (c .before .before .args .level) _ (omega arith) (omega arith) (search needs))
     (λ c. search needs)
     (λ c. search needs)
     (λ c. search needs)
-    (λ c. let t = c .before .before .before .args .t1 in let l : length t ≡ 4 = search needs in let e : c .before .before .before .args .level ≡ 2 = omega arith in ap (λ (x : ℕ). struckOf x t) (sym e) ∙ struck-places (c .before .before .before .args .level) t (omega arith) l)
+    (λ c. struck-at 2 (c .before .before .before .args .level) _ (omega arith) (omega arith) (search needs))
     (λ c. search needs)
     (λ c. search needs)
     (λ c. search needs)
-    (λ c. let t = c .before .before .before .args .t1 in let l : length t ≡ 4 = search needs in let e : c .before .before .before .args .level ≡ 3 = omega arith in ap (λ (x : ℕ). struckOf x t) (sym e) ∙ struck-places (c .before .before .before .args .level) t (omega arith) l))
+    (λ c. struck-at 3 (c .before .before .before .args .level) _ (omega arith) (omega arith) (search needs)))
