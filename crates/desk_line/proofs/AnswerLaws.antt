@@ -155,8 +155,8 @@ print-end {s} {a} {d} {t} {j} p h =
 
 -- ---- refusals
 
-pub ends-le : (s : Shape) (a d : ℕ) → endsRefusal s a d ≤ 5
-ends-le s a d = one-le 5 refl (ends-numbers s a d)
+pub ends-le : (s : Shape) (a d : ℕ) → endsRefusal s a d ≤ 9
+ends-le s a d = one-le 9 refl (ends-numbers s a d)
 
 number-of : (r : ℕ) (x : RouteSet) → answer r noBuilding (aBuilding x) .refusal .number ≡ r
 number-of zero x = refl
