@@ -7,7 +7,9 @@ use native.Mathlib.Omega.{arith}
 use lib.Dec.{lit<}
 use Rattle.refusals.specs.declared.Refusal.{Refusal}
 use Rattle.refusals.specs.Refusals.{answer}
+use Rattle.refusals.proofs.NumberLaws.{one-le}
 use Rattle.room.specs.Refusals.{shapeRefusal}
+use Rattle.room.proofs.NumberLaws.{shape-numbers}
 use Rattle.room.specs.Answers.{betweenAnswer}
 use Rattle.links.specs.Servers.{serverAnswer, markedServer, clearedServer}
 use Rattle.links.specs.Answers.{failedAnswer, linkAnswer, changedTable}
@@ -16,7 +18,6 @@ use Rattle.step.specs.Steps.{stepAnswer}
 use Rattle.driver.specs.declared.Answer.{Answer}
 use Rattle.driver.specs.Words.{word, refusalIn, Small, left, betweenWord, askedWord}
 use Rattle.driver.proofs.WordLaws.{refusal-back, value-back, plain-small, left-given, left-lent}
-use Rattle.driver.proofs.BoundLaws.{shape-le}
 use Rattle.driver.proofs.RoomSmall.{servers-small, bound-small, switches-small, server-at-small, server-fits, digit-small, address-small, neighbour-small, switch-small, between-level, between-fits, digits-fits, asked-fits, link-fits}
 use Rattle.driver.proofs.PathSmall.{byte-small, parts-found, read-small, reverse-small, write-small, check-small}
 use Rattle.driver.proofs.RouteSmall.{build-small, find-small, select-small}
@@ -85,7 +86,7 @@ pub every-word : EveryWord
 unfolding betweenWord askedWord
 every-word =
     record {
-      shape = λ s. tells (plain-small (shapeRefusal s) (shape-le s));
+      shape = λ s. tells (plain-small (shapeRefusal s) (one-le 255 refl (shape-numbers s)));
       servers = λ s. tells (servers-small s);
       bounds = λ s l. tells (bound-small s l);
       switches = λ s l. tells (switches-small s l);

@@ -23,6 +23,7 @@ use Rattle.path.specs.Bytes.{madeRefusal, byteAnswer, partsRefusal, noParts, so
 use Rattle.path.specs.Routes.{byteTo, switchesOf, encode, levelOf, valueOf}
 use Rattle.path.specs.Walks.{Walk, stopped, arrived, walk, hopTo, hopRefusal, fault}
 use Rattle.path.specs.Answers.{noHop, aHop, hopAnswer, arrayRefusal, noWalk, walked, walkAnswer, reading, readAnswer, noWriting, aWriting, reversed, reverseAnswer, writeRefusal, written, onTheWay, writeAnswer}
+use Rattle.path.proofs.NumberLaws.{fault-numbers}
 use Rattle.verdict.specs.Checks.{checkAnswer}
 use Rattle.build.specs.Sets.{emptySet}
 use Rattle.build.specs.Answers.{buildAnswer}
@@ -42,7 +43,7 @@ use Rattle.demands.specs.Demand1.{ofAHop, at-hop, no-arrival, later, Par
 use Rattle.demands.specs.Refusals.{shapeTests, levelTests, serverTests, pairTests, linkTests, valueTests, portTests, madeTests, partsTests, placesTests, tableTests, tableLinkTests, tableServerTests, endsTests, roomTests, arrayTests, layTests, checkTests, selectTests, pickTests, endOf, hopTests, readTests, writeTests, serversTests, givenTests, stepTests, Stops, hop-fails, never-arrives, goes-on, Reads, Writes, Checks, Steps}
 use Rattle.demands.proofs.Chains.{all, one-listed, fails}
 use Rattle.demands.proofs.Refusing.{Of, none-of, some-of, hop-of, chain-of, whole-of, bare-none, bare-is, bare-answer, refuses, answer-refuses}
-use Rattle.demands.proofs.Numbers.{read-number, fault-numbers, plain-numbers}
+use Rattle.demands.proofs.Numbers.{read-number, plain-numbers}
 use Rattle.demands.proofs.Hops.{stops-walk}
 use Rattle.demands.proofs.Exactly.{refused-exactly}
 

@@ -226,9 +226,6 @@ module _ (s : Shape) where
         (chain (hopTests s a b) ((11, links) ∷ []) _ _ refl (hop-number a b) (λ h. test 11 (live t (levelOf b) a (hopTo s a b)) (live-links t (levelOf b) a (hopTo s a b))))
         (λ h. test 12 (not (isIn (hopTo s a b) met) && not (isIn (switchAt s (levelOf b) a) used)) (both _ _ (not-in (hopTo s a b) met) (not-in (switchAt s (levelOf b) a) used)))
 
-    pub fault-numbers : OneOf (8 ∷ 9 ∷ 10 ∷ 11 ∷ 12 ∷ []) (fault s t met used a b)
-    fault-numbers = one-listed (hopTests s a b ++ ((11, links) ∷ (12, fresh) ∷ [])) (fault s t met used a b) fault-number
-
   -- plain reading has no 11
   pub plain-numbers : (met used : List ℕ) (a b : ℕ) → OneOf (8 ∷ 9 ∷ 10 ∷ 12 ∷ []) (fault s [] met used a b)
   plain-numbers met used a b =

@@ -2,18 +2,19 @@
 use Prim.Native.Nat.{ℕ, zero, suc, _+_, _-_, _*_, _≤_, _<_}
 use mathlib.Core.Path.{_≡_, refl, sym, ap, ap₂, _∙_}
 use mathlib.Core.Logic.{_≢_}
-use mathlib.Core.Bool.{Bool, true, false, cond, not, _&&_}
+use mathlib.Core.Bool.{Bool, true, false, cond}
 use mathlib.Core.List.{List, [], _∷_, _++_, map, append-assoc, append-nil}
 use native.Mathlib.Omega.{arith}
-use lib.Dec.{eqb, ltb, leb}
 use lib.ListN.{length, take, drop, replicate, length-append, length-replicate}
 use Rattle.lists.specs.Lists.{downFrom, filled}
-use Rattle.refusals.specs.Refusals.{_or-else_, _unless_, answer}
+use Rattle.refusals.specs.Refusals.{answer}
+use Rattle.refusals.proofs.NumberLaws.{one-le}
 use Rattle.refusals.proofs.AnswerLaws.{answer-refused, answer-none}
 use Rattle.room.specs.declared.Shape.{Shape}
-use Rattle.room.specs.Shapes.{serversOf, fullRoom, Ends}
-use Rattle.room.specs.Refusals.{shapeRefusal, serverRefusal, pairRefusal, endsRefusal}
+use Rattle.room.specs.Shapes.{fullRoom, Ends}
+use Rattle.room.specs.Refusals.{endsRefusal}
 use Rattle.room.proofs.RefusalLaws.{ends-of}
+use Rattle.room.proofs.NumberLaws.{ends-numbers}
 use Rattle.path.specs.declared.Reading.{Reading}
 use Rattle.path.specs.Answers.{readAnswer}
 use Rattle.path.proofs.CodecLaws.{read-given}
@@ -154,27 +155,8 @@ print-end {s} {a} {d} {t} {j} p h =
 
 -- ---- refusals
 
-or-else-le : (p q : ℕ) → p ≤ 5 → q ≤ 5 → (p or-else q) ≤ 5
-unfolding _or-else_
-or-else-le zero q h k = k
-or-else-le (suc p) q h k = h
-
-unless-le : (r : ℕ) (t : Bool) → r ≤ 5 → (r unless t) ≤ 5
-unless-le r true h = omega arith
-unless-le r false h = h
-
-server-le : (s : Shape) (a : ℕ) → serverRefusal s a ≤ 5
-unfolding serverRefusal shapeRefusal
-server-le s a =
-    or-else-le _ _
-    (or-else-le _ _
-    (or-else-le _ _ (unless-le 1 (leb 2 (s .n) && leb (s .n) 64) (omega arith)) (unless-le 2 (leb (s .k) 3) (omega arith)))
-    (unless-le 3 (leb (serversOf s) 4096) (omega arith)))
-    (unless-le 4 (ltb a (serversOf s)) (omega arith))
-
-pub ends-le : (s : Shape) (a d : ℕ) → endsRefusal s a d ≤ 5
-unfolding endsRefusal pairRefusal
-ends-le s a d = or-else-le _ _ (or-else-le _ _ (server-le s a) (server-le s d)) (unless-le 5 (not (eqb a d)) (omega arith))
+pub ends-le : (s : Shape) (a d : ℕ) → endsRefusal s a d ≤ 9
+ends-le s a d = one-le 9 refl (ends-numbers s a d)
 
 number-of : (r : ℕ) (x : RouteSet) → answer r noBuilding (aBuilding x) .refusal .number ≡ r
 number-of zero x = refl

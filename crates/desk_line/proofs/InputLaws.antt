@@ -90,7 +90,7 @@ first-65 xs ys h =
 
 -- ---- how much is printed
 
-refused-short : (r : ℕ) → r ≤ 5 → length (refusedLine r) ≡ 10
+refused-short : (r : ℕ) → r ≤ 9 → length (refusedLine r) ≡ 10
 unfolding refusedLine
 refused-short r h =
     let t = decimal-small r (omega arith) in
