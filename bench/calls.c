@@ -5,7 +5,6 @@
  * empty call with the same arguments), and prints how many calls that were, the sum of what they answered, and
  * the time they took. */
 #define _POSIX_C_SOURCE 199309L
-#include "bcube.h"
 #include "../tests/c/plain.h"
 
 #include <inttypes.h>
@@ -16,19 +15,22 @@
 
 /* ---- the questions: pairs of servers in a room of 8 ports and levels 0 to 3 */
 
-enum { N = 8, K = 3, SERVERS = 4096, QUESTIONS = 16, FAILED = 8, WRITTEN = 36 };
+enum { N = 8, K = 3, SERVERS = 4096, QUESTIONS = 16, FAILED = 8, WRITTEN = 72 };
+static bcube_room room;
 
 struct question {
-    uint32_t source, destination;
+    uint64_t source, destination, met[9];
+    size_t count; /* of the servers met by the first built route */
     uint8_t list[BCUBE_LIST_BYTES]; /* the built routes */
     uint8_t some[SERVERS];          /* a failed-link table that breaks none of them */
     uint8_t broken[SERVERS];        /* one that breaks one of them */
 };
 
 static struct question question[QUESTIONS];
-static uint8_t neighbours[BCUBE_TABLE_BYTES];
+static uint8_t marked[SERVERS]; /* a table to write to */
+static uint8_t neighbours[BCUBE_NEIGHBOUR_TABLE_BYTES];
 static union {
-    uint32_t servers[9];
+    uint64_t servers[9];
     uint8_t bytes[WRITTEN];
 } out;
 
@@ -44,49 +46,64 @@ static void make_tables(struct question *q) {
     do {
         memset(q->some, 0, SERVERS);
         for (int i = 0; i < FAILED; i++) q->some[below(SERVERS)] |= (uint8_t)(1u << below(K + 1));
-    } while (plain_check(N, K, q->source, q->destination, q->some, SERVERS, q->list, BCUBE_LIST_BYTES) != 0);
-    uint32_t met[9];
+    } while (bcube_refusal(plain_check(room, q->source, q->destination, q->some, SERVERS, q->list, BCUBE_LIST_BYTES)));
+    uint64_t met[9];
     const uint8_t *last = q->list + BCUBE_PATH_BYTES * K;
-    uint64_t hops = plain_read(N, K, q->source, q->destination, last, BCUBE_PATH_BYTES, met) >> 32;
-    uint32_t hop = hops > 2 ? 1 : 0;
+    uint32_t hop = bcube_value(plain_read(room, q->source, q->destination, last, BCUBE_PATH_BYTES, met)) > 2 ? 1 : 0;
     memcpy(q->broken, q->some, SERVERS);
     q->broken[met[hop]] |= (uint8_t)(1u << last[hop] / 64);
 }
 
 static void make_questions(void) {
+    room = plain_room_of(N, K);
     for (size_t i = 0; i < sizeof neighbours; i++) neighbours[i] = (uint8_t)(i % 8 == 7 ? 1 : i * 37 % 251);
     for (int i = 0; i < QUESTIONS; i++) {
         struct question *q = &question[i];
         q->source = below(SERVERS);
         do q->destination = below(SERVERS);
         while (q->destination == q->source);
-        plain_build(N, K, q->source, q->destination, q->list);
+        plain_build(room, q->source, q->destination, q->list);
+        q->count = bcube_value(plain_read(room, q->source, q->destination, q->list, BCUBE_PATH_BYTES, q->met));
         make_tables(q);
     }
 }
 
 /* ---- the rows: an empty call with the same arguments, and the call of both */
 
-#define ROW(row, call, parameters, arguments)                                         \
-    __attribute__((noipa)) static uint64_t empty_##row parameters { return 0; }       \
-    static uint64_t none_##row(const struct question *q) { return empty_##row arguments; } \
-    static uint64_t plain_##row##_row(const struct question *q) { return plain_##call arguments; } \
-    static uint64_t proved_##row(const struct question *q) { return bcube_##call arguments; }
+static uint64_t number_of(bcube_answer answer) { return answer.word; }
+static uint64_t both_of(bcube_stepped step) { return step.word + 3 * step.mac; }
+
+#define ROW(row, form, sum, call, parameters, arguments)                              \
+    __attribute__((noipa)) static form empty_##row parameters { return (form){0}; }   \
+    static uint64_t none_##row(const struct question *q) { return sum(empty_##row arguments); } \
+    static uint64_t plain_##row##_row(const struct question *q) { return sum(plain_##call arguments); } \
+    static uint64_t proved_##row(const struct question *q) { return sum(bcube_##call arguments); }
 
 #pragma GCC diagnostic ignored "-Wunused-parameter"
-#define ENDS uint32_t n, uint32_t k, uint32_t source, uint32_t destination
-#define THESE N, K, q->source, q->destination
+#pragma GCC diagnostic ignored "-Wmissing-field-initializers"
+#define ENDS bcube_room room, uint64_t source, uint64_t destination
+#define THESE room, q->source, q->destination
 #define BYTES(name) const uint8_t *name, size_t name##_len
+#define WORD(row, call, parameters, arguments) ROW(row, bcube_answer, number_of, call, parameters, arguments)
 
-ROW(read, read, (ENDS, BYTES(path), uint32_t *servers), (THESE, q->list, 8, out.servers))
-ROW(check, check, (ENDS, BYTES(table), BYTES(list)), (THESE, q->some, SERVERS, q->list, BCUBE_LIST_BYTES))
-ROW(build, build, (ENDS, uint8_t *routes), (THESE, out.bytes))
-ROW(select_whole, select, (ENDS, BYTES(table), uint8_t *routes), (THESE, q->some, SERVERS, out.bytes))
-ROW(select_broken, select, (ENDS, BYTES(table), uint8_t *routes), (THESE, q->broken, SERVERS, out.bytes))
-ROW(step, step, (ENDS, uint32_t index, BYTES(path), BYTES(table)),
-    (THESE, 0, q->list, 8, neighbours, BCUBE_TABLE_BYTES))
-ROW(step_mac, step_mac, (ENDS, uint32_t index, BYTES(path), BYTES(table)),
-    (THESE, 0, q->list, 8, neighbours, BCUBE_TABLE_BYTES))
+WORD(digit, digit, (bcube_room room, uint64_t server, uint64_t level), (room, q->source, 2))
+WORD(switch, switch, (bcube_room room, uint64_t server, uint64_t level), (room, q->source, 2))
+WORD(server_at, server_at, (bcube_room room, uint64_t level, uint64_t number, uint64_t port), (room, 2, q->source / 8, 3))
+WORD(neighbour, neighbour, (bcube_room room, uint64_t server, uint64_t level, uint64_t value), (room, q->source, 2, 3))
+WORD(path_byte, path_byte, (bcube_room room, uint64_t level, uint64_t value), (room, 2, 3))
+WORD(failed_link, failed_link, (bcube_room room, uint64_t server, uint64_t level, BYTES(table)), (room, q->source, 2, q->some, SERVERS))
+WORD(mark_link, mark_link, (bcube_room room, uint64_t server, uint64_t level, uint8_t *table, size_t table_len), (room, q->source, 2, marked, SERVERS))
+WORD(mark_server, mark_server, (bcube_room room, uint64_t server, uint8_t *table, size_t table_len), (room, q->source, marked, SERVERS))
+WORD(read, read, (ENDS, BYTES(path), uint64_t *servers), (THESE, q->list, 8, out.servers))
+WORD(write, write, (bcube_room room, const uint64_t *servers, size_t servers_len, uint8_t *path), (room, q->met, q->count, out.bytes))
+WORD(reverse, reverse, (ENDS, BYTES(path), uint8_t *reversed), (THESE, q->list, 8, out.bytes))
+WORD(check, check, (ENDS, BYTES(table), BYTES(list)), (THESE, q->some, SERVERS, q->list, BCUBE_LIST_BYTES))
+WORD(build, build, (ENDS, uint8_t *routes), (THESE, out.bytes))
+WORD(select_whole, select, (ENDS, BYTES(table), uint8_t *routes), (THESE, q->some, SERVERS, out.bytes))
+WORD(select_broken, select, (ENDS, BYTES(table), uint8_t *routes), (THESE, q->broken, SERVERS, out.bytes))
+WORD(pick, pick, (ENDS, BYTES(table), BYTES(fresh), BYTES(kept)), (THESE, q->some, SERVERS, q->list, 8, q->list, BCUBE_LIST_BYTES))
+ROW(step, bcube_stepped, both_of, step, (ENDS, uint64_t index, BYTES(path), BYTES(neighbours)),
+    (THESE, 0, q->list, 8, neighbours, BCUBE_NEIGHBOUR_TABLE_BYTES))
 
 typedef uint64_t a_call(const struct question *);
 
@@ -95,7 +112,9 @@ static const struct {
     a_call *none, *plain, *proved;
 } rows[] = {
 #define NAMED(row) {#row, none_##row, plain_##row##_row, proved_##row}
-    NAMED(read), NAMED(check), NAMED(build), NAMED(select_whole), NAMED(select_broken), NAMED(step), NAMED(step_mac),
+    NAMED(digit), NAMED(switch), NAMED(server_at), NAMED(neighbour), NAMED(path_byte), NAMED(failed_link),
+    NAMED(mark_link), NAMED(mark_server), NAMED(read), NAMED(write), NAMED(reverse), NAMED(check), NAMED(build),
+    NAMED(select_whole), NAMED(select_broken), NAMED(pick), NAMED(step),
 };
 enum { ROWS = sizeof rows / sizeof *rows };
 

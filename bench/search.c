@@ -12,7 +12,7 @@
 #include <string.h>
 #include <time.h>
 
-typedef uint64_t a_find(FIND_ARGUMENTS);
+typedef bcube_answer a_find(FIND_ARGUMENTS);
 
 static const struct {
     const char *name;
@@ -49,8 +49,8 @@ static void make_question(int i, uint32_t k, uint32_t servers, uint32_t failed, 
     question[i].source = below(servers);
     do question[i].destination = below(servers);
     while (question[i].destination == question[i].source);
-    for (uint32_t f = 0; f < failed; f++) question[i].table[below(servers)] |= (uint8_t)(1 << below(k + 1));
-    if (worst) question[i].table[question[i].destination] = (uint8_t)((2 << k) - 1);
+    for (uint32_t f = 0; f < failed; f++) question[i].table[below(servers)] |= (uint8_t)(1u << below(k + 1));
+    if (worst) question[i].table[question[i].destination] = (uint8_t)((2u << k) - 1);
 }
 
 static uint32_t servers_of(uint32_t n, uint32_t k) {
@@ -72,8 +72,10 @@ static uint32_t compare(int i, uint32_t n, uint32_t k) {
     const uint8_t *table = question[i].table;
     size_t servers = servers_of(n, k);
     uint8_t proved[8], textbook[8];
-    uint64_t word = bcube_find(n, k, a, d, table, servers, proved);
-    if (word == textbook_find(n, k, a, d, table, servers, textbook) && memcmp(proved, textbook, 8) == 0) return bcube_value(word);
+    bcube_room room = bcube_room_of(n, k);
+    bcube_answer answer = bcube_find(room, a, d, table, servers, proved);
+    if (answer.word == textbook_find(room, a, d, table, servers, textbook).word && memcmp(proved, textbook, 8) == 0)
+        return bcube_value(answer);
     printf("the searches differ in room (%" PRIu32 ",%" PRIu32 ") from %" PRIu32 " to %" PRIu32 "\n", n, k, a, d);
     exit(1);
 }
@@ -104,8 +106,8 @@ int main(int count, char **words) {
     while (c < sizeof cases / sizeof *cases && strcmp(cases[c].name, words[2]) != 0) c++;
     if (!find || c == sizeof cases / sizeof *cases) return 2;
     int made = make_case(c);
-    uint32_t n = cases[c].n, k = cases[c].k;
-    size_t servers = servers_of(n, k);
+    bcube_room room = bcube_room_of(cases[c].n, cases[c].k);
+    size_t servers = servers_of(cases[c].n, cases[c].k);
     unsigned long times = strtoul(words[3], NULL, 10);
     uint8_t path[8];
     uint64_t sum = 0;
@@ -113,7 +115,7 @@ int main(int count, char **words) {
     clock_gettime(CLOCK_MONOTONIC, &from);
     for (unsigned long t = 0; t < times; t++)
         for (int i = 0; i < made; i++)
-            sum += find(n, k, question[i].source, question[i].destination, question[i].table, servers, path);
+            sum += find(room, question[i].source, question[i].destination, question[i].table, servers, path).word;
     clock_gettime(CLOCK_MONOTONIC, &to);
     double ns = 1e9 * (double)(to.tv_sec - from.tv_sec) + (double)(to.tv_nsec - from.tv_nsec);
     printf("calls %lu sum %" PRIx64 " ns %.0f\n", times * (unsigned long)made, sum, ns);

@@ -1,6 +1,6 @@
 /* step WHICH TIMES: makes every step of many packets TIMES times by one of the steps, and prints how many
  * calls that were, the sum of what they answered, and the time they took. WHICH is one of proved, tested,
- * bare (one call a step, the packed number), proved_mac, tested_mac, bare_mac (the MAC), or none. */
+ * bare, or none. */
 #define _POSIX_C_SOURCE 199309L
 #include "bcube.h"
 #include "plain.h"
@@ -11,20 +11,16 @@
 #include <string.h>
 #include <time.h>
 
-typedef uint64_t a_step(STEP_ARGUMENTS);
+typedef bcube_stepped a_step(STEP_ARGUMENTS);
 
 static const struct {
     const char *name;
     a_step *step;
-} which[] = {
-    {"none", no_step},          {"proved", bcube_step},         {"tested", tested_step},         {"bare", bare_step},
-    {"proved_mac", bcube_step_mac}, {"tested_mac", tested_step_mac}, {"bare_mac", bare_step_mac},
-};
+} which[] = {{"none", no_step}, {"proved", bcube_step}, {"tested", tested_step}, {"bare", bare_step}};
 
 /* A room of 8 ports and levels 0 to 3, as in the paper; packets that correct the digits k down to 0. */
 enum { PACKETS = 256, STEPS = PACKETS * 5 };
-static const uint32_t n = 8, k = 3;
-static uint8_t table[BCUBE_TABLE_BYTES];
+static uint8_t table[BCUBE_NEIGHBOUR_TABLE_BYTES];
 static struct {
     uint32_t here, destination, index;
     uint8_t path[8];
@@ -63,13 +59,16 @@ int main(int count, char **words) {
         if (strcmp(which[i].name, words[1]) == 0) step = which[i].step;
     if (!step) return 2;
     size_t made = make_steps();
+    bcube_room room = bcube_room_of(8, 3);
     unsigned long times = strtoul(words[2], NULL, 10);
     uint64_t sum = 0;
     struct timespec from, to;
     clock_gettime(CLOCK_MONOTONIC, &from);
     for (unsigned long t = 0; t < times; t++)
-        for (size_t i = 0; i < made; i++)
-            sum += step(n, k, steps[i].here, steps[i].destination, steps[i].index, steps[i].path, 8, table, sizeof table);
+        for (size_t i = 0; i < made; i++) {
+            bcube_stepped taken = step(room, steps[i].here, steps[i].destination, steps[i].index, steps[i].path, 8, table, sizeof table);
+            sum += taken.word + 3 * taken.mac;
+        }
     clock_gettime(CLOCK_MONOTONIC, &to);
     double ns = 1e9 * (double)(to.tv_sec - from.tv_sec) + (double)(to.tv_nsec - from.tv_nsec);
     printf("calls %lu sum %" PRIx64 " ns %.0f\n", times * (unsigned long)made, sum, ns);

@@ -58,15 +58,16 @@ static struct answer search(uint32_t n, uint32_t k, uint32_t source, uint32_t de
     return (struct answer){0, {0}};
 }
 
-uint64_t textbook_find(FIND_ARGUMENTS) {
+bcube_answer textbook_find(FIND_ARGUMENTS) {
     (void)table_len;
-    struct answer found = search(n, k, source, destination, table);
+    uint32_t n = (uint32_t)(room.number & 255), k = (uint32_t)(room.number >> 8);
+    struct answer found = search(n, k, (uint32_t)source, (uint32_t)destination, table);
     memcpy(path, found.bytes, HOPS);
-    return (uint64_t)found.hops << 32;
+    return (bcube_answer){(uint64_t)found.hops << 32};
 }
 
 /* what a call alone costs */
-uint64_t no_find(FIND_ARGUMENTS) {
-    (void)n, (void)k, (void)source, (void)destination, (void)table, (void)table_len, (void)path;
-    return 0;
+bcube_answer no_find(FIND_ARGUMENTS) {
+    (void)room, (void)source, (void)destination, (void)table, (void)table_len, (void)path;
+    return (bcube_answer){0};
 }

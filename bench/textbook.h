@@ -3,14 +3,12 @@
 #ifndef TEXTBOOK_H
 #define TEXTBOOK_H
 
-#include <stddef.h>
-#include <stdint.h>
+#include "bcube.h"
 
 #define FIND_ARGUMENTS                                                                                            \
-    uint32_t n, uint32_t k, uint32_t source, uint32_t destination, const uint8_t *table, size_t table_len,        \
-        uint8_t path[8]
+    bcube_room room, uint64_t source, uint64_t destination, const uint8_t *table, size_t table_len, uint8_t path[8]
 
-uint64_t textbook_find(FIND_ARGUMENTS);
-uint64_t no_find(FIND_ARGUMENTS);
+bcube_answer textbook_find(FIND_ARGUMENTS);
+bcube_answer no_find(FIND_ARGUMENTS);
 
 #endif

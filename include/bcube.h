@@ -1,53 +1,68 @@
-/* bcube.h: the routes of a BCube room, for a driver in C or C++.
+/* bcube.h: the routes of a BCube room, for a driver in C (C99 or later) or C++ (C++11 or later).
  *
- * Link the static library libbcube.a (x86-64 Linux; `./library FOLDER` puts it and this file into FOLDER).
- * It needs nothing but memcpy and memset, keeps no state and no pointer, allocates nothing, and may be
- * called from any thread, by many at once. What each function answers is proved for every argument, so no
- * argument has to be tested before a call: a call answers, or it refuses with a number.
+ * `./library PREFIX` puts this file into PREFIX/include, and libbcube.a and libbcube.so, for x86-64 Linux, into
+ * PREFIX/lib. The library needs nothing but memcpy and memset, keeps no state and no pointer, allocates
+ * nothing, and may be called from any thread, by many at once. What each call answers is proved for every
+ * argument, so no argument has to be tested before a call: a call answers, or it refuses with a number.
  *
- * THE ROOM. Every call begins with the room's shape:
+ * THE ROOM. Every call begins with the room, a value made once by bcube_room_of(n, k):
  *   n, k         n ports a switch (2 to 64), levels 0 to k (k is 0 to 3); N = n^(k+1), the number of
  *                servers, is at most 4,096
  *   a server     a number below N, its address: the sum of digit i times n^i, for i from 0 to k
  *   a level      0 to k
  *   a switch     a level l and a number: the digits of any of its servers with digit l struck out and the
- *                rest closed up
+ *                rest closed up; a server is at the port of its digit l
  *   a link       a server and a level: the cable from that server to its switch at that level
  *   a hop        from one server to another that differs in one digit, at level l; it uses both servers'
  *                links at level l, and the switch between them
  *
- * PATH BYTES. A route joins two different servers in 1 to 8 hops, meets no server twice and uses no switch
- * twice. It is written as an array of 8 bytes, one byte a hop: 64 times the level plus the new value of
+ * PATH BYTES. A route leads from a server to another one by 1 to 8 hops; no server and no switch comes on it a
+ * second time. It is written as an array of 8 bytes, one byte a hop: 64 times the level plus the new value of
  * the digit at that level. The route ends where it first reaches the destination, and not at a zero byte:
  * a zero byte is a hop like any other (level 0, value 0). The bytes after the last hop are zero.
  * A list of routes is one array after another, at most k+1 of them. Two routes are parallel when they
  * share no switch, and no server but the ends.
  *
- * THE FAILED-LINK TABLE has one byte a server, N in all. Bit l of byte s is set while server s's link at
- * level l is failed. The driver owns it; begin with N zero bytes, and use bcube_mark_link and
- * bcube_clear_link. A dead server has all its links marked.
+ * THE FAILED-LINK TABLE has one byte a server, N in all (4,096 at most). Bit l of byte s is set while server
+ * s's link at level l is failed. The driver owns it: begin with N zero bytes, and use bcube_mark_link and
+ * bcube_clear_link, or bcube_mark_server and bcube_clear_server for all links of a server. Every call that
+ * takes the table tests all of it (refusal 6). Where it has passed that test, and only these calls have
+ * written to it since, a driver may read one bit itself, table[server] >> level & 1, and save the test.
  *
- * THE ANSWER of every call but the two of the forwarding step is one number, the result word. Read it by
- * bcube_refusal, bcube_value, bcube_route and bcube_hop. Where bcube_refusal gives BCUBE_NONE, the value is
- * the answer, and the out buffer, if the call has one, is written in full. Otherwise the call is refused:
- * bcube_refusal says why, bcube_route and bcube_hop say where (both count from 1, and are 0 where the
- * refusal has no such place), the value is 0, and every buffer keeps the bytes it was lent with.
+ * THE ANSWER of every call but bcube_step is one word, in a type of its own. Read it by bcube_refusal,
+ * bcube_value, bcube_route and bcube_hop. Where bcube_refusal gives BCUBE_NOT_REFUSED, the value is the answer,
+ * and the out buffer, if the call has one, is written in full. Otherwise the call is refused: bcube_refusal
+ * says why, bcube_route and bcube_hop say where (both count from 1, and are 0 where the refusal has no such
+ * place), the value is 0, and every buffer keeps the bytes it was lent with.
  *
+ *     bcube_room room = bcube_room_of(8, 3);
  *     uint8_t routes[BCUBE_LIST_BYTES];
- *     uint64_t word = bcube_select(n, k, source, destination, table, table_len, routes);
- *     if (bcube_refusal(word) == BCUBE_NONE) .. bcube_value(word) routes are in `routes` ..
+ *     bcube_answer answer = bcube_select(room, source, destination, table, table_len, routes);
+ *     if (bcube_refusal(answer) == BCUBE_NOT_REFUSED) .. bcube_value(answer) routes are in `routes` ..
+ *     else puts(bcube_refusal_text(bcube_refusal(answer)));
  *
  * Each call below lists what it can refuse, in the order in which that is tried; the first that applies is
  * given. What the numbers mean stands at the names of the refusals.
  *
+ * NUMBERS are all uint64_t, and are tested as they come: none is cut before it is tested.
+ *
  * BUFFERS. A buffer of any length comes as a pointer and a length, in bytes, or for bcube_write's servers
- * in numbers. It must point to as many readable elements as its length says (writable, for the table of
- * bcube_mark_link and bcube_clear_link), and must not be a null pointer, not even where the length is 0.
- * Wrong lengths are refused, not read. A buffer of a fixed length, such as `uint32_t digits[4]`, is a
- * pointer to that many writable elements. An out buffer must not overlap any other buffer of the call.
- * Buffers are used only during the call. Two threads must not lend the same buffer at once if either call
- * writes to it: a table is the driver's to guard.
- */
+ * in numbers. It must point to as many readable elements as its length says (writable, for the tables that
+ * are marked and cleared). A null pointer with length 0 is a good empty buffer; with any other length it is
+ * a pointer to memory that is not there, like any wild pointer, and no call looks for it. Wrong lengths are
+ * refused, not read. A buffer of a fixed length, such as `uint64_t digits[4]`, is a pointer to that many
+ * writable elements, and never null. An out buffer must not overlap any other buffer of the call. Buffers
+ * are used only during the call. Two threads must not lend the same buffer at once if either call writes to
+ * it: a table is the driver's to guard.
+ *
+ * COST. Each call says what it costs: a constant few instructions; the table, which is a pass over the N
+ * bytes of the failed-link table; or a search, which may visit every server. It says too how many bytes of
+ * stack it takes at most, beside its return address: tests/c/stack measures that, and it is written here rounded up to
+ * 64. docs/PERFORMANCE.md has the instructions.
+ *
+ * WHERE IT RUNS. In user space, on x86-64. For a kernel the library would have to be compiled again, without
+ * SSE registers and without a red zone, and with a stack for the searches. bcube_step uses neither of the
+ * two and calls nothing: tests/c/stack holds it to that. */
 #ifndef BCUBE_H
 #define BCUBE_H
 
@@ -58,266 +73,360 @@
 extern "C" {
 #endif
 
+/* An answer that is not looked at is a mistake, and so is a null pointer for a buffer of a fixed length: a
+ * compiler that can say so is asked to. */
+#if defined(__GNUC__) || defined(__clang__)
+#define BCUBE_RESULT __attribute__((warn_unused_result))
+#define BCUBE_BUFFER(parameter) __attribute__((nonnull(parameter)))
+#else
+#define BCUBE_RESULT
+#define BCUBE_BUFFER(parameter)
+#endif
+
+/* ---- the version: 10,000 times the first number, 100 times the second, and the third */
+
+#define BCUBE_VERSION 20000 /* 2.0.0; docs/CHANGES.md says what each version changed */
+
+/* The version of the library that the program runs with, to hold against BCUBE_VERSION, the header's. Another
+ * first number says that the two do not fit. Cost: constant; 0 bytes of stack. */
+BCUBE_RESULT uint64_t bcube_version(void);
+
 /* ---- limits and sizes */
 
-#define BCUBE_MOST_PORTS 64     /* n is 2 to 64 */
+#define BCUBE_FEWEST_PORTS 2    /* n is 2 */
+#define BCUBE_MOST_PORTS 64     /* to 64 */
 #define BCUBE_MOST_LEVEL 3      /* k is 0 to 3 */
 #define BCUBE_MOST_SERVERS 4096 /* N is at most this */
 #define BCUBE_MOST_HOPS 8       /* a route has 1 to 8 hops */
 
-#define BCUBE_PATH_BYTES 8     /* the path bytes of a packet, or of one route */
-#define BCUBE_LIST_BYTES 32    /* room for the most routes of a list: 4 arrays */
-#define BCUBE_TABLE_BYTES 2048 /* a neighbour table: 256 entries */
-#define BCUBE_ENTRY_BYTES 8    /* one entry: MAC at 0 to 5, */
-#define BCUBE_ENTRY_PORT 6     /* OutPort, */
-#define BCUBE_ENTRY_FLAG 7     /* StatusFlag */
-#define BCUBE_AVAILABLE 1      /* the flag of an available neighbour */
+#define BCUBE_PATH_BYTES 8    /* the path bytes of a packet, or of one route */
+#define BCUBE_LIST_BYTES 32   /* room for the most routes of a list: 4 arrays */
+#define BCUBE_ROUTE_SERVERS 9 /* room for the servers of one route */
 
-/* ---- the refusals, one name each
+#define BCUBE_NEIGHBOUR_TABLE_BYTES 2048 /* a neighbour table: 256 entries */
+#define BCUBE_NEIGHBOUR_ENTRY_BYTES 8    /* one entry: MAC at 0 to 5, */
+#define BCUBE_NEIGHBOUR_PORT 6           /* OutPort, */
+#define BCUBE_NEIGHBOUR_FLAG 7           /* StatusFlag */
+#define BCUBE_NEIGHBOUR_AVAILABLE 1      /* the flag of an available neighbour */
+
+/* ---- the refusals, one name each, which is the name that the sources have
  *
  * Where one arises: 8 to 12 and 23 have the route and the hop at which they were found (a step's, and its
- * 19, the hop index + 1); 13 has hop 8; 14 the place of the first byte after the arrival that is not
- * zero; 15 the later route of the pair, and hop 0. A single array, and the servers to write, are route 1. All
- * others have route 0 and hop 0. */
-#define BCUBE_NONE 0            /* no refusal */
-#define BCUBE_PORTS 1           /* n is not among 2 to 64 */
-#define BCUBE_LEVELS 2          /* k is above 3 */
-#define BCUBE_SERVERS 3         /* the room has more than 4,096 servers */
-#define BCUBE_ADDRESS 4         /* a server is not below N */
-#define BCUBE_SAME_ENDS 5       /* the source is the destination */
-#define BCUBE_FAILED_TABLE 6    /* the failed-link table is not N bytes, or has a bit above bit k set */
-#define BCUBE_PATH 7            /* a single array is not 8 bytes; a list's bytes are not a multiple of 8, or
-                                   more than 8(k+1), or, for bcube_check, none */
-#define BCUBE_POSITION 8        /* the path byte's level is above k */
-#define BCUBE_VALUE 9           /* the path byte's value is not below n */
-#define BCUBE_NO_CHANGE 10      /* the hop would change nothing */
-#define BCUBE_FAILED_LINK 11    /* the hop crosses a failed link, of its sender or of its receiver */
-#define BCUBE_REPEATED 12       /* the hop meets a server, or uses a switch, already on this route */
-#define BCUBE_NOT_ARRIVED 13    /* eight hops, and not arrived */
-#define BCUBE_NOT_ZERO 14       /* a byte after the arrival is not zero */
-#define BCUBE_NOT_PARALLEL 15   /* two routes share a switch, or a server that is not an end */
-#define BCUBE_NO_ROUTE 16       /* there is no route to give */
-#define BCUBE_NEIGHBOUR_TABLE 17 /* the neighbour table is not 2,048 bytes */
-#define BCUBE_INDEX 18          /* the index is 8 or more, and the packet has not arrived */
-#define BCUBE_UNAVAILABLE 19    /* the next neighbour's flag is not 1 */
-#define BCUBE_LEVEL 20          /* a level is above k */
-#define BCUBE_DIGIT 21          /* a digit is not below n, or one at a place above k is not zero */
-#define BCUBE_COUNT 22          /* servers to write: fewer than 2, or more than 9 */
-#define BCUBE_NOT_NEIGHBOURS 23 /* two servers in a row do not differ in exactly one digit */
+ * 19, the index + 1); 13 has hop 8; 14 the place of the first byte after the arrival that is not zero; 15 the
+ * later route of the pair, and hop 0. A single array, a single byte, and the servers to write, are route 1.
+ * All others have route 0 and hop 0. */
+#define BCUBE_NOT_REFUSED 0
+#define BCUBE_REFUSED_PORTS 1
+#define BCUBE_REFUSED_LEVELS 2
+#define BCUBE_REFUSED_SERVERS 3
+#define BCUBE_REFUSED_ADDRESS 4
+#define BCUBE_REFUSED_SAME_ENDS 5
+#define BCUBE_REFUSED_TABLE 6
+#define BCUBE_REFUSED_LIST 7
+#define BCUBE_REFUSED_POSITION 8
+#define BCUBE_REFUSED_VALUE 9
+#define BCUBE_REFUSED_NO_CHANGE 10
+#define BCUBE_REFUSED_FAILED_LINK 11
+#define BCUBE_REFUSED_REPEATED 12
+#define BCUBE_REFUSED_NOT_ARRIVED 13
+#define BCUBE_REFUSED_AFTER_ARRIVAL 14
+#define BCUBE_REFUSED_NOT_PARALLEL 15
+#define BCUBE_REFUSED_NO_ROUTE 16
+#define BCUBE_REFUSED_NEIGHBOUR_TABLE 17
+#define BCUBE_REFUSED_HOP_INDEX 18
+#define BCUBE_REFUSED_UNAVAILABLE 19
+#define BCUBE_REFUSED_LEVEL 20
+#define BCUBE_REFUSED_DIGIT 21
+#define BCUBE_REFUSED_SERVER_COUNT 22
+#define BCUBE_REFUSED_NOT_NEIGHBOURS 23
 
-/* ---- the result word, from its lowest byte: refusal, route, hop, 0, and the value in the high four bytes */
+/* What a refusal's number means, as a sentence. */
+static inline const char *bcube_refusal_text(uint64_t number) {
+    switch (number) {
+    case BCUBE_NOT_REFUSED: return "Nothing is refused.";
+    case BCUBE_REFUSED_PORTS: return "n, the ports of a switch, is not among 2 to 64.";
+    case BCUBE_REFUSED_LEVELS: return "k, the highest level, is above 3.";
+    case BCUBE_REFUSED_SERVERS: return "The room would have more than 4,096 servers.";
+    case BCUBE_REFUSED_ADDRESS: return "A server is not below the number of servers.";
+    case BCUBE_REFUSED_SAME_ENDS: return "The source is the destination.";
+    case BCUBE_REFUSED_TABLE: return "The failed-link table is not one byte a server, or has a bit above bit k set.";
+    case BCUBE_REFUSED_LIST:
+        return "A single array is not 8 bytes; or a list is not whole arrays of 8 bytes, or has more than k+1, or none to check.";
+    case BCUBE_REFUSED_POSITION: return "A path byte's level is above k.";
+    case BCUBE_REFUSED_VALUE: return "A path byte's value is not below the bound of its digit.";
+    case BCUBE_REFUSED_NO_CHANGE: return "A hop changes nothing.";
+    case BCUBE_REFUSED_FAILED_LINK: return "A hop crosses a failed link, of its sender or of its receiver.";
+    case BCUBE_REFUSED_REPEATED: return "A hop meets a server, or uses a switch, that is already on the route.";
+    case BCUBE_REFUSED_NOT_ARRIVED: return "Eight hops, and not arrived.";
+    case BCUBE_REFUSED_AFTER_ARRIVAL: return "A byte after the arrival is not zero.";
+    case BCUBE_REFUSED_NOT_PARALLEL: return "Two routes share a switch, or a server that is not an end.";
+    case BCUBE_REFUSED_NO_ROUTE: return "There is no route to give.";
+    case BCUBE_REFUSED_NEIGHBOUR_TABLE: return "The neighbour table is not 2,048 bytes.";
+    case BCUBE_REFUSED_HOP_INDEX: return "The next hop index is 8 or more, away from the destination.";
+    case BCUBE_REFUSED_UNAVAILABLE: return "The next neighbour is not available.";
+    case BCUBE_REFUSED_LEVEL: return "A level is above k.";
+    case BCUBE_REFUSED_DIGIT:
+        return "A digit, or a port, is not below its bound; or a place above k is not zero; or the level has no such switch.";
+    case BCUBE_REFUSED_SERVER_COUNT: return "The servers to write are fewer than 2, or more than 9.";
+    case BCUBE_REFUSED_NOT_NEIGHBOURS: return "Two servers in a row do not differ in exactly one digit.";
+    default: return "There is no such refusal.";
+    }
+}
 
-/* Why the call is refused: one of the numbers above, or BCUBE_NONE. */
-static inline uint32_t bcube_refusal(uint64_t word) { return (uint32_t)(word & 255); }
+/* ---- the room, and the two forms of an answer: each is passed in registers, like plain numbers */
+
+typedef struct {
+    uint64_t number; /* n + 256 k; a call takes any number, and refuses what is no room */
+} bcube_room;
+
+typedef struct {
+    uint64_t word; /* from the lowest byte: refusal, route, hop, 0, and the value in the high four bytes */
+} bcube_answer;
+
+typedef struct {
+    uint64_t word; /* from the lowest byte: refusal, its hop, 1 if delivered, next index, next server (two bytes),
+                      OutPort, 0 */
+    uint64_t mac;  /* the MAC as stored, its first byte highest (bits 40 to 47) */
+} bcube_stepped;
+
+/* Why the call is refused: one of the numbers above, or BCUBE_NOT_REFUSED. */
+static inline uint32_t bcube_refusal(bcube_answer answer) { return (uint32_t)(answer.word & 255); }
 
 /* The route at which a refusal arose, counted from 1; 0 where the refusal has none, or where there is none. */
-static inline uint32_t bcube_route(uint64_t word) { return (uint32_t)(word >> 8 & 255); }
+static inline uint32_t bcube_route(bcube_answer answer) { return (uint32_t)(answer.word >> 8 & 255); }
 
 /* The hop at which a refusal arose, counted from 1; 0 where the refusal has none, or where there is none. */
-static inline uint32_t bcube_hop(uint64_t word) { return (uint32_t)(word >> 16 & 255); }
+static inline uint32_t bcube_hop(bcube_answer answer) { return (uint32_t)(answer.word >> 16 & 255); }
 
 /* The answer as a number; 0 on a refusal. */
-static inline uint32_t bcube_value(uint64_t word) { return (uint32_t)(word >> 32); }
+static inline uint32_t bcube_value(bcube_answer answer) { return (uint32_t)(answer.word >> 32); }
 
-/* ---- shapes and addresses */
+/* The room of n ports a switch and levels 0 to k, whatever the two numbers: one above 255 counts as 255, which
+ * every call refuses like it. Cost: constant; 0 bytes of stack. */
+BCUBE_RESULT bcube_room bcube_room_of(uint64_t n, uint64_t k);
 
-/* Whether there is such a room. Refuses 1, 2, 3. Value: 0. */
-uint64_t bcube_shape(uint32_t n, uint32_t k);
+/* ---- shapes, addresses and switches */
 
-/* How many servers the room has. Refuses 1, 2, 3. Value: N. */
-uint64_t bcube_servers(uint32_t n, uint32_t k);
+/* Whether there is such a room. Refuses 1, 2, 3. Value: 0. Cost: constant; 0 bytes of stack. */
+BCUBE_RESULT bcube_answer bcube_shape(bcube_room room);
 
-/* What a digit at this level is below. Refuses 1, 2, 3, 20. Value: that bound. */
-uint64_t bcube_bound(uint32_t n, uint32_t k, uint32_t level);
+/* How many servers the room has. Refuses 1, 2, 3. Value: N. Cost: constant; 0 bytes of stack. */
+BCUBE_RESULT bcube_answer bcube_servers(bcube_room room);
+
+/* What a digit at this level is below, which is how many ports the level's switches have. Refuses 1, 2, 3, 20.
+ * Value: that bound. Cost: constant; 0 bytes of stack. */
+BCUBE_RESULT bcube_answer bcube_bound(bcube_room room, uint64_t level);
+
+/* How many switches a level has: their numbers are those below it. Refuses 1, 2, 3, 20. Value: that number.
+ * Cost: constant; 0 bytes of stack. */
+BCUBE_RESULT bcube_answer bcube_switches(bcube_room room, uint64_t level);
 
 /* The digits of a server. Refuses 1, 2, 3, 4. Value: 0. Written: digits[i] is digit i, so the lowest comes
- * first; the places above k hold zero. */
-uint64_t bcube_digits(uint32_t n, uint32_t k, uint32_t server, uint32_t digits[4]);
+ * first; the places above k hold zero. Cost: constant; 0 bytes of stack. */
+BCUBE_BUFFER(3) BCUBE_RESULT bcube_answer bcube_digits(bcube_room room, uint64_t server, uint64_t digits[4]);
 
-/* One digit of a server. Refuses 1, 2, 3, 4, 20. Value: the digit at the level. */
-uint64_t bcube_digit(uint32_t n, uint32_t k, uint32_t server, uint32_t level);
+/* One digit of a server. Refuses 1, 2, 3, 4, 20. Value: the digit at the level.
+ * Cost: constant; 64 bytes of stack. */
+BCUBE_RESULT bcube_answer bcube_digit(bcube_room room, uint64_t server, uint64_t level);
 
 /* The server with these digits, d0 being digit 0; those at places above k have to be zero.
- * Refuses 1, 2, 3, 21. Value: its address. */
-uint64_t bcube_address(uint32_t n, uint32_t k, uint32_t d0, uint32_t d1, uint32_t d2, uint32_t d3);
+ * Refuses 1, 2, 3, 21. Value: its address. Cost: constant; 0 bytes of stack. */
+BCUBE_RESULT bcube_answer bcube_address(bcube_room room, uint64_t d0, uint64_t d1, uint64_t d2, uint64_t d3);
 
 /* The switch that a server's link at this level leads to. Refuses 1, 2, 3, 4, 20. Value: the switch's
- * number; together with the level it names the switch. */
-uint64_t bcube_switch(uint32_t n, uint32_t k, uint32_t server, uint32_t level);
+ * number; together with the level it names the switch. Cost: constant; 0 bytes of stack. */
+BCUBE_RESULT bcube_answer bcube_switch(bcube_room room, uint64_t server, uint64_t level);
+
+/* The server at a port of a switch: the one whose digit at the level is the port, and whose switch there has this
+ * number. Refuses 1, 2, 3, 20, 21 (the level has no switch of that number, or the switch no such port).
+ * Value: its address. Cost: constant; 0 bytes of stack. */
+BCUBE_RESULT bcube_answer bcube_server_at(bcube_room room, uint64_t level, uint64_t number, uint64_t port);
 
 /* The server whose digit at the level is this value, and whose other digits are this server's; where the
- * value is the server's own digit, that is the server itself.
- * Refuses 1, 2, 3, 4, 20, 21 (the value is not below n). Value: its address. */
-uint64_t bcube_neighbour(uint32_t n, uint32_t k, uint32_t server, uint32_t level, uint32_t value);
+ * value is the server's own digit, that is the server itself. Refuses 1, 2, 3, 4, 20, 21 (the value is not
+ * below the bound). Value: its address. Cost: constant; 64 bytes of stack. */
+BCUBE_RESULT bcube_answer bcube_neighbour(bcube_room room, uint64_t server, uint64_t level, uint64_t value);
 
-/* Whether two servers are neighbours: they differ in one digit only. Refuses 1, 2, 3, 4.
- * Value: the level at which they differ, plus 1; 0 where they are no neighbours (a server is not its own). */
-uint64_t bcube_between(uint32_t n, uint32_t k, uint32_t one, uint32_t other);
+/* Whether two servers are neighbours: they differ in one digit only. Refuses 1, 2, 3, 4. Value: the level at
+ * which they differ, plus 1; 0 where they are no neighbours (a server is not its own).
+ * Cost: constant; 0 bytes of stack. */
+BCUBE_RESULT bcube_answer bcube_between(bcube_room room, uint64_t one, uint64_t other);
 
 /* ---- the failed-link table (of N bytes, as above) */
 
-/* Whether a link is marked as failed. Refuses 1, 2, 3, 4, 20, 6. Value: 1 if it is, else 0. */
-uint64_t bcube_failed_link(uint32_t n, uint32_t k, uint32_t server, uint32_t level, const uint8_t *table,
-                           size_t table_len);
+/* Whether a link is marked as failed. Refuses 1, 2, 3, 4, 20, 6. Value: 1 if it is, else 0.
+ * Cost: the table; 0 bytes of stack. */
+BCUBE_RESULT bcube_answer bcube_failed_link(bcube_room room, uint64_t server, uint64_t level, const uint8_t *table,
+                                            size_t table_len);
 
 /* Marks a link as failed. Refuses 1, 2, 3, 4, 20, 6. Value: 0. The one bit of the table is set, and no other
- * changes; marking a marked link changes nothing. */
-uint64_t bcube_mark_link(uint32_t n, uint32_t k, uint32_t server, uint32_t level, uint8_t *table,
-                         size_t table_len);
+ * changes; marking a marked link changes nothing. Cost: the table; 0 bytes of stack. */
+BCUBE_RESULT bcube_answer bcube_mark_link(bcube_room room, uint64_t server, uint64_t level, uint8_t *table,
+                                          size_t table_len);
 
 /* Clears a link of its mark. Refuses 1, 2, 3, 4, 20, 6. Value: 0. The one bit of the table is reset, and no
- * other changes; clearing a link that is not marked changes nothing. */
-uint64_t bcube_clear_link(uint32_t n, uint32_t k, uint32_t server, uint32_t level, uint8_t *table,
-                          size_t table_len);
+ * other changes; clearing a link that is not marked changes nothing.
+ * Cost: the table; 0 bytes of stack. */
+BCUBE_RESULT bcube_answer bcube_clear_link(bcube_room room, uint64_t server, uint64_t level, uint8_t *table,
+                                           size_t table_len);
+
+/* Marks all links of a server, levels 0 to k, as failed: the server is dead. Refuses 1, 2, 3, 4, 6. Value: 0. No
+ * other server's byte changes. Cost: the table; 0 bytes of stack. */
+BCUBE_RESULT bcube_answer bcube_mark_server(bcube_room room, uint64_t server, uint8_t *table, size_t table_len);
+
+/* Clears all links of a server of their marks. Refuses 1, 2, 3, 4, 6. Value: 0. No other server's byte changes.
+ * Cost: the table; 0 bytes of stack. */
+BCUBE_RESULT bcube_answer bcube_clear_server(bcube_room room, uint64_t server, uint8_t *table, size_t table_len);
 
 /* ---- path bytes */
+
+/* The path byte of a hop at this level to this value. Refuses 1, 2, 3, 20, 21 (the value is not below the
+ * bound). Value: the byte. Cost: constant; 0 bytes of stack. */
+BCUBE_RESULT bcube_answer bcube_path_byte(bcube_room room, uint64_t level, uint64_t value);
+
+/* The level and the value of a path byte. Refuses 1, 2, 3; then, at route 1 and hop 1, 8 (a number above 255
+ * too) and 9. Value: both; read it by the two functions below.
+ * Cost: constant; 0 bytes of stack. */
+BCUBE_RESULT bcube_answer bcube_path_byte_parts(bcube_room room, uint64_t byte);
+
+/* The level of those parts; 0 on a refusal. */
+static inline uint32_t bcube_byte_level(bcube_answer parts) { return bcube_value(parts) >> 8; }
+
+/* The value of those parts; 0 on a refusal. */
+static inline uint32_t bcube_byte_value(bcube_answer parts) { return bcube_value(parts) & 255; }
 
 /* Reads one array as a route from source to destination. It looks at no failed links.
  * Refuses 1, 2, 3, 4 (either end), 5, 7; then hop by hop 8, 9, 10, 12; 13 after the eighth hop; 14 on the
  * arrival. Value: how many servers the route has, its hops + 1. Written: those servers in order, the
- * source first; zeros after the last. */
-uint64_t bcube_read(uint32_t n, uint32_t k, uint32_t source, uint32_t destination, const uint8_t *path,
-                    size_t path_len, uint32_t servers[9]);
+ * source first; zeros after the last. Cost: constant; 704 bytes of stack. */
+BCUBE_BUFFER(6) BCUBE_RESULT bcube_answer bcube_read(bcube_room room, uint64_t source, uint64_t destination,
+                                                     const uint8_t *path, size_t path_len, uint64_t servers[9]);
 
 /* Writes a route as path bytes: the servers in order, the source first, servers_len of them (2 to 9).
  * Refuses 1, 2, 3, 22, 4 (any of them), 5 (the first is the last); then hop by hop 23, 12. Value: 0.
- * Written: the 8 path bytes, zeros after the last hop. */
-uint64_t bcube_write(uint32_t n, uint32_t k, const uint32_t *servers, size_t servers_len, uint8_t path[8]);
+ * Written: the 8 path bytes, zeros after the last hop. Cost: constant; 384 bytes of stack. */
+BCUBE_BUFFER(4) BCUBE_RESULT bcube_answer bcube_write(bcube_room room, const uint64_t *servers, size_t servers_len,
+                                                      uint8_t path[8]);
 
 /* The same route backwards. `path` is a route from source to destination, and refusals are those of
  * bcube_read. Value: 0. Written: the path bytes of the route from destination to source that meets the same
- * servers. Twice gives the first bytes again. */
-uint64_t bcube_reverse(uint32_t n, uint32_t k, uint32_t source, uint32_t destination, const uint8_t *path,
-                       size_t path_len, uint8_t reversed[8]);
+ * servers. Twice gives the first bytes again. Cost: constant; 960 bytes of stack. */
+BCUBE_BUFFER(6) BCUBE_RESULT bcube_answer bcube_reverse(bcube_room room, uint64_t source, uint64_t destination,
+                                                        const uint8_t *path, size_t path_len, uint8_t reversed[8]);
 
 /* Checks a list of 1 to k+1 routes from source to destination: each reads over live links, and every two are
  * parallel. Refuses 1, 2, 3, 4 (either end), 5, 6, 7 (an empty list too); then route by route, hop by hop 8, 9, 10,
  * 11, 12, with 13 after the eighth hop and 14 on the arrival; then 15, by first, then by second route.
- * Value: 0. */
-uint64_t bcube_check(uint32_t n, uint32_t k, uint32_t source, uint32_t destination, const uint8_t *table,
-                     size_t table_len, const uint8_t *list, size_t list_len);
+ * Value: 0. Cost: the table; 2368 bytes of stack. */
+BCUBE_RESULT bcube_answer bcube_check(bcube_room room, uint64_t source, uint64_t destination, const uint8_t *table,
+                                      size_t table_len, const uint8_t *list, size_t list_len);
 
 /* ---- routes */
 
 /* The built routes of a room in which all links are live: k+1 parallel routes.
  * Refuses 1, 2, 3, 4 (either end), 5. Value: how many arrays are written, k+1. Written: the arrays, that of
- * slot k first; zeros after them. */
-uint64_t bcube_build(uint32_t n, uint32_t k, uint32_t source, uint32_t destination, uint8_t routes[32]);
+ * slot k first; zeros after them. Cost: constant; 512 bytes of stack. */
+BCUBE_BUFFER(4) BCUBE_RESULT bcube_answer bcube_build(bcube_room room, uint64_t source, uint64_t destination,
+                                                      uint8_t routes[32]);
 
 /* The least route over live links: the fewest hops, and among equals, hop by hop from the source, the higher
  * level first, then the lower value. Refuses 1, 2, 3, 4 (either end), 5, 6. Value: its hops; 0 where no
  * route of eight hops or fewer crosses only live links, which is no refusal. Written: its path bytes; zeros
- * where there is none. (The array of a route may be all zeros too: ask the value.) */
-uint64_t bcube_find(uint32_t n, uint32_t k, uint32_t source, uint32_t destination, const uint8_t *table,
-                    size_t table_len, uint8_t path[8]);
+ * where there is none. (The array of a route may be all zeros too: ask the value.)
+ * Cost: the table and a search; 41216 bytes of stack. */
+BCUBE_BUFFER(6) BCUBE_RESULT bcube_answer bcube_find(bcube_room room, uint64_t source, uint64_t destination,
+                                                     const uint8_t *table, size_t table_len, uint8_t path[8]);
 
-/* Parallel routes around the failed links. For the slots k down to 0: a built route without a failed link is
- * kept; a broken one is replaced by the least route, in the order of bcube_find, over live links that shares
+/* Parallel routes around the failed links. Slot after slot, from k down: the built route stays if all its hops
+ * are live; if not, its place is taken by the least route, in the order of bcube_find, over live links that shares
  * no switch and no middle server with the routes already settled or with the built routes of the lower
  * slots. Where there is none of eight hops or fewer, the slot gets nothing.
  * Refuses 1, 2, 3, 4 (either end), 5, 6; and last 16, when no route at all of eight hops or fewer crosses
  * only live links. Value: how many arrays are written, 1 to k+1. Written: the arrays in slot order, closed
- * up; zeros after them. */
-uint64_t bcube_select(uint32_t n, uint32_t k, uint32_t source, uint32_t destination, const uint8_t *table,
-                      size_t table_len, uint8_t routes[32]);
+ * up; zeros after them.
+ * Cost: the table, and a search for each broken route; 45824 bytes of stack. */
+BCUBE_BUFFER(6) BCUBE_RESULT bcube_answer bcube_select(bcube_room room, uint64_t source, uint64_t destination,
+                                                       const uint8_t *table, size_t table_len, uint8_t routes[32]);
 
 /* ---- picking */
 
 /* Picks one route: the first usable one of the fresh list, else the first usable one of the kept list. Usable
- * means that bcube_check would take it as a list of one. Either list may be empty (length 0, and not a null
- * pointer). Refuses 1, 2, 3, 4 (either end), 5, 6, 7 (either list; an empty list is allowed); and last 16, when
- * no route of either list is usable. Value: which route it is; read it by the three functions below. */
-uint64_t bcube_pick(uint32_t n, uint32_t k, uint32_t source, uint32_t destination, const uint8_t *table,
-                    size_t table_len, const uint8_t *fresh, size_t fresh_len, const uint8_t *kept,
-                    size_t kept_len);
+ * means that bcube_check would take it as a list of one. Either list may be empty. Refuses 1, 2, 3, 4 (either
+ * end), 5, 6, 7 (either list; an empty list is allowed); and last 16, when no route of either list is usable.
+ * Value: which route it is; read it by the three functions below.
+ * Cost: the table; 704 bytes of stack. */
+BCUBE_RESULT bcube_answer bcube_pick(bcube_room room, uint64_t source, uint64_t destination, const uint8_t *table,
+                                     size_t table_len, const uint8_t *fresh, size_t fresh_len, const uint8_t *kept,
+                                     size_t kept_len);
 
 #define BCUBE_FRESH 1 /* the picked route is in the fresh list */
 #define BCUBE_KEPT 2  /* the picked route is in the kept list */
 
 /* The list of the picked route: BCUBE_FRESH or BCUBE_KEPT; 0 on a refusal. */
-static inline uint32_t bcube_pick_list(uint64_t word) { return bcube_value(word) >> 8; }
+static inline uint32_t bcube_pick_list(bcube_answer answer) { return bcube_value(answer) >> 8; }
 
 /* The place of the picked route in its list, counted from 1; 0 on a refusal. */
-static inline uint32_t bcube_pick_route(uint64_t word) { return bcube_value(word) & 255; }
+static inline uint32_t bcube_pick_route(bcube_answer answer) { return bcube_value(answer) & 255; }
 
 /* Where the eight bytes of the picked route begin in its list, 8 * (route - 1). On a refusal it says nothing:
  * ask bcube_refusal first. */
-static inline size_t bcube_pick_offset(uint64_t word) {
-    uint32_t route = bcube_pick_route(word);
+static inline size_t bcube_pick_offset(bcube_answer answer) {
+    uint32_t route = bcube_pick_route(answer);
     return route == 0 ? 0 : (size_t)BCUBE_PATH_BYTES * (route - 1);
 }
 
 /* ---- one forwarding step
  *
  * How a driver uses it. A packet carries its destination, its eight path bytes and its next hop index
- * (NHI), which the sender sets to 0. Each server keeps its own neighbour table and the room's shape. At
- * each server:
+ * (NHI), which the sender sets to 0. Each server keeps its own neighbour table and the room. At each server:
  *
- *     uint64_t step = bcube_step(n, k, here, destination, index, path, 8, table, 2048);
- *     if (bcube_step_refusal(step) != 0)  drop the packet, and report the refusal
+ *     bcube_stepped step = bcube_step(room, here, destination, index, path, 8, neighbours, 2048);
+ *     if (bcube_step_refusal(step) != BCUBE_NOT_REFUSED)  drop the packet, and report the refusal
  *     else if (bcube_step_delivered(step)) hand it up
  *     else {
- *         uint64_t mac = bcube_step_mac(n, k, here, destination, index, path, 8, table, 2048);
  *         store bcube_step_index(step) as the packet's index,
  *         send it out of port bcube_step_port(step) to the address of which
- *         bcube_mac_byte(mac, 0) .. bcube_mac_byte(mac, 5) are the six bytes
+ *         bcube_mac_byte(step.mac, 0) .. bcube_mac_byte(step.mac, 5) are the six bytes
  *     }
  *
- * Arguments of both functions, the same in both:
- *   n, k         the room's shape: n ports a switch (2 to 64), levels 0 to k (k is 0 to 3); n^(k+1), the
- *                number of servers, is at most 4,096
- *   here         this server's address, below the number of servers
- *   destination  the packet's destination, likewise
- *   index        the packet's next hop index: which path byte names the next hop
- *   path         the packet's path bytes, and how many they are, which has to be 8
- *   table        this server's neighbour table, and how many bytes it has, which has to be 2,048
+ * here is this server, destination the packet's; index, its next hop index, says which path byte names the
+ * next hop; path are the packet's path bytes, and neighbours this server's neighbour table: 256 entries of 8 bytes,
+ * indexed by path byte, each six bytes MAC, one OutPort, one StatusFlag. A flag of 1 is available, and every
+ * other value is not.
  *
- * A path byte is 64 times the level (digit position) plus the new value of that digit. The neighbour table
- * has 256 entries of 8 bytes, indexed by path byte: six bytes MAC, one OutPort, one StatusFlag. A flag of
- * 1 is available, and every other value is not.
- *
- * `path` and `table` are only read, and only during the call; each must point to as many readable bytes as
- * its length says, and must not be a null pointer. Wrong lengths are refused, not read.
- *
- * The refusals of a step are tried in this order: 1, 2, 3, 4 (here or the destination), 17, 7, 18, 8, 9, 10,
- * 19. Between BCUBE_PATH (7) and BCUBE_INDEX (18) it is asked whether the packet has arrived, and an arrived
- * packet is delivered with any index. */
+ * Refuses 1, 2, 3, 4 (here or the destination), 17, 7, 18, 8, 9, 10, 19. Between 7 and 18 it is asked whether the
+ * packet has arrived, and an arrived packet is delivered with any index. On a refusal all but the refusal and
+ * its hop is 0. At a delivery all but the 1 that says so is 0. A stored MAC may be 0 too.
+ * Cost: constant; 64 bytes of stack. */
+BCUBE_RESULT bcube_stepped bcube_step(bcube_room room, uint64_t here, uint64_t destination, uint64_t index,
+                                      const uint8_t *path, size_t path_len, const uint8_t *neighbours,
+                                      size_t neighbours_len);
 
-/* One step as one number; read it by the functions below (bcube_refusal and its like are for the other
- * calls). The number is laid out, from the lowest byte:
- * refusal, hop of the refusal, 1 if delivered, next index, next server (two bytes), OutPort, 0.
- * On a refusal all but the first two are 0. At a delivery all but the third are 0. */
-uint64_t bcube_step(uint32_t n, uint32_t k, uint32_t here, uint32_t destination, uint32_t index,
-                    const uint8_t *path, size_t path_len, const uint8_t *table, size_t table_len);
-
-/* The MAC of the same step as one number, as stored in the table, its first byte highest (bits 40 to 47).
- * It is 0 on a refusal and at a delivery; a stored MAC may be 0 too, so ask bcube_step first. */
-uint64_t bcube_step_mac(uint32_t n, uint32_t k, uint32_t here, uint32_t destination, uint32_t index,
-                        const uint8_t *path, size_t path_len, const uint8_t *table, size_t table_len);
-
-/* Why the step is refused: one of the numbers above, or BCUBE_NONE. */
-static inline uint32_t bcube_step_refusal(uint64_t step) { return (uint32_t)(step & 255); }
+/* Why the step is refused: one of the numbers above, or BCUBE_NOT_REFUSED. */
+static inline uint32_t bcube_step_refusal(bcube_stepped step) { return (uint32_t)(step.word & 255); }
 
 /* The hop at which a refusal arose, counted from 1: the index + 1 for 8, 9, 10 and 19, else 0. */
-static inline uint32_t bcube_step_hop(uint64_t step) { return (uint32_t)(step >> 8 & 255); }
+static inline uint32_t bcube_step_hop(bcube_stepped step) { return (uint32_t)(step.word >> 8 & 255); }
 
 /* The route at which a refusal arose: 1 where it has a hop, else 0. */
-static inline uint32_t bcube_step_route(uint64_t step) { return bcube_step_hop(step) != 0 ? 1 : 0; }
+static inline uint32_t bcube_step_route(bcube_stepped step) { return bcube_step_hop(step) != 0 ? 1 : 0; }
 
 /* 1 if this server is the packet's destination and nothing was refused, else 0. */
-static inline int bcube_step_delivered(uint64_t step) { return (int)(step >> 16 & 255); }
+static inline int bcube_step_delivered(bcube_stepped step) { return (int)(step.word >> 16 & 255); }
 
 /* The index that the packet carries on: this one + 1. */
-static inline uint32_t bcube_step_index(uint64_t step) { return (uint32_t)(step >> 24 & 255); }
+static inline uint32_t bcube_step_index(bcube_stepped step) { return (uint32_t)(step.word >> 24 & 255); }
 
 /* The server to which the packet goes next. */
-static inline uint32_t bcube_step_next(uint64_t step) { return (uint32_t)(step >> 32 & 65535); }
+static inline uint32_t bcube_step_next(bcube_stepped step) { return (uint32_t)(step.word >> 32 & 65535); }
 
 /* The OutPort, as stored in the table. */
-static inline uint8_t bcube_step_port(uint64_t step) { return (uint8_t)(step >> 48 & 255); }
+static inline uint8_t bcube_step_port(bcube_stepped step) { return (uint8_t)(step.word >> 48 & 255); }
 
-/* Byte i (0 to 5) of a MAC, in the order in which the table stores it. */
-static inline uint8_t bcube_mac_byte(uint64_t mac, unsigned i) { return (uint8_t)(mac >> (40 - 8 * i) & 255); }
+/* Byte i of a MAC, 0 to 5, in the order in which the table stores it; 0 where i is above 5. */
+static inline uint8_t bcube_mac_byte(uint64_t mac, uint64_t i) {
+    return (uint8_t)(i > 5 ? 0 : mac >> (40 - 8 * i) & 255);
+}
 
 #ifdef __cplusplus
 }

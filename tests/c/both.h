@@ -3,28 +3,33 @@
 #ifndef BOTH_H
 #define BOTH_H
 
-#include <stddef.h>
-#include <stdint.h>
+#include "bcube.h"
 
 enum call {
-    SHAPE, SERVERS, BOUND, DIGITS, DIGIT, ADDRESS, SWITCH, NEIGHBOUR, BETWEEN,
-    FAILED_LINK, MARK_LINK, CLEAR_LINK,
+    VERSION, ROOM_OF,
+    SHAPE, SERVERS, BOUND, SWITCHES, DIGITS, DIGIT, ADDRESS, SWITCH, SERVER_AT, NEIGHBOUR, BETWEEN,
+    PATH_BYTE, PATH_BYTE_PARTS,
+    FAILED_LINK, MARK_LINK, CLEAR_LINK, MARK_SERVER, CLEAR_SERVER,
     READ, WRITE, REVERSE, CHECK,
     BUILD, FIND, SELECT, PICK,
-    STEP, STEP_MAC,
+    STEP,
     CALLS
 };
 
-/* A call with its arguments: the shape, the other numbers, and the lent buffers, in the order in which the call
- * takes them. Lengths count elements. */
+/* A call with its arguments: the room, the other numbers, and the lent buffers, in the order in which the call
+ * takes them. Lengths count elements. A buffer at NULL is lent as a null pointer. */
 struct question {
     enum call call;
-    uint32_t n, k, number[4];
+    bcube_room room;
+    uint64_t number[4];
     struct {
         const void *at;
         size_t len;
     } lent[3];
 };
+
+/* What a call gives back: its one number, or the two of a step. */
+typedef bcube_stepped answer;
 
 /* Makes the buffers. Once, before the first question. */
 void open_both(void);
@@ -32,14 +37,14 @@ void open_both(void);
 /* A readable area of more than 2^32 + 4,096 zero bytes, or NULL where the machine has none to give. */
 const void *vast_area(void);
 
-/* Asks both, counts the answer, and reports a difference. Gives the plain word. */
-uint64_t ask(const struct question *question);
+/* Asks both, counts the answer, and reports a difference. Gives the plain answer. */
+answer ask(const struct question *question);
 
 /* What the last question left in the plain out buffer. */
 const void *left(void);
 
-/* Reports a question whose answer is not the one worked by hand. */
-void not_as_worked(const struct question *question);
+/* Reports a question whose answer is not the one worked by hand: what was given, and what is wanted. */
+void not_as_worked(const struct question *question, answer given, answer wanted);
 
 unsigned long comparisons(void);
 unsigned long differences(void);

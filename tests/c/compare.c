@@ -1,10 +1,10 @@
 /* compare [ROUNDS]: puts the same questions to the proved library and to the plain implementation of plain.c,
  * and compares the answers and every buffer, byte for byte.
  *
- * First come the numbers worked by hand; then every room of at most 64 servers: each server, level and value,
- * each ordered pair under several failed-link tables, each path byte as a hop; then as many rounds (1 if not
- * said) of questions of any kind in rooms of every size, with arguments and buffers damaged in every way that
- * the rules name. The same numbers give the same run. Prints the counts by call and by refusal; status 1 if
+ * First come the numbers worked by hand, and for each lent buffer a null pointer with no length; then every room
+ * of at most 64 servers: each server, level, value, switch and port, each ordered pair under several failed-link
+ * tables, each path byte as a hop; then as many rounds (1 if not said) of questions of any kind in rooms of
+ * every size, with arguments and buffers damaged in every way that the rules name, and numbers of up to 64 bits. The same numbers give the same run. Prints the counts by call and by refusal; status 1 if
  * anything differs, or a refusal was never reached. */
 #include "both.h"
 
@@ -28,19 +28,24 @@ static uint32_t any(uint32_t below) {
     return (uint32_t)((seed >> 33) % below);
 }
 
-/* a number that a call should not be given, or should only just be */
-static uint32_t odd(void) {
-    static const uint32_t edge[] = {0, 1, 2, 3, 4, 5, 7, 8, 9, 31, 32, 33, 63, 64, 65, 127, 128, 255, 256, 257, 511, 512,
+/* a number that a call should not be given, or should only just be; above 2^32 its low bits may be right */
+static uint64_t odd(void) {
+    static const uint64_t edge[] = {0, 1, 2, 3, 4, 5, 7, 8, 9, 31, 32, 33, 63, 64, 65, 127, 128, 255, 256, 257, 511, 512,
                                     4095, 4096, 4097, 65535, 65536, 65537, 0x20000000, 0x40000000, 0x7fffffff,
-                                    0x80000000, 0x80000001, 0xfffffffe, 0xffffffff};
-    return any(8) == 0 ? any(0x80000000) : edge[any(sizeof edge / sizeof *edge)];
+                                    0x80000000, 0x80000001, 0xfffffffe, 0xffffffff, 0x100000000, 0x100000001,
+                                    0x100000008, 0x200000003, 0x7fffffffffffffff, 0x8000000000000000,
+                                    0x8000000000000001, 0xfffffffffffffffe, 0xffffffffffffffff};
+    if (any(8) == 0) return any(0x80000000);
+    if (any(8) == 0) return (uint64_t)any(0x80000000) << (1 + any(33)) | any(64);
+    return edge[any(sizeof edge / sizeof *edge)];
 }
 
 /* ---- the room that the questions are about, and its failed-link table */
 
 static uint32_t n, k, servers;
+static bcube_room room;
 static uint8_t failed[MOST + ARRAY];
-static uint8_t neighbours[BCUBE_TABLE_BYTES + ARRAY];
+static uint8_t neighbours[BCUBE_NEIGHBOUR_TABLE_BYTES + ARRAY];
 
 static uint32_t power(uint32_t base, uint32_t exponent) {
     uint32_t result = 1;
@@ -52,6 +57,7 @@ static void enter(uint32_t ports, uint32_t levels) {
     n = ports;
     k = levels;
     servers = power(n, k + 1);
+    room = plain_room_of(n, k);
     memset(failed, 0, sizeof failed);
 }
 
@@ -59,8 +65,8 @@ static uint32_t digit_of(uint32_t server, uint32_t level) { return server / powe
 
 /* the server at the other end of a hop, whatever the byte */
 static uint32_t after(uint32_t server, uint8_t byte) {
-    uint64_t word = plain_neighbour(n, k, server, byte / 64, byte % 64);
-    return bcube_refusal(word) ? server : bcube_value(word);
+    bcube_answer next = plain_neighbour(room, server, byte / 64, byte % 64);
+    return bcube_refusal(next) ? server : bcube_value(next);
 }
 
 static uint32_t another(uint32_t server) { return (server + 1 + any(servers - 1)) % servers; }
@@ -78,11 +84,11 @@ static void kill_server(uint32_t server) { failed[server] = (uint8_t)(power(2, k
 /* fails a link of some hop of some built routes of this pair, so that there is something to replace */
 static void break_routes(uint32_t source, uint32_t destination) {
     uint8_t routes[BCUBE_LIST_BYTES];
-    uint32_t on[9];
-    plain_build(n, k, source, destination, routes);
+    uint64_t on[9];
+    plain_build(room, source, destination, routes);
     for (uint32_t i = 0; i <= k; i++) {
         const uint8_t *array = routes + ARRAY * i;
-        uint32_t hop = any(bcube_value(plain_read(n, k, source, destination, array, ARRAY, on)) - 1);
+        uint32_t hop = any(bcube_value(plain_read(room, source, destination, array, ARRAY, on)) - 1);
         if (any(3)) failed[on[hop + any(2)]] |= (uint8_t)(1u << array[hop] / 64);
     }
 }
@@ -90,14 +96,14 @@ static void break_routes(uint32_t source, uint32_t destination) {
 /* a neighbour table; most flags say available */
 static void fill_neighbours(void) {
     for (size_t i = 0; i < sizeof neighbours; i++) neighbours[i] = (uint8_t)any(256);
-    for (size_t i = BCUBE_ENTRY_FLAG; i < BCUBE_TABLE_BYTES; i += BCUBE_ENTRY_BYTES)
-        neighbours[i] = any(4) ? BCUBE_AVAILABLE : (uint8_t)any(256);
+    for (size_t i = BCUBE_NEIGHBOUR_FLAG; i < BCUBE_NEIGHBOUR_TABLE_BYTES; i += BCUBE_NEIGHBOUR_ENTRY_BYTES)
+        neighbours[i] = any(4) ? BCUBE_NEIGHBOUR_AVAILABLE : (uint8_t)any(256);
 }
 
 /* ---- questions */
 
-static struct question about(enum call call, uint32_t first, uint32_t second, uint32_t third, uint32_t fourth) {
-    struct question q = {.call = call, .n = n, .k = k, .number = {first, second, third, fourth}};
+static struct question about(enum call call, uint64_t first, uint64_t second, uint64_t third, uint64_t fourth) {
+    struct question q = {.call = call, .room = room, .number = {first, second, third, fourth}};
     return q;
 }
 
@@ -106,56 +112,56 @@ static void lend(struct question *q, int i, const void *at, size_t len) {
     q->lent[i].len = len;
 }
 
-static uint64_t ask_numbers(enum call call, uint32_t first, uint32_t second, uint32_t third, uint32_t fourth) {
+static bcube_answer ask_word(const struct question *q) { return (bcube_answer){ask(q).word}; }
+
+static bcube_answer ask_numbers(enum call call, uint64_t first, uint64_t second, uint64_t third, uint64_t fourth) {
     struct question q = about(call, first, second, third, fourth);
-    return ask(&q);
+    return ask_word(&q);
 }
 
 /* the calls with the failed-link table of the room, and for those that take them a list or two */
-static uint64_t ask_table(enum call call, uint32_t first, uint32_t second) {
+static bcube_answer ask_table(enum call call, uint64_t first, uint64_t second) {
     struct question q = about(call, first, second, 0, 0);
     lend(&q, 0, failed, servers);
-    return ask(&q);
+    return ask_word(&q);
 }
 
-static uint64_t ask_check(uint32_t source, uint32_t destination, const uint8_t *list, size_t len) {
+static bcube_answer ask_check(uint32_t source, uint32_t destination, const uint8_t *list, size_t len) {
     struct question q = about(CHECK, source, destination, 0, 0);
     lend(&q, 0, failed, servers);
     lend(&q, 1, list, len);
-    return ask(&q);
+    return ask_word(&q);
 }
 
-static uint64_t ask_pick(uint32_t source, uint32_t destination, const uint8_t *fresh, size_t fresh_len,
+static bcube_answer ask_pick(uint32_t source, uint32_t destination, const uint8_t *fresh, size_t fresh_len,
                          const uint8_t *kept, size_t kept_len) {
     struct question q = about(PICK, source, destination, 0, 0);
     lend(&q, 0, failed, servers);
     lend(&q, 1, fresh, fresh_len);
     lend(&q, 2, kept, kept_len);
-    return ask(&q);
+    return ask_word(&q);
 }
 
-static uint64_t ask_path(enum call call, uint32_t source, uint32_t destination, const uint8_t *path) {
+static bcube_answer ask_path(enum call call, uint32_t source, uint32_t destination, const uint8_t *path) {
     struct question q = about(call, source, destination, 0, 0);
     lend(&q, 0, path, ARRAY);
-    return ask(&q);
+    return ask_word(&q);
 }
 
 static void ask_step(uint32_t here, uint32_t destination, uint32_t index, const uint8_t *path) {
-    for (enum call call = STEP; call <= STEP_MAC; call++) {
-        struct question q = about(call, here, destination, index, 0);
-        lend(&q, 0, path, ARRAY);
-        lend(&q, 1, neighbours, BCUBE_TABLE_BYTES);
-        ask(&q);
-    }
+    struct question q = about(STEP, here, destination, index, 0);
+    lend(&q, 0, path, ARRAY);
+    lend(&q, 1, neighbours, BCUBE_NEIGHBOUR_TABLE_BYTES);
+    ask(&q);
 }
 
-static void ask_write(const uint32_t *met, size_t count) {
+static void ask_write(const uint64_t *met, size_t count) {
     struct question q = about(WRITE, 0, 0, 0, 0);
     lend(&q, 0, met, count);
     ask(&q);
 }
 
-/* ---- the numbers worked by hand, in document 01 */
+/* ---- the numbers worked by hand */
 
 static uint64_t refused(uint32_t number, uint32_t route, uint32_t hop) { return number | route << 8 | hop << 16; }
 
@@ -163,7 +169,8 @@ static uint64_t valued(uint32_t value) { return (uint64_t)value << 32; }
 
 /* the answer has to be this word, and these bytes have to be left */
 static void worked(struct question q, uint64_t word, const void *bytes, size_t size) {
-    if (ask(&q) != word || memcmp(left(), bytes, size) != 0) not_as_worked(&q);
+    answer given = ask(&q);
+    if (given.word != word || memcmp(left(), bytes, size) != 0) not_as_worked(&q, given, (answer){word, 0});
 }
 
 static struct question with(struct question q, const void *at, size_t len) {
@@ -172,7 +179,7 @@ static struct question with(struct question q, const void *at, size_t len) {
 }
 
 static void worked_addresses(void) {
-    static const uint32_t digits[4] = {1, 1, 0, 1}, top[4] = {7, 7, 7, 7};
+    static const uint64_t digits[4] = {1, 1, 0, 1}, top[4] = {7, 7, 7, 7};
     enter(8, 3);
     worked(about(ADDRESS, 1, 0, 0, 0), valued(1), "", 0);
     worked(about(ADDRESS, 1, 1, 0, 1), valued(521), "", 0);
@@ -181,8 +188,74 @@ static void worked_addresses(void) {
     worked(about(DIGITS, 4096, 0, 0, 0), refused(4, 0, 0), "", 0);
     static const struct { uint32_t n, k, why; } shapes[] = {{8, 3, 0}, {16, 2, 0}, {64, 1, 0}, {64, 0, 0}, {2, 0, 0},
         {9, 3, 3}, {17, 2, 3}, {65, 0, 1}, {1, 2, 1}, {2, 4, 2}, {65, 4, 1}, {64, 4, 2}};
-    for (size_t i = 0; i < sizeof shapes / sizeof *shapes; i++)
-        worked((struct question){.call = SHAPE, .n = shapes[i].n, .k = shapes[i].k}, shapes[i].why, "", 0);
+    for (size_t i = 0; i < sizeof shapes / sizeof *shapes; i++) {
+        room = plain_room_of(shapes[i].n, shapes[i].k);
+        worked(about(SHAPE, 0, 0, 0, 0), shapes[i].why, "", 0);
+        worked(about(ROOM_OF, shapes[i].n, shapes[i].k, 0, 0), shapes[i].n + 256 * shapes[i].k, "", 0);
+    }
+    worked(about(ROOM_OF, 256, 3, 0, 0), 255 + 256 * 3, "", 0);
+    worked(about(ROOM_OF, UINT64_C(1) << 32 | 8, UINT64_MAX, 0, 0), 255 + 256 * 255, "", 0);
+    worked(about(VERSION, 0, 0, 0, 0), BCUBE_VERSION, "", 0);
+}
+
+/* the switch of server 521 at level 1 is 65, where it is at port 1; byte c1 is level 3, value 1 */
+static void worked_wiring(void) {
+    enter(8, 3);
+    worked(about(SWITCHES, 1, 0, 0, 0), valued(512), "", 0);
+    worked(about(SWITCH, 521, 1, 0, 0), valued(65), "", 0);
+    worked(about(SERVER_AT, 1, 65, 1, 0), valued(521), "", 0);
+    worked(about(SERVER_AT, 1, 512, 1, 0), refused(21, 0, 0), "", 0);
+    worked(about(SERVER_AT, 1, 65, 8, 0), refused(21, 0, 0), "", 0);
+    worked(about(SERVER_AT, 4, 65, 8, 0), refused(20, 0, 0), "", 0);
+    worked(about(PATH_BYTE, 3, 1, 0, 0), valued(0xc1), "", 0);
+    worked(about(PATH_BYTE, 4, 8, 0, 0), refused(20, 0, 0), "", 0);
+    worked(about(PATH_BYTE, 3, 8, 0, 0), refused(21, 0, 0), "", 0);
+    worked(about(PATH_BYTE_PARTS, 0xc1, 0, 0, 0), valued(256 * 3 + 1), "", 0);
+    worked(about(PATH_BYTE_PARTS, 8, 0, 0, 0), refused(9, 1, 1), "", 0);
+    worked(about(PATH_BYTE_PARTS, 256, 0, 0, 0), refused(8, 1, 1), "", 0);
+    enter(4, 1);
+    static const uint8_t dead[16] = {0, 0, 0, 3}, one[16] = {0, 0, 0, 2};
+    worked(with(about(MARK_SERVER, 3, 0, 0, 0), one, 16), 0, dead, 16);
+    worked(with(about(CLEAR_SERVER, 3, 0, 0, 0), dead, 16), 0, (const uint8_t[16]){0}, 16);
+    worked(with(about(MARK_SERVER, 16, 0, 0, 0), one, 16), refused(4, 0, 0), one, 16);
+}
+
+/* each lent buffer as a null pointer with no length, the others as they should be: a good empty buffer */
+static void worked_nothing(void) {
+    static const uint8_t list[8] = {0x41, 3};
+    enter(4, 1);
+    worked(about(FAILED_LINK, 0, 0, 0, 0), refused(6, 0, 0), "", 0);
+    worked(about(MARK_LINK, 0, 0, 0, 0), refused(6, 0, 0), "", 0);
+    worked(about(CLEAR_LINK, 0, 0, 0, 0), refused(6, 0, 0), "", 0);
+    worked(about(MARK_SERVER, 0, 0, 0, 0), refused(6, 0, 0), "", 0);
+    worked(about(CLEAR_SERVER, 0, 0, 0, 0), refused(6, 0, 0), "", 0);
+    worked(about(READ, 0, 7, 0, 0), refused(7, 0, 0), "", 0);
+    worked(about(REVERSE, 0, 7, 0, 0), refused(7, 0, 0), "", 0);
+    worked(about(WRITE, 0, 0, 0, 0), refused(22, 0, 0), "", 0);
+    worked(about(FIND, 0, 7, 0, 0), refused(6, 0, 0), "", 0);
+    worked(about(SELECT, 0, 7, 0, 0), refused(6, 0, 0), "", 0);
+    struct question q = about(CHECK, 0, 7, 0, 0);
+    lend(&q, 0, failed, servers);
+    worked(q, refused(7, 0, 0), "", 0);
+    q = about(CHECK, 0, 7, 0, 0);
+    lend(&q, 1, list, 8);
+    worked(q, refused(6, 0, 0), "", 0);
+    q = about(PICK, 0, 7, 0, 0);
+    lend(&q, 0, failed, servers);
+    worked(q, refused(16, 0, 0), "", 0);
+    lend(&q, 2, list, 8);
+    worked(q, valued(256 * BCUBE_KEPT + 1), "", 0);
+    lend(&q, 1, list, 8);
+    lend(&q, 2, NULL, 0);
+    worked(q, valued(256 * BCUBE_FRESH + 1), "", 0);
+    lend(&q, 0, NULL, 0);
+    worked(q, refused(6, 0, 0), "", 0);
+    q = about(STEP, 0, 7, 0, 0);
+    lend(&q, 1, neighbours, BCUBE_NEIGHBOUR_TABLE_BYTES);
+    worked(q, 7, "", 0);
+    q = about(STEP, 0, 7, 0, 0);
+    lend(&q, 0, list, 8);
+    worked(q, 17, "", 0);
 }
 
 static void worked_routes(void) {
@@ -190,7 +263,7 @@ static void worked_routes(void) {
                                         0x41, 0xc1, 0, 0, 0, 0, 0, 0, 0x02, 0xc1, 0x41, 0x01, 0, 0, 0, 0};
     static const uint8_t back[8] = {0x40, 0xc0}, built[32] = {0x41, 3, 0, 0, 0, 0, 0, 0, 3, 0x41};
     static const uint8_t around[32] = {0x41, 3, 0, 0, 0, 0, 0, 0, 1, 0x42, 3, 0x41}, zero[32] = {0};
-    static const uint32_t last_two[9] = {1, 0};
+    static const uint64_t last_two[9] = {1, 0};
     enter(8, 3);
     worked(about(BUILD, 1, 521, 0, 0), valued(4), figure4, 32);
     worked(with(about(REVERSE, 1, 521, 0, 0), figure4, 8), 0, back, 8);
@@ -210,16 +283,16 @@ static void worked_refusals(void) {
     worked(with(about(READ, 0, 3, 0, 0), same, 8), refused(12, 1, 2), "", 0);
     worked(with(with(about(CHECK, 0, 3, 0, 0), failed, servers), twice, 16), refused(15, 2, 0), "", 0);
     worked(with(about(READ, 0, 3, 0, 0), level, 8), refused(8, 1, 1), "", 0);
-    worked(with(with(about(STEP, 3, 3, 8, 0), twice, 8), neighbours, BCUBE_TABLE_BYTES), 1 << 16, "", 0);
-    worked(with(with(about(STEP, 0, 3, 8, 0), twice, 8), neighbours, BCUBE_TABLE_BYTES), 18, "", 0);
+    worked(with(with(about(STEP, 3, 3, 8, 0), twice, 8), neighbours, BCUBE_NEIGHBOUR_TABLE_BYTES), 1 << 16, "", 0);
+    worked(with(with(about(STEP, 0, 3, 8, 0), twice, 8), neighbours, BCUBE_NEIGHBOUR_TABLE_BYTES), 18, "", 0);
     enter(8, 3);
     worked(with(about(READ, 0, 3, 0, 0), eight, 8), refused(9, 1, 1), "", 0);
 }
 
-static void picked(uint64_t word, uint32_t list, uint32_t route, size_t offset) {
+static void picked(bcube_answer given, uint32_t list, uint32_t route, size_t offset) {
     struct question q = about(PICK, 0, 3, 0, 0);
-    if (bcube_pick_list(word) != list || bcube_pick_route(word) != route || bcube_pick_offset(word) != offset)
-        not_as_worked(&q);
+    if (bcube_pick_list(given) == list && bcube_pick_route(given) == route && bcube_pick_offset(given) == offset) return;
+    not_as_worked(&q, (answer){given.word, 0}, (answer){valued(256 * list + route), 0});
 }
 
 /* picking, read by its accessors: the second of the kept list, the first of the fresh list, and none */
@@ -234,25 +307,42 @@ static void worked_picking(void) {
 /* ---- small rooms: every server, level and value */
 
 /* a number after those that are right: the first wrong ones, then the far ones */
-static uint32_t beyond(uint32_t number, uint32_t right) {
-    static const uint32_t far[] = {0x10000, 0x7fffffff, 0x80000000, 0xffffffff};
-    return number < right + 2 ? number : far[(number - right - 2) % 4];
+enum { BEYOND = 8 };
+
+static uint64_t beyond(uint32_t number, uint32_t right) {
+    static const uint64_t far[] = {0x10000, 0x80000000, 0xffffffff, 0x100000000, 0x100000001, 0xffffffffffffffff};
+    return number < right + 2 ? number : far[(number - right - 2) % 6];
 }
 
-static void every_value(uint32_t server, uint32_t level) {
+static void every_value(uint64_t server, uint64_t level) {
     ask_numbers(DIGIT, server, level, 0, 0);
     ask_numbers(SWITCH, server, level, 0, 0);
     ask_numbers(NEIGHBOUR, server, level, 0xffffffff, 0);
     if (server < servers && level <= k)
-        for (uint32_t v = 0; v < n + 6; v++) ask_numbers(NEIGHBOUR, server, level, beyond(v, n), 0);
+        for (uint32_t v = 0; v < n + BEYOND; v++) ask_numbers(NEIGHBOUR, server, level, beyond(v, n), 0);
+}
+
+/* every switch and port of every level, and every path byte of a level and a value and back */
+static void every_port(void) {
+    for (uint32_t i = 0; i < k + 1 + BEYOND; i++) {
+        uint64_t level = beyond(i, k + 1);
+        uint32_t switches = bcube_value(ask_numbers(SWITCHES, level, 0, 0, 0));
+        for (uint32_t v = 0; v < n + BEYOND; v++) {
+            bcube_answer byte = ask_numbers(PATH_BYTE, level, beyond(v, n), 0, 0);
+            if (!bcube_refusal(byte)) ask_numbers(PATH_BYTE_PARTS, bcube_value(byte), 0, 0, 0);
+            for (uint32_t w = 0; w < switches + BEYOND; w++)
+                ask_numbers(SERVER_AT, level, beyond(w, switches), beyond(v, n), 0);
+        }
+    }
+    for (uint32_t byte = 0; byte < 256 + BEYOND; byte++) ask_numbers(PATH_BYTE_PARTS, beyond(byte, 256), 0, 0, 0);
 }
 
 static void every_server(void) {
-    for (uint32_t i = 0; i < servers + 6; i++) {
-        uint32_t a = beyond(i, servers);
+    for (uint32_t i = 0; i < servers + BEYOND; i++) {
+        uint64_t a = beyond(i, servers);
         ask_numbers(DIGITS, a, 0, 0, 0);
-        for (uint32_t level = 0; level < k + 1 + 6; level++) every_value(a, beyond(level, k + 1));
-        for (uint32_t b = 0; b < servers + 6; b++) ask_numbers(BETWEEN, a, beyond(b, servers), 0, 0);
+        for (uint32_t level = 0; level < k + 1 + BEYOND; level++) every_value(a, beyond(level, k + 1));
+        for (uint32_t b = 0; b < servers + BEYOND; b++) ask_numbers(BETWEEN, a, beyond(b, servers), 0, 0);
     }
 }
 
@@ -263,19 +353,21 @@ static void every_digit(void) {
         for (uint32_t b = 0; b < most[1]; b++)
             for (uint32_t c = 0; c < most[2]; c++)
                 for (uint32_t d = 0; d < most[3]; d++)
-                    ask_numbers(ADDRESS, a == n + 1 ? 0xffffffff : a, b, c == n + 1 ? 0x80000000 : c, d);
-    for (uint32_t level = 0; level < k + 1 + 6; level++) ask_numbers(BOUND, beyond(level, k + 1), 0, 0, 0);
+                    ask_numbers(ADDRESS, a == n + 1 ? UINT64_MAX : a, b, c == n + 1 ? UINT64_C(1) << 32 : c, d);
+    for (uint32_t level = 0; level < k + 1 + BEYOND; level++) ask_numbers(BOUND, beyond(level, k + 1), 0, 0, 0);
 }
 
 /* every link asked, marked, marked again, cleared: the table is taken on from each */
 static void every_link(void) {
-    static const enum call turn[] = {FAILED_LINK, MARK_LINK, FAILED_LINK, MARK_LINK, CLEAR_LINK, CLEAR_LINK};
+    static const enum call turn[] = {FAILED_LINK, MARK_LINK,  FAILED_LINK,  MARK_LINK,   CLEAR_LINK,
+                                     CLEAR_LINK,  MARK_SERVER, FAILED_LINK, CLEAR_LINK, MARK_SERVER, CLEAR_SERVER};
     fail_links(4);
-    for (uint32_t i = 0; i < servers + 6; i++)
-        for (uint32_t j = 0; j < k + 1 + 6; j++)
+    for (uint32_t i = 0; i < servers + BEYOND; i++)
+        for (uint32_t j = 0; j < k + 1 + BEYOND; j++)
             for (size_t t = 0; t < sizeof turn / sizeof *turn; t++) {
-                uint64_t word = ask_table(turn[t], beyond(i, servers), beyond(j, k + 1));
-                if (turn[t] != FAILED_LINK && bcube_refusal(word) == 0) memcpy(failed, left(), servers);
+                bcube_answer given = ask_table(turn[t], beyond(i, servers), beyond(j, k + 1));
+                if (turn[t] != FAILED_LINK && bcube_refusal(given) == 0) memcpy(failed, left(), servers);
+                if (any(8) == 0) fail_links(4);
             }
 }
 
@@ -307,12 +399,12 @@ static void roam(uint32_t source, uint32_t destination, uint8_t array[ARRAY]) {
     uint32_t here = source;
     for (uint32_t at = 0; at < ARRAY; at++)
         for (int tries = 0; tries < 8; tries++) {
-            uint32_t met[9];
+            uint64_t met[9];
             array[at] = any_hop(here);
             memset(array + at + 1, 0, ARRAY - 1 - at);
             uint32_t next = after(here, array[at]);
             if (next == destination || next == source) continue;
-            if (bcube_refusal(plain_read(n, k, source, next, array, ARRAY, met)) != 0) continue;
+            if (bcube_refusal(plain_read(room, source, next, array, ARRAY, met)) != 0) continue;
             here = next;
             break;
         }
@@ -322,7 +414,7 @@ static void make_array(uint32_t source, uint32_t destination, uint8_t array[ARRA
     uint8_t routes[BCUBE_LIST_BYTES] = {0};
     uint32_t kind = any(8);
     if (kind < 3) {
-        plain_build(n, k, source, destination, routes);
+        plain_build(room, source, destination, routes);
         memcpy(array, routes + ARRAY * any(k + 1), ARRAY);
     } else if (kind < 6) {
         wander(source, destination, array);
@@ -384,11 +476,11 @@ static size_t make_list(uint32_t source, uint32_t destination, const uint8_t rou
 /* each route of a list read, reversed, and back again */
 static void read_list(uint32_t source, uint32_t destination, const uint8_t *list, uint32_t count) {
     for (uint32_t i = 0; i < count; i++) {
-        uint64_t word = ask_path(READ, source, destination, list + ARRAY * i);
-        if (bcube_refusal(word) == 0) {
-            uint32_t met[9];
+        bcube_answer read = ask_path(READ, source, destination, list + ARRAY * i);
+        if (bcube_refusal(read) == 0) {
+            uint64_t met[9];
             memcpy(met, left(), sizeof met);
-            ask_write(met, bcube_value(word));
+            ask_write(met, bcube_value(read));
         }
         if (bcube_refusal(ask_path(REVERSE, source, destination, list + ARRAY * i)) == 0) {
             uint8_t back[ARRAY];
@@ -401,7 +493,7 @@ static void read_list(uint32_t source, uint32_t destination, const uint8_t *list
 /* what depends on the failed-link table */
 static void one_pair(uint32_t source, uint32_t destination) {
     uint8_t built[BCUBE_LIST_BYTES] = {0}, selected[BCUBE_LIST_BYTES] = {0}, list[64];
-    plain_build(n, k, source, destination, built);
+    plain_build(room, source, destination, built);
     ask_table(FIND, source, destination);
     uint32_t count = bcube_value(ask_table(SELECT, source, destination));
     if (count) memcpy(selected, left(), sizeof selected);
@@ -446,7 +538,7 @@ static void every_byte(uint32_t source, uint32_t destination) {
     for (uint32_t byte = 0; byte < 256; byte++) {
         uint8_t path[ARRAY] = {(uint8_t)byte}, routes[BCUBE_LIST_BYTES];
         uint32_t next = after(source, path[0]);
-        if (!bcube_refusal(plain_build(n, k, next, destination, routes)))
+        if (!bcube_refusal(plain_build(room, next, destination, routes)))
             memcpy(path + 1, routes + ARRAY * any(k + 1), ARRAY - 1);
         ask_path(READ, source, destination, path);
         ask_check(source, destination, path, ARRAY);
@@ -481,18 +573,21 @@ static void small_rooms(void (*what)(void), uint32_t apart) {
 static void every_shape(void) {
     for (uint32_t ports = 0; ports < 70; ports++)
         for (uint32_t levels = 0; levels < 8; levels++) {
-            n = ports == 69 ? odd() : ports;
-            k = levels == 7 ? odd() : levels;
+            uint64_t p = ports == 69 ? odd() : ports, l = levels == 7 ? odd() : levels;
+            ask_numbers(ROOM_OF, p, l, 0, 0);
+            room = plain_room_of(p, l);
             ask_numbers(SHAPE, 0, 0, 0, 0);
             ask_numbers(SERVERS, 0, 0, 0, 0);
             ask_numbers(BOUND, any(5), 0, 0, 0);
+            room.number = odd(); /* no room that bcube_room_of makes */
+            ask_numbers(SERVERS, 0, 0, 0, 0);
         }
 }
 
 /* ---- questions of any kind, and what is done to them */
 
 static uint8_t path[64], fresh[64], kept[64];
-static uint32_t met[16];
+static uint64_t met[16];
 
 static uint32_t any_server(void) { return any(servers); }
 
@@ -510,7 +605,7 @@ static size_t along(uint32_t source, uint32_t destination) {
     size_t count = 0;
     make_array(source, destination, array);
     for (met[count++] = source; count < 9 && met[count - 1] != destination; count++)
-        met[count] = after(met[count - 1], array[count - 1]);
+        met[count] = after((uint32_t)met[count - 1], array[count - 1]);
     return count;
 }
 
@@ -519,8 +614,12 @@ static struct question any_question(enum call call) {
     uint32_t source = any_server(), destination = another(source);
     uint8_t routes[BCUBE_LIST_BYTES];
     struct question q = about(call, source, destination, 0, 0);
-    if (call <= BETWEEN || call == BUILD) {
-        if (call == BOUND) q.number[0] = any(k + 1);
+    if (call <= PATH_BYTE_PARTS || call == BUILD) {
+        if (call == ROOM_OF) q.number[0] = any(70), q.number[1] = any(6);
+        if (call == BOUND || call == SWITCHES || call == SERVER_AT || call == PATH_BYTE) q.number[0] = any(k + 1);
+        if (call == SERVER_AT) q.number[1] = any(servers / n), q.number[2] = any(n);
+        if (call == PATH_BYTE) q.number[1] = any(n);
+        if (call == PATH_BYTE_PARTS) q.number[0] = any(256);
         if (call == ADDRESS)
             for (uint32_t i = 0; i < 4; i++) q.number[i] = i <= k ? any(n) : 0;
         if (call == DIGIT || call == SWITCH || call == NEIGHBOUR) q.number[1] = any(k + 1);
@@ -531,17 +630,17 @@ static struct question any_question(enum call call) {
         lend(&q, 0, path, ARRAY);
     } else if (call == WRITE) {
         lend(&q, 0, met, along(source, destination));
-    } else if (call == STEP || call == STEP_MAC) {
+    } else if (call == STEP) {
         make_array(source, destination, path);
         q.number[2] = any(ARRAY + 2);
         if (any(8) == 0) q.number[1] = q.number[0];
         lend(&q, 0, path, ARRAY);
-        lend(&q, 1, neighbours, BCUBE_TABLE_BYTES);
+        lend(&q, 1, neighbours, BCUBE_NEIGHBOUR_TABLE_BYTES);
     } else {
         if (call == FAILED_LINK || call == MARK_LINK || call == CLEAR_LINK) q.number[1] = any(k + 1);
         make_table(source, destination);
         lend(&q, 0, failed, servers);
-        plain_build(n, k, source, destination, routes);
+        plain_build(room, source, destination, routes);
         if (call == CHECK || call == PICK) lend(&q, 1, fresh, make_list(source, destination, routes, fresh));
         if (call == PICK) lend(&q, 2, kept, make_list(source, destination, routes, kept));
     }
@@ -549,13 +648,14 @@ static struct question any_question(enum call call) {
 }
 
 static void damage_number(struct question *q) {
-    switch (any(8)) {
-    case 0: q->n = odd(); break;
-    case 1: q->k = odd(); break;
-    case 2: q->n = 9 + any(56), q->k = 2 + any(2); break;
-    case 3: q->number[1] = q->number[0]; break;
-    case 4: q->number[any(4)] = servers + any(2); break;
-    case 5: q->number[any(4)] += UINT32_C(1) << (8 + any(24)); break;
+    switch (any(10)) {
+    case 0: q->room = plain_room_of(odd(), k); break;
+    case 1: q->room = plain_room_of(n, odd()); break;
+    case 2: q->room = plain_room_of(9 + any(56), 2 + any(2)); break;
+    case 3: q->room.number = any(2) ? odd() : q->room.number + (UINT64_C(1) << any(64)); break;
+    case 4: q->number[1] = q->number[0]; break;
+    case 5: q->number[any(4)] = servers + any(2); break;
+    case 6: q->number[any(4)] += UINT64_C(1) << (8 + any(56)); break;
     default: q->number[any(4)] = odd();
     }
 }
@@ -585,13 +685,14 @@ static void damage_buffer(struct question *q) {
     if (!q->lent[i].at) i = 0;
     if (!q->lent[i].at) return;
     const void *at = q->lent[i].at;
-    if (any(2)) q->lent[i].len = wrong_length(q->call, at, q->lent[i].len);
+    if (any(16) == 0) lend(q, i, NULL, 0);
+    else if (any(2)) q->lent[i].len = wrong_length(q->call, at, q->lent[i].len);
     else if (at == failed) failed[any(3) ? any_server() : any(2) ? 0 : servers - 1] |= (uint8_t)(1u << any(8));
     else if (at == path) path[any(ARRAY)] = (uint8_t)any(256);
     else if (at == fresh) fresh[any(64)] = (uint8_t)any(256);
     else if (at == kept) kept[any(64)] = (uint8_t)any(256);
     else if (at == met && q->lent[i].len) damage_servers((uint32_t)q->lent[i].len);
-    else neighbours[BCUBE_ENTRY_BYTES * path[q->number[2] % ARRAY] + BCUBE_ENTRY_FLAG] = (uint8_t)any(4);
+    else neighbours[BCUBE_NEIGHBOUR_ENTRY_BYTES * path[q->number[2] % ARRAY] + BCUBE_NEIGHBOUR_FLAG] = (uint8_t)any(4);
 }
 
 static void any_room(void) {
@@ -639,7 +740,7 @@ static void vast_lengths(void) {
         if (lent == 0 || (servers > 256 && (q.call == FIND || q.call == SELECT))) continue;
         lent = (int)any((uint32_t)lent);
         q.lent[lent].len += over;
-        if (q.call == WRITE) q.lent[lent].len = over / 4 + 2;
+        if (q.call == WRITE) q.lent[lent].len = over / 8 + 2;
         q.lent[lent].at = vast;
         ask(&q);
     }
@@ -664,7 +765,7 @@ static void any_lists(uint32_t lists) {
         uint8_t routes[BCUBE_LIST_BYTES], list[BCUBE_LIST_BYTES] = {0};
         if (i % 16 == 0) enter(2 + any(2), 3);
         uint32_t source = any_server(), destination = another(source), count = 2 + any(3);
-        plain_build(n, k, source, destination, routes);
+        plain_build(room, source, destination, routes);
         if (any(2))
             by_way_of_one(source, destination, list, count);
         else
@@ -704,7 +805,10 @@ static void progress(unsigned long round, unsigned long rounds) {
 int main(int count, char **words) {
     unsigned long rounds = count > 1 ? strtoul(words[1], NULL, 10) : 1;
     open_both();
+    fill_neighbours();
     worked_addresses();
+    worked_wiring();
+    worked_nothing();
     worked_routes();
     worked_refusals();
     worked_picking();
@@ -713,8 +817,9 @@ int main(int count, char **words) {
     part("every shape and more");
     small_rooms(every_server, 1);
     small_rooms(every_digit, 1);
+    small_rooms(every_port, 1);
     small_rooms(every_link, 1);
-    part("rooms of at most 64 servers: every server, level and value");
+    part("rooms of at most 64 servers: every server, level, value");
     small_rooms(pairs_under_tables, 1);
     part("rooms of at most 64 servers: every ordered pair");
     small_rooms(every_hop, 31);

@@ -1,4 +1,4 @@
-/* The rules of document 01 in plain C, to hold the proved library to. It is written for the eye: a server is an
+/* The rules of the room in plain C, to hold the proved library to. It is written for the eye: a server is an
  * array of digits, two servers are neighbours and two switches are the same when their digits say so, and a
  * call makes its tests in the order in which the rules name them.
  *
@@ -15,15 +15,19 @@
 
 enum { LEVELS = 4, HOPS = 8, ARRAY = 8, MOST_SERVERS = 4096, SMALL_ROOM = 64, FAR = 255 };
 
-/* ---- result words */
+/* ---- words */
 
-static uint64_t refused_at(uint32_t number, uint32_t route, uint32_t hop) {
-    return (uint64_t)number | (uint64_t)route << 8 | (uint64_t)hop << 16;
+static bcube_answer refused_at(uint32_t number, uint32_t route, uint32_t hop) {
+    return (bcube_answer){(uint64_t)number | (uint64_t)route << 8 | (uint64_t)hop << 16};
 }
 
-static uint64_t refused(uint32_t number) { return refused_at(number, 0, 0); }
+static bcube_answer refused(uint32_t number) { return refused_at(number, 0, 0); }
 
-static uint64_t answered(uint32_t value) { return (uint64_t)value << 32; }
+static bcube_answer answered(uint32_t value) { return (bcube_answer){(uint64_t)value << 32}; }
+
+static const bcube_answer passed = {0};
+
+static int is_refused(bcube_answer answer) { return (answer.word & 255) != 0; }
 
 /* ---- rooms, places and switches */
 
@@ -36,23 +40,24 @@ struct place {
     uint32_t digit[LEVELS];
 };
 
-/* makes the room, and gives the refusal of its shape, or 0 */
-static uint32_t enter(struct room *room, uint32_t n, uint32_t k) {
+/* opens the room, and gives the refusal of its shape, or 0 */
+static uint32_t enter(struct room *room, bcube_room value) {
+    uint64_t n = value.number & 255, k = value.number >> 8;
     if (n < 2 || n > 64) return 1;
     if (k > 3) return 2;
-    uint32_t servers = 1;
-    for (uint32_t level = 0; level <= k; level++) servers *= n;
+    uint64_t servers = 1;
+    for (uint64_t level = 0; level <= k; level++) servers *= n;
     if (servers > MOST_SERVERS) return 3;
-    room->n = n;
-    room->k = k;
-    room->servers = servers;
+    room->n = (uint32_t)n;
+    room->k = (uint32_t)k;
+    room->servers = (uint32_t)servers;
     return 0;
 }
 
-static struct place place_of(const struct room *room, uint32_t address) {
+static struct place place_of(const struct room *room, uint64_t address) {
     struct place place = {{0}};
     for (uint32_t level = 0; level <= room->k; level++) {
-        place.digit[level] = address % room->n;
+        place.digit[level] = (uint32_t)(address % room->n);
         address /= room->n;
     }
     return place;
@@ -103,7 +108,7 @@ static int same_switch(const struct place *one, uint32_t one_level, const struct
 
 /* ---- tests of arguments: each gives a refusal's number, or 0 */
 
-static uint32_t ends_refusal(const struct room *room, uint32_t source, uint32_t destination) {
+static uint32_t ends_refusal(const struct room *room, uint64_t source, uint64_t destination) {
     if (source >= room->servers || destination >= room->servers) return 4;
     if (source == destination) return 5;
     return 0;
@@ -116,7 +121,7 @@ static uint32_t table_refusal(const struct room *room, const uint8_t *table, siz
     return 0;
 }
 
-static uint32_t link_refusal(const struct room *room, uint32_t server, uint32_t level, const uint8_t *table,
+static uint32_t link_refusal(const struct room *room, uint64_t server, uint64_t level, const uint8_t *table,
                              size_t table_len) {
     if (server >= room->servers) return 4;
     if (level > room->k) return 20;
@@ -203,9 +208,9 @@ static uint32_t hop_refusal(const struct room *room, const uint8_t *table, struc
     return 0;
 }
 
-/* the array as route number `number` of its list; gives the result word of a refusal, or 0 */
-static uint64_t read_array(const struct room *room, const uint8_t *table, uint32_t source, uint32_t destination,
-                           const uint8_t *array, uint32_t number, struct route *route) {
+/* the array as route number `number` of its list; gives its refusal, or passes */
+static bcube_answer read_array(const struct room *room, const uint8_t *table, uint64_t source, uint64_t destination,
+                               const uint8_t *array, uint32_t number, struct route *route) {
     struct place goal = place_of(room, destination);
     begin(route, place_of(room, source));
     for (uint32_t i = 0; i < HOPS; i++) {
@@ -215,7 +220,7 @@ static uint64_t read_array(const struct room *room, const uint8_t *table, uint32
         if (!same_place(&here, &goal)) continue;
         for (uint32_t j = i + 1; j < HOPS; j++)
             if (array[j] != 0) return refused_at(14, number, j + 1);
-        return 0;
+        return passed;
     }
     return refused_at(13, number, HOPS);
 }
@@ -251,7 +256,7 @@ struct search {
     uint8_t distance[MOST_SERVERS]; /* to the goal, in hops; only in rooms above SMALL_ROOM */
 };
 
-static void begin_search(struct search *search, const struct room *room, const uint8_t *table, uint32_t destination) {
+static void begin_search(struct search *search, const struct room *room, const uint8_t *table, uint64_t destination) {
     search->room = room;
     search->table = table;
     search->goal = place_of(room, destination);
@@ -330,10 +335,10 @@ static int extend(const struct search *search, struct route *route, uint32_t lef
 }
 
 /* 1 and the least route from the source to the goal, or 0 */
-static int least_route(struct search *search, uint32_t source, struct route *route) {
+static int least_route(struct search *search, uint64_t source, struct route *route) {
     begin(route, place_of(search->room, source));
     if (search->room->servers > SMALL_ROOM)
-        measure(search, source);
+        measure(search, (uint32_t)source);
     else if (!enterable(search))
         return 0;
     for (uint32_t hops = 1; hops <= HOPS; hops++)
@@ -341,31 +346,56 @@ static int least_route(struct search *search, uint32_t source, struct route *rou
     return 0;
 }
 
-/* ---- the calls: shapes and addresses */
+/* ---- the calls: the room, addresses and switches */
 
-uint64_t plain_shape(uint32_t n, uint32_t k) {
-    struct room room;
-    return refused(enter(&room, n, k));
+uint64_t plain_version(void) { return 20000; }
+
+bcube_room plain_room_of(uint64_t n, uint64_t k) {
+    return (bcube_room){(n > 255 ? 255 : n) | (k > 255 ? 255 : k) << 8};
 }
 
-uint64_t plain_servers(uint32_t n, uint32_t k) {
+bcube_answer plain_shape(bcube_room value) {
     struct room room;
-    uint32_t why = enter(&room, n, k);
+    return refused(enter(&room, value));
+}
+
+bcube_answer plain_servers(bcube_room value) {
+    struct room room;
+    uint32_t why = enter(&room, value);
     if (why) return refused(why);
     return answered(room.servers);
 }
 
-uint64_t plain_bound(uint32_t n, uint32_t k, uint32_t level) {
+bcube_answer plain_bound(bcube_room value, uint64_t level) {
     struct room room;
-    uint32_t why = enter(&room, n, k);
+    uint32_t why = enter(&room, value);
     if (why) return refused(why);
-    if (level > k) return refused(20);
-    return answered(n);
+    if (level > room.k) return refused(20);
+    return answered(room.n);
 }
 
-uint64_t plain_digits(uint32_t n, uint32_t k, uint32_t server, uint32_t digits[4]) {
+/* one more than the highest number of a switch that any server has at the level */
+static uint32_t switches(const struct room *room, uint32_t level) {
+    uint32_t most = 0;
+    for (uint32_t server = 0; server < room->servers; server++) {
+        struct place place = place_of(room, server);
+        uint32_t number = switch_number(room, &place, level);
+        if (number > most) most = number;
+    }
+    return most + 1;
+}
+
+bcube_answer plain_switches(bcube_room value, uint64_t level) {
     struct room room;
-    uint32_t why = enter(&room, n, k);
+    uint32_t why = enter(&room, value);
+    if (why) return refused(why);
+    if (level > room.k) return refused(20);
+    return answered(switches(&room, (uint32_t)level));
+}
+
+bcube_answer plain_digits(bcube_room value, uint64_t server, uint64_t digits[4]) {
+    struct room room;
+    uint32_t why = enter(&room, value);
     if (why) return refused(why);
     if (server >= room.servers) return refused(4);
     struct place place = place_of(&room, server);
@@ -373,49 +403,65 @@ uint64_t plain_digits(uint32_t n, uint32_t k, uint32_t server, uint32_t digits[4
     return answered(0);
 }
 
-uint64_t plain_digit(uint32_t n, uint32_t k, uint32_t server, uint32_t level) {
+bcube_answer plain_digit(bcube_room value, uint64_t server, uint64_t level) {
     struct room room;
-    uint32_t why = enter(&room, n, k);
+    uint32_t why = enter(&room, value);
     if (why) return refused(why);
     if (server >= room.servers) return refused(4);
-    if (level > k) return refused(20);
+    if (level > room.k) return refused(20);
     return answered(place_of(&room, server).digit[level]);
 }
 
-uint64_t plain_address(uint32_t n, uint32_t k, uint32_t d0, uint32_t d1, uint32_t d2, uint32_t d3) {
+bcube_answer plain_address(bcube_room value, uint64_t d0, uint64_t d1, uint64_t d2, uint64_t d3) {
     struct room room;
-    struct place place = {{d0, d1, d2, d3}};
-    uint32_t why = enter(&room, n, k);
+    const uint64_t digit[LEVELS] = {d0, d1, d2, d3};
+    struct place place = {{0}};
+    uint32_t why = enter(&room, value);
     if (why) return refused(why);
-    for (uint32_t level = 0; level < LEVELS; level++)
-        if (level <= k ? place.digit[level] >= n : place.digit[level] != 0) return refused(21);
+    for (uint32_t level = 0; level < LEVELS; level++) {
+        if (level <= room.k ? digit[level] >= room.n : digit[level] != 0) return refused(21);
+        place.digit[level] = (uint32_t)digit[level];
+    }
     return answered(address_of(&room, &place));
 }
 
-uint64_t plain_switch(uint32_t n, uint32_t k, uint32_t server, uint32_t level) {
+bcube_answer plain_switch(bcube_room value, uint64_t server, uint64_t level) {
     struct room room;
-    uint32_t why = enter(&room, n, k);
+    uint32_t why = enter(&room, value);
     if (why) return refused(why);
     if (server >= room.servers) return refused(4);
-    if (level > k) return refused(20);
+    if (level > room.k) return refused(20);
     struct place place = place_of(&room, server);
-    return answered(switch_number(&room, &place, level));
+    return answered(switch_number(&room, &place, (uint32_t)level));
 }
 
-uint64_t plain_neighbour(uint32_t n, uint32_t k, uint32_t server, uint32_t level, uint32_t value) {
+/* looked for among all servers */
+bcube_answer plain_server_at(bcube_room value, uint64_t level, uint64_t number, uint64_t port) {
     struct room room;
-    uint32_t why = enter(&room, n, k);
+    uint32_t why = enter(&room, value);
+    if (why) return refused(why);
+    if (level > room.k) return refused(20);
+    for (uint32_t server = 0; server < room.servers; server++) {
+        struct place place = place_of(&room, server);
+        if (place.digit[level] == port && switch_number(&room, &place, (uint32_t)level) == number) return answered(server);
+    }
+    return refused(21);
+}
+
+bcube_answer plain_neighbour(bcube_room value, uint64_t server, uint64_t level, uint64_t digit) {
+    struct room room;
+    uint32_t why = enter(&room, value);
     if (why) return refused(why);
     if (server >= room.servers) return refused(4);
-    if (level > k) return refused(20);
-    if (value >= n) return refused(21);
-    struct place there = moved(place_of(&room, server), level, value);
+    if (level > room.k) return refused(20);
+    if (digit >= room.n) return refused(21);
+    struct place there = moved(place_of(&room, server), (uint32_t)level, (uint32_t)digit);
     return answered(address_of(&room, &there));
 }
 
-uint64_t plain_between(uint32_t n, uint32_t k, uint32_t one, uint32_t other) {
+bcube_answer plain_between(bcube_room value, uint64_t one, uint64_t other) {
     struct room room;
-    uint32_t why = enter(&room, n, k);
+    uint32_t why = enter(&room, value);
     if (why) return refused(why);
     if (one >= room.servers || other >= room.servers) return refused(4);
     struct place here = place_of(&room, one), there = place_of(&room, other);
@@ -424,59 +470,97 @@ uint64_t plain_between(uint32_t n, uint32_t k, uint32_t one, uint32_t other) {
 
 /* ---- the calls: the failed-link table */
 
-uint64_t plain_failed_link(uint32_t n, uint32_t k, uint32_t server, uint32_t level, const uint8_t *table,
-                           size_t table_len) {
+bcube_answer plain_failed_link(bcube_room value, uint64_t server, uint64_t level, const uint8_t *table,
+                               size_t table_len) {
     struct room room;
-    uint32_t why = enter(&room, n, k);
+    uint32_t why = enter(&room, value);
     if (!why) why = link_refusal(&room, server, level, table, table_len);
     if (why) return refused(why);
     return answered(table[server] >> level & 1);
 }
 
-uint64_t plain_mark_link(uint32_t n, uint32_t k, uint32_t server, uint32_t level, uint8_t *table, size_t table_len) {
+bcube_answer plain_mark_link(bcube_room value, uint64_t server, uint64_t level, uint8_t *table, size_t table_len) {
     struct room room;
-    uint32_t why = enter(&room, n, k);
+    uint32_t why = enter(&room, value);
     if (!why) why = link_refusal(&room, server, level, table, table_len);
     if (why) return refused(why);
     table[server] = (uint8_t)(table[server] | 1u << level);
     return answered(0);
 }
 
-uint64_t plain_clear_link(uint32_t n, uint32_t k, uint32_t server, uint32_t level, uint8_t *table, size_t table_len) {
+bcube_answer plain_clear_link(bcube_room value, uint64_t server, uint64_t level, uint8_t *table, size_t table_len) {
     struct room room;
-    uint32_t why = enter(&room, n, k);
+    uint32_t why = enter(&room, value);
     if (!why) why = link_refusal(&room, server, level, table, table_len);
     if (why) return refused(why);
     table[server] = (uint8_t)(table[server] & ~(1u << level));
     return answered(0);
 }
 
+/* all links of a server put to one state */
+static bcube_answer put_server(bcube_room value, uint64_t server, uint8_t *table, size_t table_len, int failed) {
+    struct room room;
+    uint32_t why = enter(&room, value);
+    if (!why) why = link_refusal(&room, server, 0, table, table_len);
+    if (why) return refused(why);
+    for (uint32_t level = 0; level <= room.k; level++)
+        table[server] = (uint8_t)(failed ? table[server] | 1u << level : table[server] & ~(1u << level));
+    return answered(0);
+}
+
+bcube_answer plain_mark_server(bcube_room value, uint64_t server, uint8_t *table, size_t table_len) {
+    return put_server(value, server, table, table_len, 1);
+}
+
+bcube_answer plain_clear_server(bcube_room value, uint64_t server, uint8_t *table, size_t table_len) {
+    return put_server(value, server, table, table_len, 0);
+}
+
 /* ---- the calls: path bytes */
 
-/* what reading and reversal have in common: gives the result word of a refusal, or 0 and the route */
-static uint64_t read_single(uint32_t n, uint32_t k, uint32_t source, uint32_t destination, const uint8_t *path,
-                            size_t path_len, struct room *room, struct route *route) {
-    uint32_t why = enter(room, n, k);
+bcube_answer plain_path_byte(bcube_room value, uint64_t level, uint64_t digit) {
+    struct room room;
+    uint32_t why = enter(&room, value);
+    if (why) return refused(why);
+    if (level > room.k) return refused(20);
+    if (digit >= room.n) return refused(21);
+    return answered((uint32_t)(64 * level + digit));
+}
+
+bcube_answer plain_path_byte_parts(bcube_room value, uint64_t byte) {
+    struct room room;
+    uint32_t why = enter(&room, value);
+    if (why) return refused(why);
+    uint64_t level = byte >> 6, digit = byte & 63;
+    if (level > room.k) return refused_at(8, 1, 1);
+    if (digit >= room.n) return refused_at(9, 1, 1);
+    return answered((uint32_t)(level << 8 | digit));
+}
+
+/* what reading and reversal have in common: gives a refusal, or passes with the route */
+static bcube_answer read_single(bcube_room value, uint64_t source, uint64_t destination, const uint8_t *path,
+                                size_t path_len, struct room *room, struct route *route) {
+    uint32_t why = enter(room, value);
     if (!why) why = ends_refusal(room, source, destination);
     if (!why && path_len != ARRAY) why = 7;
     if (why) return refused(why);
     return read_array(room, NULL, source, destination, path, 1, route);
 }
 
-uint64_t plain_read(uint32_t n, uint32_t k, uint32_t source, uint32_t destination, const uint8_t *path,
-                    size_t path_len, uint32_t servers[9]) {
+bcube_answer plain_read(bcube_room value, uint64_t source, uint64_t destination, const uint8_t *path,
+                        size_t path_len, uint64_t servers[9]) {
     struct room room;
     struct route route;
-    uint64_t refusal = read_single(n, k, source, destination, path, path_len, &room, &route);
-    if (refusal) return refusal;
+    bcube_answer answer = read_single(value, source, destination, path, path_len, &room, &route);
+    if (is_refused(answer)) return answer;
     for (uint32_t i = 0; i <= HOPS; i++) servers[i] = i <= route.hops ? address_of(&room, &route.met[i]) : 0;
     return answered(route.hops + 1);
 }
 
-uint64_t plain_write(uint32_t n, uint32_t k, const uint32_t *servers, size_t servers_len, uint8_t path[8]) {
+bcube_answer plain_write(bcube_room value, const uint64_t *servers, size_t servers_len, uint8_t path[8]) {
     struct room room;
     struct route route;
-    uint32_t why = enter(&room, n, k);
+    uint32_t why = enter(&room, value);
     if (why) return refused(why);
     if (servers_len < 2 || servers_len > HOPS + 1) return refused(22);
     for (size_t i = 0; i < servers_len; i++)
@@ -494,36 +578,36 @@ uint64_t plain_write(uint32_t n, uint32_t k, const uint32_t *servers, size_t ser
     return answered(0);
 }
 
-uint64_t plain_reverse(uint32_t n, uint32_t k, uint32_t source, uint32_t destination, const uint8_t *path,
-                       size_t path_len, uint8_t reversed[8]) {
+bcube_answer plain_reverse(bcube_room value, uint64_t source, uint64_t destination, const uint8_t *path,
+                           size_t path_len, uint8_t reversed[8]) {
     struct room room;
     struct route route, back;
-    uint64_t refusal = read_single(n, k, source, destination, path, path_len, &room, &route);
-    if (refusal) return refusal;
+    bcube_answer answer = read_single(value, source, destination, path, path_len, &room, &route);
+    if (is_refused(answer)) return answer;
     begin(&back, last(&route));
     for (uint32_t i = route.hops; i-- > 0;) append(&back, route.level[i], route.met[i].digit[route.level[i]]);
     put_bytes(&back, reversed);
     return answered(0);
 }
 
-/* the routes of a list, each and in pairs; gives the result word of a refusal, or 0 */
-static uint64_t check_routes(const struct room *room, uint32_t source, uint32_t destination, const uint8_t *table,
-                             const uint8_t *list, uint32_t count) {
+/* the routes of a list, each and in pairs; gives a refusal, or passes */
+static bcube_answer check_routes(const struct room *room, uint64_t source, uint64_t destination, const uint8_t *table,
+                                 const uint8_t *list, uint32_t count) {
     struct route route[LEVELS];
     for (uint32_t i = 0; i < count; i++) {
-        uint64_t refusal = read_array(room, table, source, destination, list + ARRAY * i, i + 1, &route[i]);
-        if (refusal) return refusal;
+        bcube_answer answer = read_array(room, table, source, destination, list + ARRAY * i, i + 1, &route[i]);
+        if (is_refused(answer)) return answer;
     }
     for (uint32_t i = 0; i < count; i++)
         for (uint32_t j = i + 1; j < count; j++)
             if (!parallel(&route[i], &route[j])) return refused_at(15, j + 1, 0);
-    return 0;
+    return passed;
 }
 
-uint64_t plain_check(uint32_t n, uint32_t k, uint32_t source, uint32_t destination, const uint8_t *table,
-                     size_t table_len, const uint8_t *list, size_t list_len) {
+bcube_answer plain_check(bcube_room value, uint64_t source, uint64_t destination, const uint8_t *table,
+                         size_t table_len, const uint8_t *list, size_t list_len) {
     struct room room;
-    uint32_t why = enter(&room, n, k);
+    uint32_t why = enter(&room, value);
     if (!why) why = ends_refusal(&room, source, destination);
     if (!why) why = table_refusal(&room, table, table_len);
     if (!why) why = list_len == 0 ? 7 : list_refusal(&room, list_len);
@@ -533,26 +617,26 @@ uint64_t plain_check(uint32_t n, uint32_t k, uint32_t source, uint32_t destinati
 
 /* ---- the calls: routes */
 
-uint64_t plain_build(uint32_t n, uint32_t k, uint32_t source, uint32_t destination, uint8_t routes[32]) {
+bcube_answer plain_build(bcube_room value, uint64_t source, uint64_t destination, uint8_t routes[32]) {
     struct room room;
-    uint32_t why = enter(&room, n, k), count = 0;
+    uint32_t why = enter(&room, value), count = 0;
     if (!why) why = ends_refusal(&room, source, destination);
     if (why) return refused(why);
     struct place from = place_of(&room, source), to = place_of(&room, destination);
     memset(routes, 0, ARRAY * LEVELS);
-    for (uint32_t slot = k + 1; slot-- > 0;) {
+    for (uint32_t slot = room.k + 1; slot-- > 0;) {
         struct route route = built_route(&room, &from, &to, slot);
         put_bytes(&route, routes + ARRAY * count++);
     }
     return answered(count);
 }
 
-uint64_t plain_find(uint32_t n, uint32_t k, uint32_t source, uint32_t destination, const uint8_t *table,
-                    size_t table_len, uint8_t path[8]) {
+bcube_answer plain_find(bcube_room value, uint64_t source, uint64_t destination, const uint8_t *table,
+                        size_t table_len, uint8_t path[8]) {
     struct room room;
     struct search search;
     struct route route;
-    uint32_t why = enter(&room, n, k);
+    uint32_t why = enter(&room, value);
     if (!why) why = ends_refusal(&room, source, destination);
     if (!why) why = table_refusal(&room, table, table_len);
     if (why) return refused(why);
@@ -563,7 +647,7 @@ uint64_t plain_find(uint32_t n, uint32_t k, uint32_t source, uint32_t destinatio
 }
 
 /* the alternate for a slot: avoids the settled routes, and the built routes of the lower slots */
-static int alternate(const struct room *room, const uint8_t *table, uint32_t source, uint32_t destination,
+static int alternate(const struct room *room, const uint8_t *table, uint64_t source, uint64_t destination,
                      const struct route *settled, uint32_t count, const struct route *built, uint32_t slot,
                      struct route *route) {
     struct search search;
@@ -573,17 +657,17 @@ static int alternate(const struct room *room, const uint8_t *table, uint32_t sou
     return least_route(&search, source, route);
 }
 
-uint64_t plain_select(uint32_t n, uint32_t k, uint32_t source, uint32_t destination, const uint8_t *table,
-                      size_t table_len, uint8_t routes[32]) {
+bcube_answer plain_select(bcube_room value, uint64_t source, uint64_t destination, const uint8_t *table,
+                          size_t table_len, uint8_t routes[32]) {
     struct room room;
     struct route built[LEVELS], settled[LEVELS];
-    uint32_t why = enter(&room, n, k), count = 0;
+    uint32_t why = enter(&room, value), count = 0;
     if (!why) why = ends_refusal(&room, source, destination);
     if (!why) why = table_refusal(&room, table, table_len);
     if (why) return refused(why);
     struct place from = place_of(&room, source), to = place_of(&room, destination);
-    for (uint32_t slot = 0; slot <= k; slot++) built[slot] = built_route(&room, &from, &to, slot);
-    for (uint32_t slot = k + 1; slot-- > 0;) {
+    for (uint32_t slot = 0; slot <= room.k; slot++) built[slot] = built_route(&room, &from, &to, slot);
+    for (uint32_t slot = room.k + 1; slot-- > 0;) {
         if (!crosses_failed(&room, table, &built[slot]))
             settled[count++] = built[slot];
         else if (alternate(&room, table, source, destination, settled, count, built, slot, &settled[count]))
@@ -598,17 +682,18 @@ uint64_t plain_select(uint32_t n, uint32_t k, uint32_t source, uint32_t destinat
 /* ---- the calls: picking */
 
 /* the place of the first usable route of a list, counted from 1; 0 if there is none */
-static uint32_t first_usable(const struct room *room, uint32_t source, uint32_t destination, const uint8_t *table,
+static uint32_t first_usable(const struct room *room, uint64_t source, uint64_t destination, const uint8_t *table,
                              const uint8_t *list, size_t list_len) {
     for (uint32_t i = 0; i < list_len / ARRAY; i++)
-        if (check_routes(room, source, destination, table, list + ARRAY * i, 1) == 0) return i + 1;
+        if (!is_refused(check_routes(room, source, destination, table, list + ARRAY * i, 1))) return i + 1;
     return 0;
 }
 
-uint64_t plain_pick(uint32_t n, uint32_t k, uint32_t source, uint32_t destination, const uint8_t *table,
-                    size_t table_len, const uint8_t *fresh, size_t fresh_len, const uint8_t *kept, size_t kept_len) {
+bcube_answer plain_pick(bcube_room value, uint64_t source, uint64_t destination, const uint8_t *table,
+                        size_t table_len, const uint8_t *fresh, size_t fresh_len, const uint8_t *kept,
+                        size_t kept_len) {
     struct room room;
-    uint32_t why = enter(&room, n, k), place;
+    uint32_t why = enter(&room, value), place;
     if (!why) why = ends_refusal(&room, source, destination);
     if (!why) why = table_refusal(&room, table, table_len);
     if (!why) why = list_refusal(&room, fresh_len);
@@ -623,56 +708,27 @@ uint64_t plain_pick(uint32_t n, uint32_t k, uint32_t source, uint32_t destinatio
 
 /* ---- the calls: one forwarding step */
 
-struct step {
-    uint32_t refusal, hop, delivered, index, next;
-    uint8_t mac[6], port;
-};
+static bcube_stepped step_refused(uint32_t number, uint64_t hop) { return (bcube_stepped){number | hop << 8, 0}; }
 
-static struct step step_refused(uint32_t number, uint32_t hop) {
-    struct step step = {.refusal = number, .hop = hop};
-    return step;
-}
-
-static struct step one_step(uint32_t n, uint32_t k, uint32_t here, uint32_t destination, uint32_t index,
-                            const uint8_t *path, size_t path_len, const uint8_t *table, size_t table_len) {
+bcube_stepped plain_step(bcube_room value, uint64_t here, uint64_t destination, uint64_t index, const uint8_t *path,
+                         size_t path_len, const uint8_t *neighbours, size_t neighbours_len) {
     struct room room;
-    struct step step = {0};
-    uint32_t why = enter(&room, n, k);
+    uint32_t why = enter(&room, value);
     if (!why && (here >= room.servers || destination >= room.servers)) why = 4;
-    if (!why && table_len != 2048) why = 17;
+    if (!why && neighbours_len != 2048) why = 17;
     if (!why && path_len != ARRAY) why = 7;
     if (why) return step_refused(why, 0);
-    if (here == destination) {
-        step.delivered = 1;
-        return step;
-    }
+    if (here == destination) return (bcube_stepped){1 << 16, 0};
     if (index >= ARRAY) return step_refused(18, 0);
-    uint32_t level = path[index] / 64, value = path[index] % 64;
+    uint32_t level = path[index] / 64, digit = path[index] % 64;
     struct place from = place_of(&room, here);
-    if (level > k) return step_refused(8, index + 1);
-    if (value >= n) return step_refused(9, index + 1);
-    if (from.digit[level] == value) return step_refused(10, index + 1);
-    const uint8_t *entry = table + 8 * path[index];
+    if (level > room.k) return step_refused(8, index + 1);
+    if (digit >= room.n) return step_refused(9, index + 1);
+    if (from.digit[level] == digit) return step_refused(10, index + 1);
+    const uint8_t *entry = neighbours + 8 * path[index];
     if (entry[7] != 1) return step_refused(19, index + 1);
-    struct place to = moved(from, level, value);
-    step.index = index + 1;
-    step.next = address_of(&room, &to);
-    memcpy(step.mac, entry, 6);
-    step.port = entry[6];
+    struct place to = moved(from, level, digit);
+    bcube_stepped step = {(index + 1) << 24 | (uint64_t)address_of(&room, &to) << 32 | (uint64_t)entry[6] << 48, 0};
+    for (uint32_t i = 0; i < 6; i++) step.mac = step.mac << 8 | entry[i];
     return step;
-}
-
-uint64_t plain_step(uint32_t n, uint32_t k, uint32_t here, uint32_t destination, uint32_t index, const uint8_t *path,
-                    size_t path_len, const uint8_t *table, size_t table_len) {
-    struct step step = one_step(n, k, here, destination, index, path, path_len, table, table_len);
-    return step.refusal | (uint64_t)step.hop << 8 | (uint64_t)step.delivered << 16 | (uint64_t)step.index << 24 |
-           (uint64_t)step.next << 32 | (uint64_t)step.port << 48;
-}
-
-uint64_t plain_step_mac(uint32_t n, uint32_t k, uint32_t here, uint32_t destination, uint32_t index,
-                        const uint8_t *path, size_t path_len, const uint8_t *table, size_t table_len) {
-    struct step step = one_step(n, k, here, destination, index, path, path_len, table, table_len);
-    uint64_t mac = 0;
-    for (uint32_t i = 0; i < 6; i++) mac = mac << 8 | step.mac[i];
-    return mac;
 }

@@ -1,5 +1,5 @@
 #!/usr/bin/env python3
-"""An independent model of the desk program (document 01, "How it is used" and "Built routes").
+"""An independent model of the desk program (docs/RULES.md, sections 4 and 9).
 
   tests/desk/model.py            print the cases: a line each, INPUT|OUTPUT, as `printf %b` reads them
   tests/desk/model.py --check    say whether tests/desk/cases is what this prints

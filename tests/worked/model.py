@@ -1,5 +1,5 @@
 #!/usr/bin/env python3
-"""An independent model of the rules (document 01), for the stored output of the programs `worked_..`.
+"""An independent model of the rules (docs/RULES.md), for the stored output of the programs `worked_..`.
 
   tests/worked/model.py            recompute every row of crates/worked_*/stdout and say which differ
   tests/worked/model.py FILE..     the same for other files of rows

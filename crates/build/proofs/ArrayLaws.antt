@@ -9,6 +9,8 @@ use Rattle.lists.specs.Lists.{filled, downFrom}
 use Rattle.lists.proofs.ListLaws.{All, map-at, down-long, down-at}
 use Rattle.room.specs.declared.Shape.{Shape}
 use Rattle.room.specs.Shapes.{Ends}
+use Rattle.room.specs.Refusals.{endsRefusal}
+use Rattle.room.proofs.RefusalLaws.{ends-of}
 use Rattle.path.specs.Routes.{encode, RouteTo, Parallel}
 use Rattle.build.specs.declared.RouteSet.{RouteSet}
 use Rattle.build.specs.Built.{builtHops, bytesOf, builtRoute, builtBytes, builtRoutes, builtArrays}
@@ -102,31 +104,47 @@ module _ {s : Shape} {a d : ℕ} (e : Ends s a d) where
 -- ---- gathering them, as the program does: place j gets the array of slot k - j
 
 -- a set, with the arrays from place j on added
-abbrev pub withPlaces : Shape → ℕ → ℕ → RouteSet → ℕ → RouteSet
+abbrev withPlaces : Shape → ℕ → ℕ → RouteSet → ℕ → RouteSet
 withPlaces s a d r j = gathered r (map (λ i. builtBytes s i a d) (downFrom (suc (s .k) - j)))
-
-pub gather-start : {s : Shape} {a d : ℕ} → Ends s a d → (r : RouteSet) → r ≡ emptySet → withPlaces s a d r 0 ≡ setOf (builtArrays s a d)
-unfolding builtArrays
-gather-start {s} {a} {d} e r p =
-    let q : suc (s .k) - 0 ≡ suc (s .k) = omega arith in
-    ap₂ (λ (x : RouteSet) (m : ℕ). gathered x (map (λ i. builtBytes s i a d) (downFrom m))) p q
-    ∙ gathered-set (map (λ i. builtBytes s i a d) (downFrom (suc (s .k)))) (arrays-eight e)
-    (omega (arith, map-long (λ i. builtBytes s i a d) (suc (s .k)), e .source .valid .levels))
 
 gather-down : (s : Shape) (a d : ℕ) (r : RouteSet) (m : ℕ) (x : List ℕ) → x ≡ builtBytes s m a d → (y : RouteSet) → y ≡ added r x → gathered y (map (λ i. builtBytes s i a d) (downFrom m)) ≡ gathered r (map (λ i. builtBytes s i a d) (downFrom (suc m)))
 unfolding gathered
 gather-down s a d r m x p y q = ap (λ (z : RouteSet). gathered z (map (λ i. builtBytes s i a d) (downFrom m))) (q ∙ ap (added r) p)
 
-pub gather-next : (s : Shape) (a d : ℕ) (r : RouteSet) (j : ℕ) → j ≤ s .k → (x : List ℕ) → x ≡ builtBytes s (s .k - j) a d → (y : RouteSet) → y ≡ added r x → withPlaces s a d y (j + 1) ≡ withPlaces s a d r j
-gather-next s a d r j h x p y q =
+-- what the program's loop keeps: a set that the arrays from place j on complete
+pub record Gathering (s : Shape) (a d : ℕ) (r : RouteSet) (j : ℕ) : Type 0 where
+  pub ends : Ends s a d
+  pub place : j ≤ suc (s .k)
+  pub rest : withPlaces s a d r j ≡ setOf (builtArrays s a d)
+
+pub gather-start : (s : Shape) (a d : ℕ) (r : RouteSet) → endsRefusal s a d ≡ 0 → r ≡ emptySet → Gathering s a d r 0
+unfolding builtArrays
+gather-start s a d r z p =
+    let e = ends-of s a d z in
+    let q : suc (s .k) - 0 ≡ suc (s .k) = omega arith in
+    record {
+      ends = e;
+      place = omega arith;
+      rest = ap₂ (λ (x : RouteSet) (m : ℕ). gathered x (map (λ i. builtBytes s i a d) (downFrom m))) p q
+          ∙ gathered-set (map (λ i. builtBytes s i a d) (downFrom (suc (s .k)))) (arrays-eight e)
+          (omega (arith, map-long (λ i. builtBytes s i a d) (suc (s .k)), e .source .valid .levels));
+    }
+
+pub gather-next : {s : Shape} {a d : ℕ} {r : RouteSet} {j : ℕ} → Gathering s a d r j → (y : RouteSet) (x : List ℕ) → y ≡ added r x → x ≡ builtBytes s (s .k - j) a d → j ≤ s .k → Gathering s a d y (j + 1)
+gather-next {s} {a} {d} {r} {j} g y x q p h =
     let e : suc (s .k) - (j + 1) ≡ s .k - j = omega arith in
     let f : suc (s .k - j) ≡ suc (s .k) - j = omega arith in
-    ap (λ (m : ℕ). gathered y (map (λ i. builtBytes s i a d) (downFrom m))) e
-    ∙ gather-down s a d r (s .k - j) x p y q
-    ∙ ap (λ (m : ℕ). gathered r (map (λ i. builtBytes s i a d) (downFrom m))) f
+    record {
+      ends = g .ends;
+      place = omega arith;
+      rest = ap (λ (m : ℕ). gathered y (map (λ i. builtBytes s i a d) (downFrom m))) e
+          ∙ gather-down s a d r (s .k - j) x p y q
+          ∙ ap (λ (m : ℕ). gathered r (map (λ i. builtBytes s i a d) (downFrom m))) f
+          ∙ g .rest;
+    }
 
-pub gather-end : (s : Shape) (a d : ℕ) (r : RouteSet) (j : ℕ) → s .k < j → r ≡ withPlaces s a d r j
+pub gather-end : {s : Shape} {a d : ℕ} {r : RouteSet} {j : ℕ} → Gathering s a d r j → s .k < j → r ≡ setOf (builtArrays s a d)
 unfolding gathered
-gather-end s a d r j h =
+gather-end {s} {a} {d} {r} {j} g h =
     let e : 0 ≡ suc (s .k) - j = omega arith in
-    ap (λ (m : ℕ). gathered r (map (λ i. builtBytes s i a d) (downFrom m))) e
+    ap (λ (m : ℕ). gathered r (map (λ i. builtBytes s i a d) (downFrom m))) e ∙ g .rest

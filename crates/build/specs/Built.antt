@@ -20,11 +20,11 @@ abbrev pub round : ℕ → ℕ → ℕ → List ℕ
 round k zero l = []
 round k (suc m) l = l ∷ round k m (next k l)
 
--- i, i-1, .. , 0, k, .. , i+1
+-- i, i-1, .. , 0, k, .. , i+1 (rule 4.2)
 abbrev pub firstIn : ℕ → ℕ → List ℕ
 firstIn k i = round k (suc k) i
 
--- i-1, .. , 0, k, .. , i
+-- i-1, .. , 0, k, .. , i (rule 4.3)
 abbrev pub lastIn : ℕ → ℕ → List ℕ
 lastIn k i = round k (suc k) (next k i)
 
@@ -38,17 +38,17 @@ module _ {A : Type 0} (same : A → A → Bool) (o : A) where
 
   -- `other` is the value that digit i is first set to where the ends have the same there
   module _ (other : ℕ → A → A) where
-    -- first to another value of digit i, which then comes last
+    -- first to another value of digit i, which then comes last (rule 4.3)
     abbrev pub detour : ℕ → ℕ → List A → List A → List (ℕ × A)
     detour k i x y =
         (i, other i (getD x i o)) ∷ correct (lastIn k i) (set x i (other i (getD x i o))) y
 
-    -- the hops of route i from x to y
+    -- the hops of route i from x to y (rule 4.1)
     abbrev pub routeOver : ℕ → ℕ → List A → List A → List (ℕ × A)
     routeOver k i x y =
         cond (same (getD x i o) (getD y i o)) (detour k i x y) (correct (firstIn k i) x y)
 
--- the value of a detour: the digit's own + 1, and 0 after the last that the level has
+-- the value of a detour: the digit's own + 1, and 0 after the last that the level has (rule 4.3)
 unfoldable pub plusOne : Shape → ℕ → ℕ → ℕ
 plusOne s l x = (x + 1) % bound s l
 

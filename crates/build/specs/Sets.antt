@@ -15,7 +15,7 @@ emptySet = record { bytes = replicate 32 0; count = 0 }
 unfoldable pub placed : ℕ → List ℕ → List ℕ → List ℕ
 placed p route bytes = take p bytes ++ route ++ drop (p + 8) bytes
 
--- the set with an array put after the last; a set whose count is 4 or more is unchanged
+-- the set with an array put after the last; a set whose count is 4 or more is unchanged (rule 4.5)
 unfoldable pub added : RouteSet → List ℕ → RouteSet
 added r route =
     cond (ltb (r .count) 4) (record { bytes = placed (8 * r .count) route (r .bytes); count = r .count + 1 }) r
@@ -29,7 +29,7 @@ unfoldable pub joined : List (List ℕ) → List ℕ
 joined [] = []
 joined (x ∷ xs) = x ++ joined xs
 
--- the set of these arrays in their order, with zeros past them
+-- the set of these arrays in their order, with zeros past them (rule 4.5)
 unfoldable pub setOf : List (List ℕ) → RouteSet
 setOf xs = record { bytes = filled 32 (joined xs); count = length xs }
 

@@ -9,25 +9,33 @@ use Rattle.refusals.specs.declared.Refusal.{Refusal}
 use Rattle.refusals.specs.Refusals.{answer}
 use Rattle.room.specs.Refusals.{shapeRefusal}
 use Rattle.room.specs.Answers.{betweenAnswer}
+use Rattle.links.specs.Servers.{serverAnswer, markedServer, clearedServer}
 use Rattle.links.specs.Answers.{failedAnswer, linkAnswer, changedTable}
 use Rattle.step.specs.declared.Step.{Step}
 use Rattle.step.specs.Steps.{stepAnswer}
-use Rattle.step.specs.Packed.{flagOf, packed, macNumber, unpacked}
-use Rattle.step.proofs.PackLaws as packs
-use Rattle.step.proofs.PackLaws.{packed-fields, unpack-packed, mac-made, step-small, step-unpacks}
+use Rattle.driver.specs.declared.Answer.{Answer}
 use Rattle.driver.specs.Words.{word, refusalIn, Small, left, betweenWord, askedWord}
 use Rattle.driver.proofs.WordLaws.{refusal-back, value-back, plain-small, left-given, left-lent}
 use Rattle.driver.proofs.BoundLaws.{shape-le}
-use Rattle.driver.proofs.RoomSmall.{servers-small, bound-small, digit-small, address-small, neighbour-small, switch-small, between-level, between-fits, digits-fits, asked-fits, link-fits}
-use Rattle.driver.proofs.PathSmall.{read-small, reverse-small, write-small, check-small}
+use Rattle.driver.proofs.RoomSmall.{servers-small, bound-small, switches-small, server-at-small, server-fits, digit-small, address-small, neighbour-small, switch-small, between-level, between-fits, digits-fits, asked-fits, link-fits}
+use Rattle.driver.proofs.PathSmall.{byte-small, parts-found, read-small, reverse-small, write-small, check-small}
 use Rattle.driver.proofs.RouteSmall.{build-small, find-small, select-small}
 use Rattle.driver.proofs.PickSmall.{pick-small}
-use Rattle.demands.specs.Buffers.{Holds, EveryBuffer, Tells, TellsStep, EveryWord}
+use Rattle.driver.specs.Packed.{flagOf, macNumber, stepWord, packed, stepIn, unpacked}
+use Rattle.driver.proofs.PackLaws as packs
+use Rattle.driver.proofs.PackLaws.{word-fields, unpack-packed, mac-made, step-small, step-unpacks}
+use Rattle.driver.proofs.ShapeLaws.{room-refused, room-shape}
+use Rattle.demands.specs.Buffers.{Holds, EveryBuffer, EveryRoom, Tells, TellsStep, EveryWord}
+
+-- ---- the rooms
+
+pub every-room : EveryRoom
+every-room = record { refused = room-refused; shape = room-shape }
 
 -- ---- the words
 
 -- the byte above the refusal
-between : (r : Refusal) (v : ℕ) → Small r v → word r v / 16777216 % 256 ≡ 0
+between : (r : Refusal) (v : ℕ) → Small r v → word r v .word / 16777216 % 256 ≡ 0
 unfolding word
 between r v h = omega (arith, h .number, h .route, h .hop)
 
@@ -35,8 +43,8 @@ tells : {r : Refusal} {v : ℕ} → Small r v → Tells (word r v) r v
 tells {r} {v} h = record { refusal = refusal-back r v h; value = value-back r v h; between = between r v h }
 
 -- a word that was made of a refusal and a number
-said : {r : Refusal} {v w : ℕ} → w ≡ word r v → Small r v → Tells w r v
-said {r} {v} e h = subst (λ (w : ℕ). Tells w r v) (sym e) (tells h)
+said : {r : Refusal} {v : ℕ} {w : Answer} → w ≡ word r v → Small r v → Tells w r v
+said {r} {v} e h = subst (λ (w : Answer). Tells w r v) (sym e) (tells h)
 
 level-small : (b : Bool) (l : ℕ) → l ≤ 3 → cond b (suc l) 0 < 4294967296
 level-small true l h = omega arith
@@ -47,10 +55,10 @@ bit-small true = lit< tt
 bit-small false = lit< tt
 
 -- the bytes of a step's two numbers
-tells-step : (x : Step) → packs.Small x → TellsStep (packed x) (macNumber (x .mac)) x
-unfolding packed unpacked
+tells-step : (x : Step) → packs.Small x → TellsStep (packed x) x
+unfolding packed unpacked stepIn stepWord
 tells-step x h =
-    let f = packed-fields x h in
+    let f = word-fields x h in
     let m = macNumber (x .mac) in
     record {
       number = f .number;
@@ -58,9 +66,9 @@ tells-step x h =
       delivered = f .delivered;
       index = f .index;
       next = f .next;
-      port = top (x .refusal .number) (x .refusal .hop) (flagOf (x .delivered)) (x .index) (x .next) (x .port) (h .number) (h .hop) (bit-small (x .delivered)) (h .index) (h .next);
+      port = top (x .refusal .number) (x .refusal .hop) (flagOf (x .delivered)) (x .index) (x .next) (x .port) (h .fits .number) (h .fits .hop) (bit-small (x .delivered)) (h .fits .index) (h .fits .next);
       mac = ap (λ (y : ℕ). y ∷ m / 4294967296 % 256 ∷ m / 16777216 % 256 ∷ m / 65536 % 256 ∷ m / 256 % 256 ∷ m % 256 ∷ []) (high m (omega (arith, mac-made (x .mac) (h .long), h .mac .at 0, h .mac .at 1, h .mac .at 2, h .mac .at 3, h .mac .at 4, h .mac .at 5))) ∙ ap (λ (y : Step). y .mac) (unpack-packed x h);
-      route = h .route;
+      route = h .fits .route;
     }
   where
     top : (a b c d e f : ℕ) → a < 256 → b < 256 → c < 256 → d < 256 → e < 65536 → (a + 256 * b + 65536 * c + 16777216 * d + 4294967296 * e + 281474976710656 * f) / 281474976710656 ≡ f
@@ -80,6 +88,11 @@ every-word =
       shape = λ s. tells (plain-small (shapeRefusal s) (shape-le s));
       servers = λ s. tells (servers-small s);
       bounds = λ s l. tells (bound-small s l);
+      switches = λ s l. tells (switches-small s l);
+      server-at = λ s l w v. tells (server-at-small s l w v);
+      path-byte = λ s l v. tells (byte-small s l v);
+      path-byte-parts = λ s b. tells (parts-found s b _ refl .small);
+      mark-or-clear-server = λ s t a. tells (server-fits s t a refl);
       digits = λ s a. tells (digits-fits s a 0 (lit< tt) refl);
       one-digit = λ s a l. tells (digit-small s a l);
       address = λ s d0 d1 d2 d3. tells (address-small s (d0 ∷ d1 ∷ d2 ∷ d3 ∷ []) refl);
@@ -106,7 +119,7 @@ held : (r : ℕ) (lent written : List ℕ) → Holds r lent written (left r lent
 held r lent written = record { written = λ e. sym (left-given r lent written e); kept = λ n. sym (left-lent r lent written n) }
 
 -- the same of a word that tells the number, and a buffer that was left so
-told : (w : ℕ) {r : Refusal} (v : ℕ) {lent written now : List ℕ} → Tells w r v → now ≡ left (r .number) lent written → Holds (refusalIn w .number) lent written now
+told : (w : Answer) {r : Refusal} (v : ℕ) {lent written now : List ℕ} → Tells w r v → now ≡ left (r .number) lent written → Holds (refusalIn w .number) lent written now
 told w {r} v {lent} {written} {now} h e =
     subst (λ (m : ℕ). Holds m lent written now) (ap (λ (x : Refusal). x .number) (sym (h .refusal)))
     (subst (Holds (r .number) lent written) (sym e) (held (r .number) lent written))
@@ -116,11 +129,14 @@ changed zero t u = record { written = λ e. refl; kept = λ n. absurd (n refl) }
 changed (suc q) t u = record { written = λ e. let z : ⊥ = omega arith in absurd z; kept = λ n. refl }
 
 pub every-buffer : EveryBuffer
-unfolding linkAnswer changedTable
+unfolding linkAnswer changedTable serverAnswer markedServer clearedServer
 every-buffer =
     record {
       marked = λ s t a l. changed _ t _;
       cleared = λ s t a l. changed _ t _;
+      marked-server = λ s t a. changed _ t _;
+      cleared-server = λ s t a. changed _ t _;
+      laid = λ s t a d bs r u h. h .kept;
       digits = λ s a lent. held _ lent _;
       read = λ s a d bs lent. held _ lent _;
       write = λ s vs lent. held _ lent _;

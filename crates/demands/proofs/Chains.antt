@@ -9,8 +9,7 @@ use lib.Dec.{ltb, leb, eqb}
 use borrow.Author.Tests.{lt-ltb, ltb-true, le-leb, leb-true, eq-eqb, ne-eqb, eqb-true, eqb-false, not-true}
 use Rattle.lists.proofs.ListLaws.{both-held}
 use Rattle.lists.specs.Lists.{isIn}
-use Rattle.refusals.specs.Refusals.{_or-else_, _unless_, answer}
-use Rattle.demands.specs.Demand1.{OneOf, nought, listed}
+use Rattle.refusals.specs.Refusals.{_or-else_, _unless_, answer, OneOf, nought, listed}
 use Rattle.demands.specs.Tests.{Tests, Refused, Number, Exactly, Hold, Others, ChainMeans}
 
 pub or-right : (x y : Bool) → y ≡ true → x || y ≡ true

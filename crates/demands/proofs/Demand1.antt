@@ -11,19 +11,22 @@ use lib.ListN.{length, getD, replicate, length-append, List·getD-eq-default}
 use Rattle.lists.specs.Lists.{isIn, inTurn}
 use Rattle.lists.proofs.ListLaws.{length-turn}
 use Rattle.refusals.specs.declared.Refusal.{Refusal}
-use Rattle.refusals.specs.Refusals.{none, plain, refusedAt, _or-else_, answer}
+use Rattle.refusals.specs.Refusals.{none, plain, refusedAt, _or-else_, answer, OneOf, listed}
 use Rattle.room.specs.declared.Shape.{Shape}
 use Rattle.room.specs.Refusals.{shapeRefusal, levelRefusal, serverRefusal, pairRefusal, linkRefusal, valueRefusal, placesRefusal, endsRefusal}
 use Rattle.room.specs.Addresses.{differing}
 use Rattle.room.specs.Answers.{onlyLevel, serversAnswer, boundAnswer, digitsAnswer, digitAnswer, addressAnswer, switchAnswer, neighbourAnswer, betweenAnswer}
+use Rattle.room.specs.Wiring.{portRefusal, switchesAnswer, serverAtAnswer}
 use Rattle.links.specs.Table.{tableLinkRefusal, roomRefusal}
 use Rattle.links.specs.Answers.{failedAnswer}
-use Rattle.path.specs.Routes.{byteTo, switchesOf, encode}
+use Rattle.path.specs.Bytes.{madeRefusal, byteAnswer, partsRefusal, noParts, someParts, partsAnswer}
+use Rattle.path.specs.Routes.{byteTo, switchesOf, encode, levelOf, valueOf}
 use Rattle.path.specs.Walks.{Walk, stopped, arrived, walk, hopTo, hopRefusal, fault}
 use Rattle.path.specs.Answers.{noHop, aHop, hopAnswer, arrayRefusal, noWalk, walked, walkAnswer, reading, readAnswer, noWriting, aWriting, reversed, reverseAnswer, writeRefusal, written, onTheWay, writeAnswer}
 use Rattle.verdict.specs.Checks.{checkAnswer}
 use Rattle.build.specs.Sets.{emptySet}
 use Rattle.build.specs.Answers.{buildAnswer}
+use Rattle.laying.specs.Answers.{Lays}
 use Rattle.finder.specs.declared.Found.{Found}
 use Rattle.finder.specs.Answers.{Finding}
 use Rattle.select.specs.declared.Selection.{Selection}
@@ -35,8 +38,8 @@ use Rattle.pick.proofs.Promises.{empty-exactly}
 use Rattle.step.specs.declared.Step.{Step}
 use Rattle.step.specs.Steps.{stepRefusal, placed, noStep, delivery, forwarded, stepAnswer}
 use Rattle.demands.specs.Tests.{Refused, Exactly}
-use Rattle.demands.specs.Demand1.{ofAHop, at-hop, no-arrival, later, OneOf, listed, WalkedOf, ReadingOf, WritingOf, FoundOf, SelectionOf, PlaceOf, StepOf, RefusalOf, HopOf, EveryCall}
-use Rattle.demands.specs.Refusals.{shapeTests, levelTests, serverTests, pairTests, linkTests, valueTests, placesTests, tableTests, tableLinkTests, endsTests, roomTests, arrayTests, checkTests, selectTests, pickTests, endOf, hopTests, readTests, writeTests, serversTests, givenTests, stepTests, Stops, hop-fails, never-arrives, goes-on, Reads, Writes, Checks, Steps}
+use Rattle.demands.specs.Demand1.{ofAHop, at-hop, no-arrival, later, PartsOf, WalkedOf, ReadingOf, WritingOf, FoundOf, SelectionOf, PlaceOf, StepOf, RefusalOf, HopOf, EveryCall}
+use Rattle.demands.specs.Refusals.{shapeTests, levelTests, serverTests, pairTests, linkTests, valueTests, portTests, madeTests, partsTests, placesTests, tableTests, tableLinkTests, tableServerTests, endsTests, roomTests, arrayTests, layTests, checkTests, selectTests, pickTests, endOf, hopTests, readTests, writeTests, serversTests, givenTests, stepTests, Stops, hop-fails, never-arrives, goes-on, Reads, Writes, Checks, Steps}
 use Rattle.demands.proofs.Chains.{all, one-listed, fails}
 use Rattle.demands.proofs.Refusing.{Of, none-of, some-of, hop-of, chain-of, whole-of, bare-none, bare-is, bare-answer, refuses, answer-refuses}
 use Rattle.demands.proofs.Numbers.{read-number, fault-numbers, plain-numbers}
@@ -81,6 +84,18 @@ module _ (s : Shape) (t F B : List ℕ) (hops : all ofAHop F ≡ true) (some : a
   array-of {a} {d} {bs} {r} u h = whole-of 1 B (arrayTests s a d bs) (Reads s t a d bs) r refl u (λ k. reads-of (k .1 .1 .1 .1 .1 .0)) h
 
 module _ (s : Shape) where
+  parts-of : (b : ℕ) → PartsOf (1 ∷ 2 ∷ 3 ∷ 8 ∷ 9 ∷ []) (partsAnswer s b)
+  unfolding partsAnswer isIn
+  parts-of b =
+      let Else : Refusal → Type 0 = Refused (λ n. refusedAt n 1 1) (partsTests s b) (λ r. r ≡ none) in
+      refuses _ _ (λ r. refl) 1 _ (partsAnswer s b)
+      (whole-of 1 _ (shapeTests s) Else _ refl refl
+      (λ k. chain-of (λ n. refusedAt n 1 1) 1 _ (partsTests s b) (λ r. r ≡ none) _
+      (λ n e. hop-of (8 ∷ 9 ∷ []) (1 ∷ 2 ∷ 3 ∷ 8 ∷ 9 ∷ []) n 1 1 refl refl e (omega arith) (omega arith) (omega arith) (omega arith)) (λ h. none-of))
+      (meets (refused-exactly .parts-of s b)))
+      (bare-answer (λ x. x .refusal) noParts (λ r. refl) plain (shapeRefusal s) _
+      (bare-answer (λ x. x .refusal) noParts (λ r. refl) (λ r. refusedAt r 1 1) (partsRefusal s b) (someParts (levelOf b) (valueOf b)) (bare-none (λ x. x .refusal) noParts (λ r. refl) (someParts (levelOf b) (valueOf b)) refl)))
+
   bare-walked : (w : Walk) → walked w .refusal .number ≢ 0 → walked w ≡ noWalk (walked w .refusal)
   bare-walked (stopped r h) n = refl
   bare-walked (arrived vs ws) n = absurd (n refl)
@@ -114,6 +129,12 @@ module _ (s : Shape) where
       go : (q : ℕ) → answer q noHop (aHop (hopTo s a b)) .number ≢ 0 → answer q noHop (aHop (hopTo s a b)) .next ≡ 0
       go zero n = absurd (n refl)
       go (suc q) n = refl
+
+  lay-route : (t : List ℕ) (a d : ℕ) (bs : List ℕ) (r : Refusal) (u : List ℕ) → Lays s t a d bs r u → RefusalOf 1 (1 ∷ 2 ∷ 3 ∷ 4 ∷ 5 ∷ 6 ∷ 7 ∷ 8 ∷ 9 ∷ 10 ∷ 12 ∷ 13 ∷ 14 ∷ []) r
+  unfolding isIn
+  lay-route t a d bs r u h =
+      alone _ _ _ (whole-of 1 _ (layTests s t a d bs) (Reads s [] a d bs) r refl refl
+      (λ k. reads-of s [] (8 ∷ 9 ∷ 10 ∷ 12 ∷ []) _ refl refl refl refl (plain-numbers s) (k .1 .1 .1 .1 .1 .1 .0)) (meets (refused-exactly .lay-route s t a d bs r u h)))
 
   -- ---- writing
 
@@ -229,11 +250,13 @@ only-none (l ∷ []) = refl
 only-none (l ∷ m ∷ ls) = refl
 
 pub every-call : EveryCall
-unfolding serversAnswer boundAnswer digitsAnswer digitAnswer addressAnswer switchAnswer neighbourAnswer betweenAnswer failedAnswer buildAnswer pickAnswer isIn
+unfolding serversAnswer boundAnswer digitsAnswer digitAnswer addressAnswer switchAnswer neighbourAnswer betweenAnswer switchesAnswer serverAtAnswer failedAnswer byteAnswer buildAnswer pickAnswer isIn
 every-call =
     record {
       shape-refusal = λ s. one-listed (shapeTests s) _ (meets (refused-exactly .shape-refusal s));
       server-refusal = λ s a. one-listed (serverTests s a) _ (meets (refused-exactly .server-refusal s a));
+      pair-refusal = λ s a b. one-listed (pairTests s a b) _ (meets (refused-exactly .pair-refusal s a b));
+      ends-refusal = λ s a d. one-listed (endsTests s a d) _ (meets (refused-exactly .ends-refusal s a d));
       link-refusal = λ s a l. one-listed (linkTests s a l) _ (meets (refused-exactly .link-refusal s a l));
       servers-of = λ s. answer-refuses _ _ (λ r. refl) 0 _ (shapeTests s) (shapeRefusal s) _ refl refl (meets (refused-exactly .servers-of s)) refl;
       bound-of = λ s l. answer-refuses _ _ (λ r. refl) 0 _ (levelTests s l) (levelRefusal s l) _ refl refl (meets (refused-exactly .bound-of s l)) refl;
@@ -243,10 +266,15 @@ every-call =
       switch-of = λ s a l. answer-refuses _ _ (λ r. refl) 0 _ (linkTests s a l) (linkRefusal s a l) _ refl refl (meets (refused-exactly .switch-of s a l)) refl;
       neighbour-of = λ s a l v. answer-refuses _ _ (λ r. refl) 0 _ (valueTests s a l v) (valueRefusal s a l v) _ refl refl (meets (refused-exactly .neighbour-of s a l v)) refl;
       level-between = λ s a b. answer-refuses _ _ (λ r. refl) 0 _ (pairTests s a b) (pairRefusal s a b) _ refl refl (meets (refused-exactly .level-between s a b)) (only-none (differing s a b));
+      switches-of = λ s l. answer-refuses _ _ (λ r. refl) 0 _ (levelTests s l) (levelRefusal s l) _ refl refl (meets (refused-exactly .switches-of s l)) refl;
+      server-at = λ s l w v. answer-refuses _ _ (λ r. refl) 0 _ (portTests s l w v) (portRefusal s l w v) _ refl refl (meets (refused-exactly .server-at s l w v)) refl;
       table-refusal = λ s t. one-listed (tableTests s t) _ (meets (refused-exactly .table-refusal s t));
+      room-refusal = λ s t a d. one-listed (roomTests s t a d) _ (meets (refused-exactly .room-refusal s t a d));
       failed-link = λ s t a l. answer-refuses _ _ (λ r. refl) 0 _ (tableLinkTests s t a l) (tableLinkRefusal s t a l) _ refl refl (meets (refused-exactly .failed-link s t a l)) refl;
       mark-or-clear = λ s t a l. alone _ _ _ (whole-of 0 _ (tableLinkTests s t a l) (λ r. r ≡ none) _ refl refl (λ k. none-of) (meets (refused-exactly .mark-or-clear s t a l)));
-      ends-refusal = λ s a d. one-listed (endsTests s a d) _ (meets (refused-exactly .ends-refusal s a d));
+      mark-or-clear-server = λ s t a. alone _ _ _ (whole-of 0 _ (tableServerTests s t a) (λ r. r ≡ none) _ refl refl (λ k. none-of) (meets (refused-exactly .mark-or-clear-server s t a)));
+      byte-of = λ s l v. answer-refuses _ _ (λ r. refl) 0 _ (madeTests s l v) (madeRefusal s l v) _ refl refl (meets (refused-exactly .byte-of s l v)) refl;
+      parts-of = parts-of;
       hop-of = hop-one;
       walk = walk-of;
       read-path = read-path;
@@ -254,6 +282,7 @@ every-call =
       write-path = write-path;
       check-list = check-list;
       build-routes = λ s a d. answer-refuses _ _ (λ r. refl) 0 _ (endsTests s a d) (endsRefusal s a d) _ refl refl (meets (refused-exactly .build-routes s a d)) refl;
+      lay-route = lay-route;
       find-route = find-route;
       select-routes = select-routes;
       pick-refusal = pick-refusal;

@@ -20,10 +20,15 @@ use Rattle.room.specs.declared.Between.{Between}
 use Rattle.room.specs.Addresses.{differing}
 use Rattle.room.specs.Refusals.{shapeRefusal, levelRefusal, serverRefusal, pairRefusal, linkRefusal, valueRefusal, placesRefusal, endsRefusal}
 use Rattle.room.specs.Answers.{noNumber, noDigits, noSwitch, noBetween, onlyLevel, serversAnswer, boundAnswer, digitsAnswer, digitAnswer, addressAnswer, switchAnswer, neighbourAnswer, betweenAnswer}
+use Rattle.room.specs.Wiring.{portRefusal, switchesAnswer, serverAtAnswer}
 use Rattle.links.specs.declared.Asked.{Asked}
-use Rattle.links.specs.Table.{roomTableRefusal, tableLinkRefusal, roomRefusal}
+use Rattle.links.specs.Table.{roomTableRefusal, tableLinkRefusal, TableOf, roomRefusal, roomRefusal as layRoom}
+use Rattle.links.specs.Servers.{tableServerRefusal, serverAnswer}
 use Rattle.links.specs.Answers.{notAsked, failedAnswer, linkAnswer}
+use Rattle.path.specs.Routes.{levelOf, valueOf}
 use Rattle.path.specs.declared.Hop.{Hop}
+use Rattle.path.specs.declared.Parts.{Parts}
+use Rattle.path.specs.Bytes.{madeRefusal, byteAnswer, partsRefusal, noParts, someParts, partsAnswer}
 use Rattle.path.specs.declared.Walked.{Walked}
 use Rattle.path.specs.declared.Writing.{Writing}
 use Rattle.path.specs.Walks.{Walk, stopped, arrived, walk, hopTo, hopRefusal}
@@ -31,6 +36,7 @@ use Rattle.path.specs.Answers.{noHop, aHop, hopAnswer, arrayRefusal, noWalk, wa
 use Rattle.path.proofs.CodecLaws.{walk-exactly}
 use Rattle.build.specs.declared.Building.{Building}
 use Rattle.build.specs.Answers.{noBuilding, buildAnswer}
+use Rattle.laying.specs.Answers.{layRefusal, Lays}
 use Rattle.finder.specs.declared.Found.{Found}
 use Rattle.finder.specs.Answers.{Finding}
 use Rattle.select.specs.declared.Selection.{Selection}
@@ -44,9 +50,9 @@ use Rattle.pick.proofs.UsableLaws.{usable-walk, array-long, clash}
 use Rattle.pick.proofs.Promises.{source-chosen}
 use Rattle.step.specs.Steps.{givenRefusal, byteRefusal, awayRefusal, stepRefusal, atHop, placed, noStep, delivery, forwarded, stepAnswer}
 use Rattle.demands.specs.Tests.{Tests, Refused, Number, Whole, Exactly}
-use Rattle.demands.specs.Refusals.{shapeTests, levelTests, serverTests, pairTests, linkTests, valueTests, placesTests, tableTests, tableLinkTests, endsTests, roomTests, arrayTests, Joined, selectTests, Arrays, IsRead, SomeRead, pickTests, hopTests, Reads, givenTests, stepTests, Steps, RefusedExactly}
-use Rattle.demands.proofs.Chains.{front, held, same, join, exactly, made, carry, some, chain, zero-of, hold-of, answers, test, lt}
-use Rattle.demands.proofs.Numbers.{shape-number, level-number, server-number, pair-number, link-number, value-number, places-number, table-number, table-link-number, ends-number, ends-hold, array-number, room-number, lists-number, hop-number, given-number, byte-number}
+use Rattle.demands.specs.Refusals.{shapeTests, levelTests, serverTests, pairTests, linkTests, valueTests, portTests, madeTests, partsTests, placesTests, tableTests, tableLinkTests, tableServerTests, endsTests, roomTests, arrayTests, layTests, Joined, selectTests, Arrays, IsRead, SomeRead, pickTests, hopTests, Reads, givenTests, stepTests, Steps, RefusedExactly}
+use Rattle.demands.proofs.Chains.{front, held, skip, same, join, split, exactly, made, carry, some, chain, zero-of, hold-of, answers, test, lt}
+use Rattle.demands.proofs.Numbers.{shape-number, level-number, server-number, pair-number, link-number, value-number, port-number, made-number, parts-number, places-number, table-number, table-link-number, table-server-number, ends-number, ends-hold, array-number, room-number, lists-number, hop-number, given-number, byte-number}
 use Rattle.demands.proofs.Hops.{walk-reads, reads-walk}
 use Rattle.demands.proofs.Written.{write-path}
 use Rattle.demands.proofs.Places.{check-list}
@@ -115,7 +121,25 @@ hop-of s a b =
     (answers (λ (x : Hop). x .number) noHop (λ n. n) (λ r. r ≡ 0) (serverTests s a ++ hopTests s a b) (serverRefusal s a or-else hopRefusal s a b) (aHop (hopTo s a b)) (λ r. refl) refl
     (chain (serverTests s a) (hopTests s a b) (serverRefusal s a) (hopRefusal s a b) refl (server-number s a) (λ h. hop-number s a b)) (λ h. refl))
 
--- ---- finding and selecting
+parts-of : (s : Shape) (b : ℕ) → Exactly (partsAnswer s b .refusal) (Refused plain (shapeTests s) (Refused (λ n. refusedAt n 1 1) (partsTests s b) (λ r. r ≡ none)))
+unfolding partsAnswer
+parts-of s b =
+    let Else : Refusal → Type 0 = Refused (λ n. refusedAt n 1 1) (partsTests s b) (λ r. r ≡ none) in
+    exactly plain Else (shapeTests s) (partsAnswer s b .refusal) (λ y h f g. same (λ n. refusedAt n 1 1) (λ r. r ≡ none) (partsTests s b) _ y (λ k u v. u ∙ sym v) f g)
+    (answers (λ (x : Parts). x .refusal) (λ r. noParts (plain r)) plain Else (shapeTests s) (shapeRefusal s) _ (λ r. refl) refl (shape-number s)
+    (λ h. answers (λ (x : Parts). x .refusal) (λ r. noParts (refusedAt r 1 1)) (λ n. refusedAt n 1 1) (λ r. r ≡ none) (partsTests s b) (partsRefusal s b) (someParts (levelOf b) (valueOf b)) (λ r. refl) refl (parts-number s b) (λ k. refl)))
+
+-- ---- laying, finding and selecting
+
+lay-route : (s : Shape) (t : List ℕ) (a d : ℕ) (bs : List ℕ) (r : Refusal) (u : List ℕ) → Lays s t a d bs r u → Exactly r (Refused plain (layTests s t a d bs) (Reads s [] a d bs))
+unfolding layRefusal layRoom
+lay-route s t a d bs r u h =
+    let read : Tests = (7, length bs ≡ 8) ∷ [] in
+    exactly plain (Reads s [] a d bs) (layTests s t a d bs) r (λ y k f g. sym (reads-walk f) ∙ reads-walk g)
+    (subst (Refused plain (layTests s t a d bs) (Reads s [] a d bs)) (sym (h .refusal))
+    (join plain (Reads s [] a d bs) (roomTests s t a d) read _
+    (answers (λ x. x) plain plain (Refused plain read (Reads s [] a d bs)) (roomTests s t a d) (layRoom s t a d) (readAnswer s a d bs .refusal) (λ n. refl) refl (room-number s t a d)
+    (λ k. skip plain (Refused plain read (Reads s [] a d bs)) (endsTests s a d) _ (front (endsTests s a d) ((6, TableOf s t) ∷ []) k) (split plain (Reads s [] a d bs) (endsTests s a d) read _ (read-path s a d bs _ .0 refl))))))
 
 find-route : (s : Shape) (t : List ℕ) (a d : ℕ) (x : Found) → Finding s t a d x → Exactly (x .refusal) (Whole (roomTests s t a d))
 unfolding roomRefusal
@@ -258,11 +282,13 @@ module _ (s : Shape) (a d i : ℕ) (bs e : List ℕ) where
 -- ---- every call
 
 pub refused-exactly : RefusedExactly
-unfolding serversAnswer boundAnswer digitsAnswer digitAnswer addressAnswer switchAnswer neighbourAnswer betweenAnswer failedAnswer linkAnswer buildAnswer
+unfolding serversAnswer boundAnswer digitsAnswer digitAnswer addressAnswer switchAnswer neighbourAnswer betweenAnswer switchesAnswer serverAtAnswer failedAnswer linkAnswer serverAnswer byteAnswer buildAnswer
 refused-exactly =
     record {
       shape-refusal = λ s. numbered (shapeTests s) (shapeRefusal s) (shape-number s);
       server-refusal = λ s a. numbered (serverTests s a) (serverRefusal s a) (server-number s a);
+      pair-refusal = λ s a b. numbered (pairTests s a b) (pairRefusal s a b) (pair-number s a b);
+      ends-refusal = λ s a d. numbered (endsTests s a d) (endsRefusal s a d) (ends-number s a d);
       link-refusal = λ s a l. numbered (linkTests s a l) (linkRefusal s a l) (link-number s a l);
       servers-of = λ s. whole (λ (x : Numbered). x .refusal) noNumber (λ r. refl) (shapeTests s) (shapeRefusal s) _ refl (shape-number s) refl;
       bound-of = λ s l. whole (λ (x : Numbered). x .refusal) noNumber (λ r. refl) (levelTests s l) (levelRefusal s l) _ refl (level-number s l) refl;
@@ -272,10 +298,15 @@ refused-exactly =
       switch-of = λ s a l. whole (λ (x : Switch). x .refusal) noSwitch (λ r. refl) (linkTests s a l) (linkRefusal s a l) _ refl (link-number s a l) refl;
       neighbour-of = λ s a l v. whole (λ (x : Numbered). x .refusal) noNumber (λ r. refl) (valueTests s a l v) (valueRefusal s a l v) _ refl (value-number s a l v) refl;
       level-between = λ s a b. whole (λ (x : Between). x .refusal) noBetween (λ r. refl) (pairTests s a b) (pairRefusal s a b) _ refl (pair-number s a b) (only-none (differing s a b));
+      switches-of = λ s l. whole (λ (x : Numbered). x .refusal) noNumber (λ r. refl) (levelTests s l) (levelRefusal s l) _ refl (level-number s l) refl;
+      server-at = λ s l w v. whole (λ (x : Numbered). x .refusal) noNumber (λ r. refl) (portTests s l w v) (portRefusal s l w v) _ refl (port-number s l w v) refl;
       table-refusal = λ s t. numbered (tableTests s t) (roomTableRefusal s t) (table-number s t);
+      room-refusal = λ s t a d. numbered (roomTests s t a d) (roomRefusal s t a d) (room-number s t a d);
       failed-link = λ s t a l. whole (λ (x : Asked). x .refusal) notAsked (λ r. refl) (tableLinkTests s t a l) (tableLinkRefusal s t a l) _ refl (table-link-number s t a l) refl;
       mark-or-clear = λ s t a l. plainly (tableLinkTests s t a l) (tableLinkRefusal s t a l) refl (table-link-number s t a l);
-      ends-refusal = λ s a d. numbered (endsTests s a d) (endsRefusal s a d) (ends-number s a d);
+      mark-or-clear-server = λ s t a. plainly (tableServerTests s t a) (tableServerRefusal s t a) refl (table-server-number s t a);
+      byte-of = λ s l v. whole (λ (x : Numbered). x .refusal) noNumber (λ r. refl) (madeTests s l v) (madeRefusal s l v) _ refl (made-number s l v) refl;
+      parts-of = parts-of;
       hop-of = hop-of;
       walk = walk-path;
       read-path = read-path;
@@ -283,6 +314,7 @@ refused-exactly =
       write-path = write-path;
       check-list = check-list;
       build-routes = λ s a d. whole (λ (x : Building). x .refusal) noBuilding (λ r. refl) (endsTests s a d) (endsRefusal s a d) _ refl (ends-number s a d) refl;
+      lay-route = lay-route;
       find-route = find-route;
       select-routes = select-routes;
       pick-refusal = pick-refusal;

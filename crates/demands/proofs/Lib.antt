@@ -18,3 +18,5 @@ pub mod ShortRoutes
 pub mod ProvedTable
 pub mod TieRows
 pub mod Uniqueness
+pub mod Calls
+pub mod Helpers

@@ -12,16 +12,19 @@ use lib.ListN.{length, getD}
 use borrow.Author.Tests.{le-leb, lt-leb, not-true}
 use Rattle.lists.proofs.ListLaws.{both-held, in-missing, missing-in}
 use Rattle.lists.specs.Lists.{isIn}
-use Rattle.refusals.specs.Refusals.{_or-else_, _unless_}
+use Rattle.refusals.specs.Refusals.{_or-else_, _unless_, OneOf}
 use Rattle.refusals.proofs.ChainLaws.{or-else-zero, chain-goes, test-held}
 use Rattle.room.specs.declared.Shape.{Shape}
 use Rattle.room.specs.Shapes.{serversOf, bound, Valid, Server, Ends}
-use Rattle.room.specs.Addresses.{digit, differing, Neighbours}
+use Rattle.room.specs.Addresses.{digit, switchesAt, differing, Neighbours}
+use Rattle.room.specs.Wiring.{portRefusal}
 use Rattle.room.specs.Refusals.{shapeRefusal, levelRefusal, serverRefusal, pairRefusal, linkRefusal, valueRefusal, placeBound, placesFit, placesRefusal, endsRefusal}
 use Rattle.room.proofs.RefusalLaws.{valid-none, Places, places-of, places-none, ends-of}
 use Rattle.room.proofs.RoomLaws.{neighbours-exactly}
 use Rattle.links.specs.Table.{failed, live, bitsFit, tableRefusal, roomTableRefusal, tableLinkRefusal, TableOf, roomRefusal}
+use Rattle.links.specs.Servers.{tableServerRefusal}
 use Rattle.links.proofs.TableLaws.{table-of, table-none, live-empty}
+use Rattle.path.specs.Bytes.{madeRefusal, partsRefusal}
 use Rattle.path.specs.Routes.{switchAt, switchTo, switchesOf, levelOf, valueOf}
 use Rattle.path.specs.Walks.{hopTo, hopRefusal, fault, single, writeFault}
 use Rattle.path.specs.Answers.{arrayRefusal, serversRefusal, writeRefusal}
@@ -29,8 +32,7 @@ use Rattle.verdict.specs.Checks.{listRefusal}
 use Rattle.pick.specs.Picks.{fits, listsRefusal}
 use Rattle.step.specs.Steps.{flagAt, givenRefusal, byteRefusal}
 use Rattle.demands.specs.Tests.{Number, Hold}
-use Rattle.demands.specs.Demand1.{OneOf}
-use Rattle.demands.specs.Refusals.{shapeTests, levelTests, serverTests, pairTests, linkTests, valueTests, Fits, placesTests, tableTests, tableLinkTests, endsTests, roomTests, arrayTests, Arrays, checkTests, NotIn, endOf, hopTests, readTests, writeTests, serversTests, givenTests, stepTests}
+use Rattle.demands.specs.Refusals.{shapeTests, levelTests, serverTests, pairTests, linkTests, valueTests, portTests, madeTests, partsTests, tableServerTests, Fits, placesTests, tableTests, tableLinkTests, endsTests, roomTests, arrayTests, Arrays, checkTests, NotIn, endOf, hopTests, readTests, writeTests, serversTests, givenTests, stepTests}
 use Rattle.demands.proofs.Chains.{front, test, chain, after, under, merge, reword, idle, zero-of, one-listed, le, lt, eq, ne, both}
 
 -- ---- conditions in other words
@@ -94,6 +96,23 @@ module _ (s : Shape) where
   unfolding valueRefusal
   value-number a l v = chain (linkTests s a l) ((21, v < bound s l) ∷ []) _ _ refl (link-number a l) (λ h. test 21 (ltb v (bound s l)) (lt v (bound s l)))
 
+  pub port-number : (l w v : ℕ) → Number (portTests s l w v) (portRefusal s l w v)
+  unfolding portRefusal
+  port-number l w v =
+      chain (levelTests s l) ((21, (w < switchesAt s l) × (v < bound s l)) ∷ []) _ _ refl (level-number l)
+      (λ h. test 21 (ltb w (switchesAt s l) && ltb v (bound s l)) (both _ _ (lt w (switchesAt s l)) (lt v (bound s l))))
+
+  pub made-number : (l v : ℕ) → Number (madeTests s l v) (madeRefusal s l v)
+  unfolding madeRefusal
+  made-number l v = chain (levelTests s l) ((21, v < bound s l) ∷ []) _ _ refl (level-number l) (λ h. test 21 (ltb v (bound s l)) (lt v (bound s l)))
+
+  pub parts-number : (b : ℕ) → Number (partsTests s b) (partsRefusal s b)
+  unfolding partsRefusal
+  parts-number b =
+      chain ((8, levelOf b ≤ s .k) ∷ []) ((9, valueOf b < bound s (levelOf b)) ∷ []) _ _ refl
+      (test 8 (leb (levelOf b) (s .k)) (le (levelOf b) (s .k)))
+      (λ h. test 9 (ltb (valueOf b) (bound s (levelOf b))) (lt (valueOf b) (bound s (levelOf b))))
+
   fits-of : {ds : List ℕ} → Places s ds → Fits s ds
   unfolding placeBound
   fits-of {ds} h =
@@ -140,6 +159,10 @@ module _ (s : Shape) where
   unfolding tableLinkRefusal
   table-link-number t a l = chain (linkTests s a l) ((6, TableOf s t) ∷ []) _ _ refl (link-number a l) (λ h. table-alone t)
 
+  pub table-server-number : (t : List ℕ) (a : ℕ) → Number (tableServerTests s t a) (tableServerRefusal s t a)
+  unfolding tableServerRefusal
+  table-server-number t a = chain (serverTests s a) ((6, TableOf s t) ∷ []) _ _ refl (server-number a) (λ h. table-alone t)
+
   pub ends-number : (a d : ℕ) → Number (endsTests s a d) (endsRefusal s a d)
   unfolding endsRefusal
   ends-number a d = chain (pairTests s a d) ((5, a ≢ d) ∷ []) _ _ refl (pair-number a d) (λ h. test 5 (not (eqb a d)) (ne a d))
@@ -151,7 +174,8 @@ module _ (s : Shape) where
   unfolding arrayRefusal
   array-number a d bs = chain (endsTests s a d) ((7, length bs ≡ 8) ∷ []) _ _ refl (ends-number a d) (λ h. test 7 (eqb (length bs) 8) (eq (length bs) 8))
 
-  pub room-number : (t : List ℕ) (a d : ℕ) → Number (roomTests s t a d) (endsRefusal s a d or-else tableRefusal s t)
+  pub room-number : (t : List ℕ) (a d : ℕ) → Number (roomTests s t a d) (roomRefusal s t a d)
+  unfolding roomRefusal
   room-number t a d = chain (endsTests s a d) ((6, TableOf s t) ∷ []) _ _ refl (ends-number a d) (λ h. table-alone t)
 
   pub list-number : (t : List ℕ) (a d : ℕ) (bs : List ℕ) → Number (checkTests s t a d bs) (listRefusal s t a d bs)

@@ -10,9 +10,9 @@ use borrow.Author.Tests.{eq-eqb, eqb-true}
 use Rattle.lists.proofs.ListLaws.{both-held}
 use Rattle.lists.specs.Lists.{isIn}
 use Rattle.refusals.specs.declared.Refusal.{Refusal}
-use Rattle.refusals.specs.Refusals.{none, plain, refusedAt, answer}
+use Rattle.refusals.specs.Refusals.{none, plain, refusedAt, answer, OneOf, nought, listed}
 use Rattle.demands.specs.Tests.{Tests, Refused, Whole, Hold}
-use Rattle.demands.specs.Demand1.{ofTheWhole, ofAHop, Place, whole, at-hop, OneOf, nought, listed, Refuses}
+use Rattle.demands.specs.Demand1.{ofTheWhole, ofAHop, Place, whole, at-hop, Refuses}
 use Rattle.demands.proofs.Chains.{or-right, all, numbersOf}
 
 -- ---- numbers

@@ -24,6 +24,7 @@ use Rattle.room.specs.Answers.{noNumber, aNumber, noDigits, someDigits, noSwitc
 use Rattle.room.proofs.DigitLaws.{address-padded}
 use Rattle.room.proofs.RefusalLaws.{server-of, pair-of, link-of, value-of}
 use Rattle.room.proofs.RoomLaws as rooms
+use Rattle.room.proofs.WiringLaws as wiring
 use Rattle.room.proofs.AnswerLaws.{digits-answered}
 use Rattle.demands.specs.Demand2.{weighed, AddressesExactly, DigitsExactly, DigitExactly, SwitchesExactly, SwitchesNumbered, NeighboursExactly, FourPlaces, TellsLevel, RoomAnswers}
 
@@ -51,7 +52,7 @@ pub switches-exactly : SwitchesExactly
 switches-exactly s l a b h g = rooms.switch-exactly h g
 
 pub switches-numbered : SwitchesNumbered
-switches-numbered s l v p = record { below = λ a h. rooms.switch-lt (record { server = h; level = p }); all = λ w q. let j = rooms.switch-all v p w q in (j .who, j .server, j .there) }
+switches-numbered s l v p = record { below = λ a h. rooms.switch-lt (record { server = h; level = p }); all = λ w q. let j = wiring.switch-all v p w q in (j .who, j .server, j .there) }
 
 pub neighbours-exactly : NeighboursExactly
 neighbours-exactly s a b l h g = rooms.neighbours-exactly h g l

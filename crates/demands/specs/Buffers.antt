@@ -6,22 +6,31 @@ use mathlib.Core.Logic.{_≢_}
 use mathlib.Core.List.{List, [], _∷_}
 use mathlib.Core.Bool.{cond}
 use lib.Dec.{eqb}
+use lib.ListN.{set}
 use Rattle.refusals.specs.declared.Refusal.{Refusal}
 use Rattle.refusals.specs.Refusals.{plain}
 use Rattle.room.specs.declared.Shape.{Shape}
+use Rattle.room.specs.Shapes.{fullRoom}
 use Rattle.room.specs.Refusals.{shapeRefusal}
 use Rattle.room.specs.Answers.{serversAnswer, boundAnswer, digitsAnswer, digitAnswer, addressAnswer, switchAnswer, neighbourAnswer, betweenAnswer}
+use Rattle.room.specs.Wiring.{switchesAnswer, serverAtAnswer}
+use Rattle.links.specs.Servers.{allBits, serverAnswer, markedServer, clearedServer}
 use Rattle.links.specs.Table.{marked, cleared}
 use Rattle.links.specs.Answers.{failedAnswer, linkAnswer, markedTable, clearedTable}
+use Rattle.path.specs.Bytes.{byteAnswer, partsAnswer}
 use Rattle.path.specs.Answers.{readAnswer, writeAnswer, reverseAnswer}
 use Rattle.verdict.specs.Checks.{checkAnswer}
 use Rattle.build.specs.Answers.{buildAnswer}
+use Rattle.laying.specs.Answers.{Lays}
 use Rattle.pick.specs.Places.{placeAnswer}
 use Rattle.step.specs.declared.Step.{Step}
 use Rattle.step.specs.Steps.{stepAnswer}
-use Rattle.step.specs.Packed.{packed, macNumber, unpacked, Bytes}
-use Rattle.driver.specs.Words.{word, refusalIn, valueIn, numberWord, digitsWord, digitsLeft, switchWord, betweenWord, askedWord, readingWord, readingLeft, writingWord, writingLeft, buildingWord, buildingLeft, placeWord}
+use Rattle.driver.specs.declared.Answer.{Answer}
+use Rattle.driver.specs.declared.Stepped.{Stepped}
+use Rattle.driver.specs.Rooms.{roomOf, shapeIn}
+use Rattle.driver.specs.Words.{word, refusalIn, valueIn, numberWord, digitsWord, digitsLeft, switchWord, betweenWord, askedWord, partsWord, readingWord, readingLeft, writingWord, writingLeft, buildingWord, buildingLeft, placeWord}
 use Rattle.driver.specs.Routes.{FoundWord, SelectedWord}
+use Rattle.driver.specs.Packed.{packed, unpacked, Bytes}
 
 -- ---- lent buffers
 
@@ -35,6 +44,11 @@ pub record EveryBuffer : Type 0 where
   -- marking and clearing: the table with the link marked, and cleared
   pub marked : (s : Shape) (t : List ℕ) (a l : ℕ) → Holds (linkAnswer s t a l .number) t (marked a l t) (markedTable s t a l)
   pub cleared : (s : Shape) (t : List ℕ) (a l : ℕ) → Holds (linkAnswer s t a l .number) t (cleared a l t) (clearedTable s t a l)
+  -- a whole server: its byte has the bits of all levels, and none
+  pub marked-server : (s : Shape) (t : List ℕ) (a : ℕ) → Holds (serverAnswer s t a .number) t (set t a (allBits (s .k))) (markedServer s t a)
+  pub cleared-server : (s : Shape) (t : List ℕ) (a : ℕ) → Holds (serverAnswer s t a .number) t (set t a 0) (clearedServer s t a)
+  -- laying a route: on a refusal t, as it was lent, is u, which is left; what is left else is `LaysExactly` in Calls
+  pub laid : (s : Shape) (t : List ℕ) (a d : ℕ) (bs : List ℕ) (r : Refusal) (u : List ℕ) → Lays s t a d bs r u → r .number ≢ 0 → u ≡ t
   -- the calls from C, by what their contracts say is left: four digits, nine servers, eight path bytes, four arrays
   pub digits : (s : Shape) (a : ℕ) (lent : List ℕ) → (let x = digitsAnswer s a in Holds (x .refusal .number) lent (x .places) (digitsLeft lent x))
   pub read : (s : Shape) (a d : ℕ) (bs lent : List ℕ) → (let x = readAnswer s a d bs in Holds (x .refusal .number) lent (x .servers) (readingLeft lent x))
@@ -42,27 +56,34 @@ pub record EveryBuffer : Type 0 where
   pub reversed : (s : Shape) (a d : ℕ) (bs lent : List ℕ) → (let x = reverseAnswer s a d bs in Holds (x .refusal .number) lent (x .bytes) (writingLeft lent x))
   pub build : (s : Shape) (a d : ℕ) (lent : List ℕ) → (let x = buildAnswer s a d in Holds (x .refusal .number) lent (x .routes .bytes) (buildingLeft lent x))
   -- w is the word that the call gives back, and the last list what it leaves
-  pub find : (s : Shape) (t : List ℕ) (a d w : ℕ) (lent path : List ℕ) (x : FoundWord s t a d w lent path) → Holds (refusalIn w .number) lent (x .answer .bytes) path
-  pub select : (s : Shape) (t : List ℕ) (a d w : ℕ) (lent routes : List ℕ) (x : SelectedWord s t a d w lent routes) → Holds (refusalIn w .number) lent (x .answer .routes .bytes) routes
+  pub find : (s : Shape) (t : List ℕ) (a d : ℕ) (w : Answer) (lent path : List ℕ) (x : FoundWord s t a d w lent path) → Holds (refusalIn w .number) lent (x .answer .bytes) path
+  pub select : (s : Shape) (t : List ℕ) (a d : ℕ) (w : Answer) (lent routes : List ℕ) (x : SelectedWord s t a d w lent routes) → Holds (refusalIn w .number) lent (x .answer .routes .bytes) routes
+
+-- ---- the rooms that the calls from C take
+
+-- a room of any two numbers is refused as they are, and where they are not refused, its shape is theirs
+pub record EveryRoom : Type 0 where
+  pub refused : (n k : ℕ) → shapeRefusal (shapeIn (roomOf n k)) ≡ shapeRefusal (fullRoom n k)
+  pub shape : (n k : ℕ) → shapeRefusal (fullRoom n k) ≡ 0 → shapeIn (roomOf n k) ≡ fullRoom n k
 
 -- ---- the words that the calls from C give back
 
 -- a driver reads this refusal and this number out of a word, and the byte between them is zero
-pub record Tells (w : ℕ) (r : Refusal) (v : ℕ) : Type 0 where
+pub record Tells (w : Answer) (r : Refusal) (v : ℕ) : Type 0 where
   pub refusal : refusalIn w ≡ r
   pub value : valueIn w ≡ v
-  pub between : w / 16777216 % 256 ≡ 0
+  pub between : w .word / 16777216 % 256 ≡ 0
 
 -- the two numbers of a step. The first, from its lowest byte: the refusal's number, its hop, 1 if delivered, the next index, the next server
 -- in two bytes, the OutPort, and nothing above. The second: the MAC, its first byte highest. The route is 1 where there is a hop.
-pub record TellsStep (p m : ℕ) (x : Step) : Type 0 where
-  pub number : p % 256 ≡ x .refusal .number
-  pub hop : p / 256 % 256 ≡ x .refusal .hop
-  pub delivered : p / 65536 % 256 ≡ cond (x .delivered) 1 0
-  pub index : p / 16777216 % 256 ≡ x .index
-  pub next : p / 4294967296 % 65536 ≡ x .next
-  pub port : p / 281474976710656 ≡ x .port
-  pub mac : m / 1099511627776 ∷ m / 4294967296 % 256 ∷ m / 16777216 % 256 ∷ m / 65536 % 256 ∷ m / 256 % 256 ∷ m % 256 ∷ [] ≡ x .mac
+pub record TellsStep (w : Stepped) (x : Step) : Type 0 where
+  pub number : w .word % 256 ≡ x .refusal .number
+  pub hop : w .word / 256 % 256 ≡ x .refusal .hop
+  pub delivered : w .word / 65536 % 256 ≡ cond (x .delivered) 1 0
+  pub index : w .word / 16777216 % 256 ≡ x .index
+  pub next : w .word / 4294967296 % 65536 ≡ x .next
+  pub port : w .word / 281474976710656 ≡ x .port
+  pub mac : w .mac / 1099511627776 ∷ w .mac / 4294967296 % 256 ∷ w .mac / 16777216 % 256 ∷ w .mac / 65536 % 256 ∷ w .mac / 256 % 256 ∷ w .mac % 256 ∷ [] ≡ x .mac
   pub route : x .refusal .route ≡ cond (eqb (x .refusal .hop) 0) 0 1
 
 -- the word of each call gives back the answer's refusal and number; the two numbers of a step, the whole step
@@ -70,6 +91,11 @@ pub record EveryWord : Type 0 where
   pub shape : (s : Shape) → Tells (word (plain (shapeRefusal s)) 0) (plain (shapeRefusal s)) 0
   pub servers : (s : Shape) → Tells (numberWord (serversAnswer s)) (serversAnswer s .refusal) (serversAnswer s .value)
   pub bounds : (s : Shape) (l : ℕ) → Tells (numberWord (boundAnswer s l)) (boundAnswer s l .refusal) (boundAnswer s l .value)
+  pub switches : (s : Shape) (l : ℕ) → Tells (numberWord (switchesAnswer s l)) (switchesAnswer s l .refusal) (switchesAnswer s l .value)
+  pub server-at : (s : Shape) (l w v : ℕ) → (let x = serverAtAnswer s l w v in Tells (numberWord x) (x .refusal) (x .value))
+  pub path-byte : (s : Shape) (l v : ℕ) → Tells (numberWord (byteAnswer s l v)) (byteAnswer s l v .refusal) (byteAnswer s l v .value)
+  pub path-byte-parts : (s : Shape) (b : ℕ) → (let x = partsAnswer s b in Tells (partsWord x) (x .refusal) (256 * x .level + x .value))
+  pub mark-or-clear-server : (s : Shape) (t : List ℕ) (a : ℕ) → Tells (word (serverAnswer s t a) 0) (serverAnswer s t a) 0
   pub digits : (s : Shape) (a : ℕ) → Tells (digitsWord (digitsAnswer s a)) (digitsAnswer s a .refusal) 0
   pub one-digit : (s : Shape) (a l : ℕ) → Tells (numberWord (digitAnswer s a l)) (digitAnswer s a l .refusal) (digitAnswer s a l .value)
   pub address : (s : Shape) (d0 d1 d2 d3 : ℕ) → (let x = addressAnswer s (d0 ∷ d1 ∷ d2 ∷ d3 ∷ []) in Tells (numberWord x) (x .refusal) (x .value))
@@ -83,7 +109,7 @@ pub record EveryWord : Type 0 where
   pub reversed : (s : Shape) (a d : ℕ) (bs : List ℕ) → Tells (writingWord (reverseAnswer s a d bs)) (reverseAnswer s a d bs .refusal) 0
   pub check : (s : Shape) (t : List ℕ) (a d : ℕ) (bs : List ℕ) → Tells (word (checkAnswer s t a d bs) 0) (checkAnswer s t a d bs) 0
   pub build : (s : Shape) (a d : ℕ) → Tells (buildingWord (buildAnswer s a d)) (buildAnswer s a d .refusal) (buildAnswer s a d .routes .count)
-  pub find : (s : Shape) (t : List ℕ) (a d w : ℕ) (lent path : List ℕ) (x : FoundWord s t a d w lent path) → Tells w (x .answer .refusal) (x .answer .hops)
-  pub select : (s : Shape) (t : List ℕ) (a d w : ℕ) (lent routes : List ℕ) (x : SelectedWord s t a d w lent routes) → Tells w (x .answer .refusal) (x .answer .routes .count)
+  pub find : (s : Shape) (t : List ℕ) (a d : ℕ) (w : Answer) (lent path : List ℕ) (x : FoundWord s t a d w lent path) → Tells w (x .answer .refusal) (x .answer .hops)
+  pub select : (s : Shape) (t : List ℕ) (a d : ℕ) (w : Answer) (lent routes : List ℕ) (x : SelectedWord s t a d w lent routes) → Tells w (x .answer .refusal) (x .answer .routes .count)
   pub pick : (s : Shape) (t : List ℕ) (a d : ℕ) (fs ks : List ℕ) → (let x = placeAnswer s t a d fs ks in Tells (placeWord x) (x .refusal) (256 * x .list + x .route))
-  pub step : (s : Shape) (a d i : ℕ) (bs e : List ℕ) → Bytes e → (let x = stepAnswer s a d i bs e in TellsStep (packed x) (macNumber (x .mac)) x × (unpacked (packed x) (macNumber (x .mac)) ≡ x))
+  pub step : (s : Shape) (a d i : ℕ) (bs e : List ℕ) → Bytes e → (let x = stepAnswer s a d i bs e in TellsStep (packed x) x × (unpacked (packed x) ≡ x))

@@ -1,4 +1,4 @@
--- Demand 1: every call takes every input: it answers, or refuses with document 01's number and place and nothing else, and every lent
+-- Demand 1: every call takes every input: it answers, or refuses with the rules' number and place and nothing else, and every lent
 -- buffer keeps its bytes. That a call may be made with every input is `EveryInput` in Uniqueness; here stands what it then answers, in
 -- Refusals exactly when it refuses, and in Buffers what it leaves of what it was lent.
 use Prim.Native.Nat.{ℕ, _/_, _≤_}
@@ -8,28 +8,32 @@ use mathlib.Core.List.{List, [], _∷_}
 use mathlib.Core.Bool.{Bool, true, false, _&&_, _||_}
 use lib.Dec.{leb, eqb}
 use lib.ListN.{length, replicate}
-use Rattle.lists.specs.Lists.{isIn}
 use Rattle.refusals.specs.declared.Refusal.{Refusal}
-use Rattle.refusals.specs.Refusals.{plain, refusedAt}
+use Rattle.refusals.specs.Refusals.{plain, refusedAt, OneOf}
 use Rattle.room.specs.declared.Shape.{Shape}
 use Rattle.room.specs.declared.Number.{Number}
 use Rattle.room.specs.declared.Digits.{Digits}
 use Rattle.room.specs.declared.Switch.{Switch}
 use Rattle.room.specs.declared.Between.{Between}
-use Rattle.room.specs.Refusals.{shapeRefusal, serverRefusal, linkRefusal, endsRefusal}
+use Rattle.room.specs.Refusals.{shapeRefusal, serverRefusal, pairRefusal, endsRefusal, linkRefusal}
 use Rattle.room.specs.Answers.{serversAnswer, boundAnswer, digitsAnswer, digitAnswer, addressAnswer, switchAnswer, neighbourAnswer, betweenAnswer}
+use Rattle.room.specs.Wiring.{switchesAnswer, serverAtAnswer}
 use Rattle.links.specs.declared.Asked.{Asked}
-use Rattle.links.specs.Table.{roomTableRefusal}
+use Rattle.links.specs.Servers.{serverAnswer}
+use Rattle.links.specs.Table.{roomTableRefusal, roomRefusal}
 use Rattle.links.specs.Answers.{failedAnswer, linkAnswer}
 use Rattle.path.specs.declared.Hop.{Hop}
+use Rattle.path.specs.declared.Parts.{Parts}
 use Rattle.path.specs.declared.Walked.{Walked}
 use Rattle.path.specs.declared.Reading.{Reading}
 use Rattle.path.specs.declared.Writing.{Writing}
+use Rattle.path.specs.Bytes.{byteAnswer, partsAnswer}
 use Rattle.path.specs.Answers.{hopAnswer, walkAnswer, readAnswer, writeAnswer, reverseAnswer}
 use Rattle.verdict.specs.Checks.{checkAnswer}
 use Rattle.build.specs.declared.Building.{Building}
 use Rattle.build.specs.Sets.{emptySet}
 use Rattle.build.specs.Answers.{buildAnswer}
+use Rattle.laying.specs.Answers.{Lays}
 use Rattle.finder.specs.declared.Found.{Found}
 use Rattle.finder.specs.Answers.{Finding}
 use Rattle.select.specs.declared.Selection.{Selection}
@@ -50,7 +54,7 @@ ofTheWhole r = leb r 7 || ((leb 16 r && leb r 18) || (leb 20 r && leb r 22))
 abbrev pub ofAHop : ℕ → Bool
 ofAHop r = (leb 8 r && leb r 12) || (eqb r 14 || (eqb r 19 || eqb r 23))
 
--- the form of a refusal of m routes, by document 01: routes and hops count from 1; both are zero for a refusal of the whole; for 13 the
+-- the form of a refusal of m routes, by rule 8.3: routes and hops count from 1; both are zero for a refusal of the whole; for 13 the
 -- hop is 8; for 15 the hop is zero. Which number is given, and at which route and hop, is said exactly in Refusals.
 pub data Place (m : ℕ) : Refusal → Type 0 where
   whole : {r : ℕ} → ofTheWhole r ≡ true → Place m (plain r)
@@ -60,12 +64,7 @@ pub data Place (m : ℕ) : Refusal → Type 0 where
 
 -- ---- an answer, or a refusal and nothing else
 
--- no refusal, or one of these numbers
-pub data OneOf (numbers : List ℕ) (r : ℕ) : Type 0 where
-  nought : r ≡ 0 → OneOf numbers r
-  listed : isIn r numbers ≡ true → OneOf numbers r
-
--- an answer over m routes, which holds a refusal: its number is one of these, its place has document 01's form, and where it is not 0
+-- an answer over m routes, which holds a refusal: its number is one of these, its place has the rules' form, and where it is not 0
 -- all the rest of the answer is zero; `bare` is the answer that holds a refusal and zeros
 pub record Refuses {X : Type 0} (refusal : X → Refusal) (bare : Refusal → X) (m : ℕ) (numbers : List ℕ) (x : X) : Type 0 where
   pub number : OneOf numbers (refusal x .number)
@@ -90,7 +89,10 @@ BetweenOf = Refuses (λ x. x .refusal) (λ r. record { refusal = r; adjacent = f
 abbrev pub AskedOf : List ℕ → Asked → Type 0
 AskedOf = Refuses (λ x. x .refusal) (λ r. record { refusal = r; failed = false }) 0
 
--- a single array is route 1
+-- a single byte and a single array are route 1
+abbrev pub PartsOf : List ℕ → Parts → Type 0
+PartsOf = Refuses (λ x. x .refusal) (λ r. record { refusal = r; level = 0; value = 0 }) 1
+
 abbrev pub WalkedOf : List ℕ → Walked → Type 0
 WalkedOf = Refuses (λ x. x .refusal) (λ r. record { refusal = r; count = 0; servers = replicate 9 0; switches = replicate 8 0 }) 1
 
@@ -127,6 +129,8 @@ pub record EveryCall : Type 0 where
   -- room
   pub shape-refusal : (s : Shape) → OneOf (1 ∷ 2 ∷ 3 ∷ []) (shapeRefusal s)
   pub server-refusal : (s : Shape) (a : ℕ) → OneOf (1 ∷ 2 ∷ 3 ∷ 4 ∷ []) (serverRefusal s a)
+  pub pair-refusal : (s : Shape) (a b : ℕ) → OneOf (1 ∷ 2 ∷ 3 ∷ 4 ∷ []) (pairRefusal s a b)
+  pub ends-refusal : (s : Shape) (a d : ℕ) → OneOf (1 ∷ 2 ∷ 3 ∷ 4 ∷ 5 ∷ []) (endsRefusal s a d)
   pub link-refusal : (s : Shape) (a l : ℕ) → OneOf (1 ∷ 2 ∷ 3 ∷ 4 ∷ 20 ∷ []) (linkRefusal s a l)
   pub servers-of : (s : Shape) → NumberOf (1 ∷ 2 ∷ 3 ∷ []) (serversAnswer s)
   pub bound-of : (s : Shape) (l : ℕ) → NumberOf (1 ∷ 2 ∷ 3 ∷ 20 ∷ []) (boundAnswer s l)
@@ -136,12 +140,17 @@ pub record EveryCall : Type 0 where
   pub switch-of : (s : Shape) (a l : ℕ) → SwitchOf (1 ∷ 2 ∷ 3 ∷ 4 ∷ 20 ∷ []) (switchAnswer s a l)
   pub neighbour-of : (s : Shape) (a l v : ℕ) → NumberOf (1 ∷ 2 ∷ 3 ∷ 4 ∷ 20 ∷ 21 ∷ []) (neighbourAnswer s a l v)
   pub level-between : (s : Shape) (a b : ℕ) → BetweenOf (1 ∷ 2 ∷ 3 ∷ 4 ∷ []) (betweenAnswer s a b)
+  pub switches-of : (s : Shape) (l : ℕ) → NumberOf (1 ∷ 2 ∷ 3 ∷ 20 ∷ []) (switchesAnswer s l)
+  pub server-at : (s : Shape) (l w v : ℕ) → NumberOf (1 ∷ 2 ∷ 3 ∷ 20 ∷ 21 ∷ []) (serverAtAnswer s l w v)
   -- links
   pub table-refusal : (s : Shape) (t : List ℕ) → OneOf (1 ∷ 2 ∷ 3 ∷ 6 ∷ []) (roomTableRefusal s t)
+  pub room-refusal : (s : Shape) (t : List ℕ) (a d : ℕ) → OneOf (1 ∷ 2 ∷ 3 ∷ 4 ∷ 5 ∷ 6 ∷ []) (roomRefusal s t a d)
   pub failed-link : (s : Shape) (t : List ℕ) (a l : ℕ) → AskedOf (1 ∷ 2 ∷ 3 ∷ 4 ∷ 20 ∷ 6 ∷ []) (failedAnswer s t a l)
   pub mark-or-clear : (s : Shape) (t : List ℕ) (a l : ℕ) → RefusalOf 0 (1 ∷ 2 ∷ 3 ∷ 4 ∷ 20 ∷ 6 ∷ []) (linkAnswer s t a l)
+  pub mark-or-clear-server : (s : Shape) (t : List ℕ) (a : ℕ) → RefusalOf 0 (1 ∷ 2 ∷ 3 ∷ 4 ∷ 6 ∷ []) (serverAnswer s t a)
   -- path
-  pub ends-refusal : (s : Shape) (a d : ℕ) → OneOf (1 ∷ 2 ∷ 3 ∷ 4 ∷ 5 ∷ []) (endsRefusal s a d)
+  pub byte-of : (s : Shape) (l v : ℕ) → NumberOf (1 ∷ 2 ∷ 3 ∷ 20 ∷ 21 ∷ []) (byteAnswer s l v)
+  pub parts-of : (s : Shape) (b : ℕ) → PartsOf (1 ∷ 2 ∷ 3 ∷ 8 ∷ 9 ∷ []) (partsAnswer s b)
   pub hop-of : (s : Shape) (a b : ℕ) → HopOf (1 ∷ 2 ∷ 3 ∷ 4 ∷ 8 ∷ 9 ∷ 10 ∷ []) (hopAnswer s a b)
   pub walk : (s : Shape) (t : List ℕ) (a d : ℕ) (bs : List ℕ) → WalkedOf (1 ∷ 2 ∷ 3 ∷ 4 ∷ 5 ∷ 7 ∷ 8 ∷ 9 ∷ 10 ∷ 11 ∷ 12 ∷ 13 ∷ 14 ∷ []) (walkAnswer s t a d bs)
   pub read-path : (s : Shape) (a d : ℕ) (bs : List ℕ) → ReadingOf (1 ∷ 2 ∷ 3 ∷ 4 ∷ 5 ∷ 7 ∷ 8 ∷ 9 ∷ 10 ∷ 12 ∷ 13 ∷ 14 ∷ []) (readAnswer s a d bs)
@@ -150,8 +159,10 @@ pub record EveryCall : Type 0 where
   -- verdict: the routes are the arrays of the list
   pub check-list : (s : Shape) (t : List ℕ) (a d : ℕ) (bs : List ℕ)
       → RefusalOf (length bs / 8) (1 ∷ 2 ∷ 3 ∷ 4 ∷ 5 ∷ 6 ∷ 7 ∷ 8 ∷ 9 ∷ 10 ∷ 11 ∷ 12 ∷ 13 ∷ 14 ∷ 15 ∷ []) (checkAnswer s t a d bs)
-  -- build, finder, select
+  -- build, laying, finder, select
   pub build-routes : (s : Shape) (a d : ℕ) → BuildingOf (1 ∷ 2 ∷ 3 ∷ 4 ∷ 5 ∷ []) (buildAnswer s a d)
+  pub lay-route : (s : Shape) (t : List ℕ) (a d : ℕ) (bs : List ℕ) (r : Refusal) (u : List ℕ)
+      → Lays s t a d bs r u → RefusalOf 1 (1 ∷ 2 ∷ 3 ∷ 4 ∷ 5 ∷ 6 ∷ 7 ∷ 8 ∷ 9 ∷ 10 ∷ 12 ∷ 13 ∷ 14 ∷ []) r
   pub find-route : (s : Shape) (t : List ℕ) (a d : ℕ) (x : Found) → Finding s t a d x → FoundOf (1 ∷ 2 ∷ 3 ∷ 4 ∷ 5 ∷ 6 ∷ []) x
   pub select-routes : (s : Shape) (t : List ℕ) (a d : ℕ) (x : Selection) → Selecting s t a d x → SelectionOf (1 ∷ 2 ∷ 3 ∷ 4 ∷ 5 ∷ 6 ∷ 16 ∷ []) x
   -- pick: the number through the companion, and on a refusal the part is empty

@@ -1,6 +1,6 @@
 -- Demand 2: addresses, switches, built routes and path bytes are the paper's; servers to bytes and bytes to servers undo each other; a
 -- broken route gives way to the alternate where one exists; "no route" is said exactly when there is none; marking, clearing and one
--- step change what document 01 says.
+-- step change what the rules say.
 use Prim.Native.Nat.{ℕ, suc, _+_, _-_, _*_, _/_, _%_, _^_, _≤_, _<_}
 use mathlib.Core.Path.{_≡_}
 use mathlib.Core.Logic.{_↔_, _≢_, _⊎_}
@@ -261,7 +261,7 @@ pub record Selected (s : Shape) (t : List ℕ) (a d : ℕ) (r : Selection) : Typ
   pub slots : Slots s t a d routes
   pub written : r .routes ≡ setOf (map (encode s) routes)
 
--- a built route that is broken gives way to document 01's alternate where one exists
+-- a built route that is broken gives way to the alternate of rule 5.1 where one exists
 abbrev pub BrokenGivesWay : Type 0
 BrokenGivesWay = (s : Shape) (t : List ℕ) (a d : ℕ) (r : Selection) → Selecting s t a d r → r .refusal .number ≡ 0 → Selected s t a d r
 

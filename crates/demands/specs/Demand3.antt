@@ -18,8 +18,8 @@ use Rattle.build.specs.Answers.{buildAnswer}
 use Rattle.select.specs.declared.Selection.{Selection}
 use Rattle.select.specs.Selection.{Selecting}
 use Rattle.step.specs.Steps.{macAt, portAt, delivery}
-use Rattle.step.specs.Packed.{Bytes}
 use Rattle.step.specs.Delivery.{Tables, stepAfter}
+use Rattle.driver.specs.Packed.{Bytes}
 
 -- a list is accepted exactly when the table is one of the room, and the list is 1 to k + 1 arrays, each the encoding of a route
 -- from source to destination over live links, every two of them parallel

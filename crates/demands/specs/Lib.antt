@@ -7,3 +7,5 @@ pub mod Demand3
 pub mod ProvedTable
 pub mod TieRows
 pub mod Uniqueness
+pub mod Calls
+pub mod Helpers

@@ -1,4 +1,4 @@
--- The proved table: the starred rows of document 01's "Numbers worked by hand", as one claim.
+-- The proved table: the starred rows of the numbers worked by hand (rules, section 10), as one claim.
 use Prim.Native.Nat.{ℕ, _-_}
 use Prim.Native.Char.{code}
 use Prim.Native.String.{String, [] as empty, _∷_ as _then_}

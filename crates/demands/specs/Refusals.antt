@@ -1,5 +1,5 @@
 -- Demand 1: a number only where it applies, and at its place. For each call, exactly which refusal it gives: that of the first test that
--- fails, in document 01's order. What a chain of tests means is in Tests.
+-- fails, in the rules' order. What a chain of tests means is in Tests.
 use Prim.Native.Nat.{ℕ, suc, _+_, _-_, _*_, _/_, _%_, _≤_, _<_}
 use mathlib.Core.Path.{_≡_}
 use mathlib.Core.Logic.{_≢_, _↔_, _⊎_}
@@ -11,17 +11,21 @@ use Rattle.refusals.specs.declared.Refusal.{Refusal}
 use Rattle.refusals.specs.Refusals.{none, plain, refusedAt}
 use Rattle.room.specs.declared.Shape.{Shape}
 use Rattle.room.specs.Shapes.{serversOf, bound}
-use Rattle.room.specs.Addresses.{digit, Neighbours}
-use Rattle.room.specs.Refusals.{shapeRefusal, serverRefusal, linkRefusal, endsRefusal}
+use Rattle.room.specs.Addresses.{digit, switchesAt, Neighbours}
+use Rattle.room.specs.Refusals.{shapeRefusal, serverRefusal, pairRefusal, endsRefusal, linkRefusal}
 use Rattle.room.specs.Answers.{serversAnswer, boundAnswer, digitsAnswer, digitAnswer, addressAnswer, switchAnswer, neighbourAnswer, betweenAnswer}
-use Rattle.links.specs.Table.{failed, roomTableRefusal, TableOf}
+use Rattle.room.specs.Wiring.{switchesAnswer, serverAtAnswer}
+use Rattle.links.specs.Servers.{serverAnswer}
+use Rattle.links.specs.Table.{failed, roomTableRefusal, TableOf, roomRefusal}
 use Rattle.links.specs.Answers.{failedAnswer, linkAnswer}
+use Rattle.path.specs.Bytes.{byteAnswer, partsAnswer}
 use Rattle.path.specs.Routes.{byteTo, switchAt, switchTo, switchesOf, Route, Prefix, RouteTo, Parallel, Encodes, levelOf, valueOf}
 use Rattle.path.specs.Walks.{hopTo}
 use Rattle.path.specs.Answers.{hopAnswer, walkAnswer, readAnswer, writeAnswer, reverseAnswer}
 use Rattle.verdict.specs.Checks.{checkAnswer}
 use Rattle.verdict.specs.Accepted.{Accepted}
 use Rattle.build.specs.Answers.{buildAnswer}
+use Rattle.laying.specs.Answers.{Lays}
 use Rattle.finder.specs.declared.Found.{Found}
 use Rattle.finder.specs.Answers.{Finding}
 use Rattle.select.specs.declared.Selection.{Selection}
@@ -59,6 +63,18 @@ pub record Fits (s : Shape) (ds : List ℕ) : Type 0 where
 abbrev pub placesTests : Shape → List ℕ → Tests
 placesTests s ds = shapeTests s then (21, Fits s ds)
 
+-- a port of a switch of a level
+abbrev pub portTests : Shape → ℕ → ℕ → ℕ → Tests
+portTests s l w v = levelTests s l then (21, (w < switchesAt s l) × (v < bound s l))
+
+-- a level and a value, of which a path byte is made
+abbrev pub madeTests : Shape → ℕ → ℕ → Tests
+madeTests s l v = levelTests s l then (21, v < bound s l)
+
+-- a number that is taken for a path byte
+abbrev pub partsTests : Shape → ℕ → Tests
+partsTests s b = (8, levelOf b ≤ s .k) ∷ (9, valueOf b < bound s (levelOf b)) ∷ []
+
 -- ---- tables, ends, lists
 
 abbrev pub tableTests : Shape → List ℕ → Tests
@@ -66,6 +82,9 @@ tableTests s t = shapeTests s then (6, TableOf s t)
 
 abbrev pub tableLinkTests : Shape → List ℕ → ℕ → ℕ → Tests
 tableLinkTests s t a l = linkTests s a l then (6, TableOf s t)
+
+abbrev pub tableServerTests : Shape → List ℕ → ℕ → Tests
+tableServerTests s t a = serverTests s a then (6, TableOf s t)
 
 -- source and destination
 abbrev pub endsTests : Shape → ℕ → ℕ → Tests
@@ -78,6 +97,10 @@ roomTests s t a d = endsTests s a d then (6, TableOf s t)
 -- and one array
 abbrev pub arrayTests : Shape → ℕ → ℕ → List ℕ → Tests
 arrayTests s a d bs = endsTests s a d then (7, length bs ≡ 8)
+
+-- and a table too
+abbrev pub layTests : Shape → List ℕ → ℕ → ℕ → List ℕ → Tests
+layTests s t a d bs = roomTests s t a d then (7, length bs ≡ 8)
 
 -- a list is whole arrays, at most k + 1 of them
 abbrev pub Arrays : Shape → List ℕ → Type 0
@@ -241,6 +264,8 @@ pub record RefusedExactly : Type 0 where
   -- room
   pub shape-refusal : (s : Shape) → Exactly (shapeRefusal s) (Number (shapeTests s))
   pub server-refusal : (s : Shape) (a : ℕ) → Exactly (serverRefusal s a) (Number (serverTests s a))
+  pub pair-refusal : (s : Shape) (a b : ℕ) → Exactly (pairRefusal s a b) (Number (pairTests s a b))
+  pub ends-refusal : (s : Shape) (a d : ℕ) → Exactly (endsRefusal s a d) (Number (endsTests s a d))
   pub link-refusal : (s : Shape) (a l : ℕ) → Exactly (linkRefusal s a l) (Number (linkTests s a l))
   pub servers-of : (s : Shape) → Exactly (serversAnswer s .refusal) (Whole (shapeTests s))
   pub bound-of : (s : Shape) (l : ℕ) → Exactly (boundAnswer s l .refusal) (Whole (levelTests s l))
@@ -250,12 +275,17 @@ pub record RefusedExactly : Type 0 where
   pub switch-of : (s : Shape) (a l : ℕ) → Exactly (switchAnswer s a l .refusal) (Whole (linkTests s a l))
   pub neighbour-of : (s : Shape) (a l v : ℕ) → Exactly (neighbourAnswer s a l v .refusal) (Whole (valueTests s a l v))
   pub level-between : (s : Shape) (a b : ℕ) → Exactly (betweenAnswer s a b .refusal) (Whole (pairTests s a b))
+  pub switches-of : (s : Shape) (l : ℕ) → Exactly (switchesAnswer s l .refusal) (Whole (levelTests s l))
+  pub server-at : (s : Shape) (l w v : ℕ) → Exactly (serverAtAnswer s l w v .refusal) (Whole (portTests s l w v))
   -- links
   pub table-refusal : (s : Shape) (t : List ℕ) → Exactly (roomTableRefusal s t) (Number (tableTests s t))
+  pub room-refusal : (s : Shape) (t : List ℕ) (a d : ℕ) → Exactly (roomRefusal s t a d) (Number (roomTests s t a d))
   pub failed-link : (s : Shape) (t : List ℕ) (a l : ℕ) → Exactly (failedAnswer s t a l .refusal) (Whole (tableLinkTests s t a l))
   pub mark-or-clear : (s : Shape) (t : List ℕ) (a l : ℕ) → Exactly (linkAnswer s t a l) (Whole (tableLinkTests s t a l))
-  -- path: plain reading and reversal are over the table with no bytes, in which no link is failed
-  pub ends-refusal : (s : Shape) (a d : ℕ) → Exactly (endsRefusal s a d) (Number (endsTests s a d))
+  pub mark-or-clear-server : (s : Shape) (t : List ℕ) (a : ℕ) → Exactly (serverAnswer s t a) (Whole (tableServerTests s t a))
+  -- path: a byte alone is hop 1 of route 1; plain reading and reversal are over the table with no bytes, in which no link is failed
+  pub byte-of : (s : Shape) (l v : ℕ) → Exactly (byteAnswer s l v .refusal) (Whole (madeTests s l v))
+  pub parts-of : (s : Shape) (b : ℕ) → Exactly (partsAnswer s b .refusal) (Refused plain (shapeTests s) (Refused (λ n. refusedAt n 1 1) (partsTests s b) (λ r. r ≡ none)))
   pub hop-of : (s : Shape) (a b : ℕ) → Exactly (hopAnswer s a b .number) (Number (serverTests s a ++ hopTests s a b))
   pub walk : (s : Shape) (t : List ℕ) (a d : ℕ) (bs : List ℕ) → Exactly (walkAnswer s t a d bs .refusal) (Refused plain (arrayTests s a d bs) (Reads s t a d bs))
   pub read-path : (s : Shape) (a d : ℕ) (bs : List ℕ) → Exactly (readAnswer s a d bs .refusal) (Refused plain (arrayTests s a d bs) (Reads s [] a d bs))
@@ -263,8 +293,9 @@ pub record RefusedExactly : Type 0 where
   pub write-path : (s : Shape) (vs : List ℕ) → Exactly (writeAnswer s vs .refusal) (Refused plain (serversTests s vs) (Writes s vs))
   -- verdict
   pub check-list : (s : Shape) (t : List ℕ) (a d : ℕ) (bs : List ℕ) → Exactly (checkAnswer s t a d bs) (Refused plain (checkTests s t a d bs) (Checks s t a d bs))
-  -- build, finder, select
+  -- build, laying, finder, select
   pub build-routes : (s : Shape) (a d : ℕ) → Exactly (buildAnswer s a d .refusal) (Whole (endsTests s a d))
+  pub lay-route : (s : Shape) (t : List ℕ) (a d : ℕ) (bs : List ℕ) (r : Refusal) (u : List ℕ) → Lays s t a d bs r u → Exactly r (Refused plain (layTests s t a d bs) (Reads s [] a d bs))
   pub find-route : (s : Shape) (t : List ℕ) (a d : ℕ) (x : Found) → Finding s t a d x → Exactly (x .refusal) (Whole (roomTests s t a d))
   pub select-routes : (s : Shape) (t : List ℕ) (a d : ℕ) (x : Selection) → Selecting s t a d x → Exactly (x .refusal) (Whole (selectTests s t a d))
   -- pick

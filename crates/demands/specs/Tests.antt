@@ -1,4 +1,4 @@
--- Chains of tests, in document 01's order: the first that fails gives its number, and the others are not asked.
+-- Chains of tests, in the rules' order: the first that fails gives its number, and the others are not asked.
 use Prim.Native.Nat.{ℕ}
 use mathlib.Core.Path.{_≡_}
 use mathlib.Core.Logic.{_≢_, _↔_, _⊎_}

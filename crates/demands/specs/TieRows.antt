@@ -1,5 +1,5 @@
 -- Rows in which the tie rule decides: of routes with as few hops, hop by hop from the source, the higher level comes first, then the
--- lower value. No worked number of document 01 tells this from other rules; these rows do.
+-- lower value. No number worked by hand tells this from other rules; these rows do.
 use Prim.Native.Nat.{ℕ}
 use mathlib.Core.Path.{_≡_}
 use mathlib.Core.Logic.{_↔_}

@@ -52,6 +52,10 @@ use Rattle.room.proofs.level_between.Reads as level-between-reads
 use Rattle.room.proofs.level_between.Kinds as level-between-kinds
 use Rattle.room.proofs.ends_refusal.Reads as ends-refusal-reads
 use Rattle.room.proofs.ends_refusal.Kinds as ends-refusal-kinds
+use Rattle.room.proofs.switches_of.Reads as switches-of-reads
+use Rattle.room.proofs.switches_of.Kinds as switches-of-kinds
+use Rattle.room.proofs.server_at.Reads as server-at-reads
+use Rattle.room.proofs.server_at.Kinds as server-at-kinds
 use Rattle.links.proofs.failed_link.Reads as failed-link-reads
 use Rattle.links.proofs.failed_link.Kinds as failed-link-kinds
 use Rattle.links.proofs.mark_link.Reads as mark-link-reads
@@ -68,6 +72,10 @@ use Rattle.links.proofs.table_refusal.Reads as table-refusal-reads
 use Rattle.links.proofs.table_refusal.Kinds as table-refusal-kinds
 use Rattle.links.proofs.room_refusal.Reads as room-refusal-reads
 use Rattle.links.proofs.room_refusal.Kinds as room-refusal-kinds
+use Rattle.links.proofs.mark_server.Reads as mark-server-reads
+use Rattle.links.proofs.mark_server.Kinds as mark-server-kinds
+use Rattle.links.proofs.clear_server.Reads as clear-server-reads
+use Rattle.links.proofs.clear_server.Kinds as clear-server-kinds
 use Rattle.path.proofs.hop_of.Reads as hop-of-reads
 use Rattle.path.proofs.hop_of.Kinds as hop-of-kinds
 use Rattle.path.proofs.level_of.Reads as level-of-reads
@@ -84,6 +92,10 @@ use Rattle.path.proofs.write_path.Reads as write-path-reads
 use Rattle.path.proofs.write_path.Kinds as write-path-kinds
 use Rattle.path.proofs.reverse_path.Reads as reverse-path-reads
 use Rattle.path.proofs.reverse_path.Kinds as reverse-path-kinds
+use Rattle.path.proofs.byte_of.Reads as byte-of-reads
+use Rattle.path.proofs.byte_of.Kinds as byte-of-kinds
+use Rattle.path.proofs.parts_of.Reads as parts-of-reads
+use Rattle.path.proofs.parts_of.Kinds as parts-of-kinds
 use Rattle.verdict.proofs.check_list.Reads as check-list-reads
 use Rattle.verdict.proofs.check_list.Kinds as check-list-kinds
 use Rattle.build.proofs.RouteSet.new.Reads as route-set-new-reads
@@ -106,14 +118,26 @@ use Rattle.pick.proofs.pick_refusal.Reads as pick-refusal-reads
 use Rattle.pick.proofs.pick_refusal.Kinds as pick-refusal-kinds
 use Rattle.step.proofs.step_once.Reads as step-once-reads
 use Rattle.step.proofs.step_once.Kinds as step-once-kinds
-use Rattle.step.proofs.bcube_step.Reads as bcube-step-reads
-use Rattle.step.proofs.bcube_step.Kinds as bcube-step-kinds
-use Rattle.step.proofs.bcube_step_mac.Reads as bcube-step-mac-reads
-use Rattle.step.proofs.bcube_step_mac.Kinds as bcube-step-mac-kinds
 use Rattle.desk_line.proofs.question_of.Reads as question-of-reads
 use Rattle.desk_line.proofs.question_of.Kinds as question-of-kinds
 use Rattle.desk_line.proofs.answer_line.Reads as answer-line-reads
 use Rattle.desk_line.proofs.answer_line.Kinds as answer-line-kinds
+use Rattle.driver.proofs.bcube_version.Reads as c-version-reads
+use Rattle.driver.proofs.bcube_version.Kinds as c-version-kinds
+use Rattle.driver.proofs.bcube_switches.Reads as c-switches-reads
+use Rattle.driver.proofs.bcube_switches.Kinds as c-switches-kinds
+use Rattle.driver.proofs.bcube_server_at.Reads as c-server-at-reads
+use Rattle.driver.proofs.bcube_server_at.Kinds as c-server-at-kinds
+use Rattle.driver.proofs.bcube_mark_server.Reads as c-mark-server-reads
+use Rattle.driver.proofs.bcube_mark_server.Kinds as c-mark-server-kinds
+use Rattle.driver.proofs.bcube_clear_server.Reads as c-clear-server-reads
+use Rattle.driver.proofs.bcube_clear_server.Kinds as c-clear-server-kinds
+use Rattle.driver.proofs.bcube_path_byte.Reads as c-path-byte-reads
+use Rattle.driver.proofs.bcube_path_byte.Kinds as c-path-byte-kinds
+use Rattle.driver.proofs.bcube_path_byte_parts.Reads as c-path-byte-parts-reads
+use Rattle.driver.proofs.bcube_path_byte_parts.Kinds as c-path-byte-parts-kinds
+use Rattle.driver.proofs.bcube_room_of.Reads as c-room-of-reads
+use Rattle.driver.proofs.bcube_room_of.Kinds as c-room-of-kinds
 use Rattle.driver.proofs.bcube_shape.Reads as c-shape-reads
 use Rattle.driver.proofs.bcube_shape.Kinds as c-shape-kinds
 use Rattle.driver.proofs.bcube_servers.Reads as c-servers-reads
@@ -156,8 +180,6 @@ use Rattle.driver.proofs.bcube_pick.Reads as c-pick-reads
 use Rattle.driver.proofs.bcube_pick.Kinds as c-pick-kinds
 use Rattle.driver.proofs.bcube_step.Reads as c-step-reads
 use Rattle.driver.proofs.bcube_step.Kinds as c-step-kinds
-use Rattle.driver.proofs.bcube_step_mac.Reads as c-step-mac-reads
-use Rattle.driver.proofs.bcube_step_mac.Kinds as c-step-mac-kinds
 
 -- ---- every input is taken: what a function may assume of its arguments holds of all of them
 
@@ -187,6 +209,8 @@ pub record EveryInput : Type 0 where
   pub side-of : Takes 0 side-of-kinds.ps side-of-reads.Pre
   pub neighbour-of : Takes 0 neighbour-of-kinds.ps neighbour-of-reads.Pre
   pub level-between : Takes 0 level-between-kinds.ps level-between-reads.Pre
+  pub switches-of : Takes 0 switches-of-kinds.ps switches-of-reads.Pre
+  pub server-at : Takes 0 server-at-kinds.ps server-at-reads.Pre
   -- links
   pub failed-link : Takes 1 failed-link-kinds.ps failed-link-reads.Pre
   pub mark-link : Takes 1 mark-link-kinds.ps mark-link-reads.Pre
@@ -196,7 +220,11 @@ pub record EveryInput : Type 0 where
   pub is-live : Takes 1 is-live-kinds.ps is-live-reads.Pre
   pub table-refusal : Takes 1 table-refusal-kinds.ps table-refusal-reads.Pre
   pub room-refusal : Takes 1 room-refusal-kinds.ps room-refusal-reads.Pre
+  pub mark-server : Takes 1 mark-server-kinds.ps mark-server-reads.Pre
+  pub clear-server : Takes 1 clear-server-kinds.ps clear-server-reads.Pre
   -- path
+  pub byte-of : Takes 0 byte-of-kinds.ps byte-of-reads.Pre
+  pub parts-of : Takes 0 parts-of-kinds.ps parts-of-reads.Pre
   pub hop-of : Takes 0 hop-of-kinds.ps hop-of-reads.Pre
   pub level-of : Takes 0 level-of-kinds.ps level-of-reads.Pre
   pub value-of : Takes 0 value-of-kinds.ps value-of-reads.Pre
@@ -224,12 +252,18 @@ pub record EveryInput : Type 0 where
   pub pick-refusal : Takes 3 pick-refusal-kinds.ps pick-refusal-reads.Pre
   -- step
   pub step-once : Takes 2 step-once-kinds.ps step-once-reads.Pre
-  pub bcube-step : Takes 2 bcube-step-kinds.ps bcube-step-reads.Pre
-  pub bcube-step-mac : Takes 2 bcube-step-mac-kinds.ps bcube-step-mac-reads.Pre
   -- desk_line
   pub question-of : Takes 1 question-of-kinds.ps question-of-reads.Pre
   pub answer-line : Takes 1 answer-line-kinds.ps answer-line-reads.Pre
-  -- driver: what C calls as bcube_shape, and so on
+  -- driver: what C calls as bcube_room_of, and so on
+  pub c-version : Takes 0 c-version-kinds.ps c-version-reads.Pre
+  pub c-switches : Takes 0 c-switches-kinds.ps c-switches-reads.Pre
+  pub c-server-at : Takes 0 c-server-at-kinds.ps c-server-at-reads.Pre
+  pub c-mark-server : Takes 1 c-mark-server-kinds.ps c-mark-server-reads.Pre
+  pub c-clear-server : Takes 1 c-clear-server-kinds.ps c-clear-server-reads.Pre
+  pub c-path-byte : Takes 0 c-path-byte-kinds.ps c-path-byte-reads.Pre
+  pub c-path-byte-parts : Takes 0 c-path-byte-parts-kinds.ps c-path-byte-parts-reads.Pre
+  pub c-room-of : Takes 0 c-room-of-kinds.ps c-room-of-reads.Pre
   pub c-shape : Takes 0 c-shape-kinds.ps c-shape-reads.Pre
   pub c-servers : Takes 0 c-servers-kinds.ps c-servers-reads.Pre
   pub c-bound : Takes 0 c-bound-kinds.ps c-bound-reads.Pre
@@ -251,7 +285,6 @@ pub record EveryInput : Type 0 where
   pub c-select : Takes 2 c-select-kinds.ps c-select-reads.Pre
   pub c-pick : Takes 3 c-pick-kinds.ps c-pick-reads.Pre
   pub c-step : Takes 2 c-step-kinds.ps c-step-reads.Pre
-  pub c-step-mac : Takes 2 c-step-mac-kinds.ps c-step-mac-reads.Pre
 
 -- ---- the answer is determined: two results that a contract allows at the same arguments are equal, which is `Determined`
 
@@ -278,6 +311,8 @@ pub record Uniqueness : Type 0 where
   pub side-of : Determined 0 side-of-kinds.ps side-of-kinds.r side-of-reads.Post
   pub neighbour-of : Determined 0 neighbour-of-kinds.ps neighbour-of-kinds.r neighbour-of-reads.Post
   pub level-between : Determined 0 level-between-kinds.ps level-between-kinds.r level-between-reads.Post
+  pub switches-of : Determined 0 switches-of-kinds.ps switches-of-kinds.r switches-of-reads.Post
+  pub server-at : Determined 0 server-at-kinds.ps server-at-kinds.r server-at-reads.Post
   -- links
   pub failed-link : Determined 1 failed-link-kinds.ps failed-link-kinds.r failed-link-reads.Post
   pub mark-link : Determined 1 mark-link-kinds.ps mark-link-kinds.r mark-link-reads.Post
@@ -291,7 +326,15 @@ pub record Uniqueness : Type 0 where
   pub is-live : Determined 1 is-live-kinds.ps is-live-kinds.r is-live-reads.Post
   pub table-refusal : Determined 1 table-refusal-kinds.ps table-refusal-kinds.r table-refusal-reads.Post
   pub room-refusal : Determined 1 room-refusal-kinds.ps room-refusal-kinds.r room-refusal-reads.Post
+  pub mark-server : Determined 1 mark-server-kinds.ps mark-server-kinds.r mark-server-reads.Post
+  -- and the bytes of the table that it leaves behind
+  pub mark-server-leaves : Leaves 1 mark-server-kinds.ps mark-server-kinds.r mark-server-reads.Post (λ κs s. now (s .1 .0))
+  pub clear-server : Determined 1 clear-server-kinds.ps clear-server-kinds.r clear-server-reads.Post
+  -- and the bytes of the table that it leaves behind
+  pub clear-server-leaves : Leaves 1 clear-server-kinds.ps clear-server-kinds.r clear-server-reads.Post (λ κs s. now (s .1 .0))
   -- path
+  pub byte-of : Determined 0 byte-of-kinds.ps byte-of-kinds.r byte-of-reads.Post
+  pub parts-of : Determined 0 parts-of-kinds.ps parts-of-kinds.r parts-of-reads.Post
   pub hop-of : Determined 0 hop-of-kinds.ps hop-of-kinds.r hop-of-reads.Post
   pub level-of : Determined 0 level-of-kinds.ps level-of-kinds.r level-of-reads.Post
   pub value-of : Determined 0 value-of-kinds.ps value-of-kinds.r value-of-reads.Post
@@ -322,18 +365,28 @@ pub record Uniqueness : Type 0 where
   pub pick-refusal : Determined 3 pick-refusal-kinds.ps pick-refusal-kinds.r pick-refusal-reads.Post
   -- step
   pub step-once : Determined 2 step-once-kinds.ps step-once-kinds.r step-once-reads.Post
-  pub bcube-step : Determined 2 bcube-step-kinds.ps bcube-step-kinds.r bcube-step-reads.Post
-  pub bcube-step-mac : Determined 2 bcube-step-mac-kinds.ps bcube-step-mac-kinds.r bcube-step-mac-reads.Post
   -- desk_line
   pub question-of : Determined 1 question-of-kinds.ps question-of-kinds.r question-of-reads.Post
   pub answer-line : Determined 1 answer-line-kinds.ps answer-line-kinds.r answer-line-reads.Post
-  -- driver: what C calls as bcube_shape, and so on
+  -- driver: what C calls as bcube_room_of, and so on
+  pub c-version : Determined 0 c-version-kinds.ps c-version-kinds.r c-version-reads.Post
+  pub c-switches : Determined 0 c-switches-kinds.ps c-switches-kinds.r c-switches-reads.Post
+  pub c-server-at : Determined 0 c-server-at-kinds.ps c-server-at-kinds.r c-server-at-reads.Post
+  pub c-mark-server : Determined 1 c-mark-server-kinds.ps c-mark-server-kinds.r c-mark-server-reads.Post
+  -- and the buffer that it leaves behind
+  pub c-mark-server-leaves : Leaves 1 c-mark-server-kinds.ps c-mark-server-kinds.r c-mark-server-reads.Post (λ κs s. now (s .1 .1 .0))
+  pub c-clear-server : Determined 1 c-clear-server-kinds.ps c-clear-server-kinds.r c-clear-server-reads.Post
+  -- and the buffer that it leaves behind
+  pub c-clear-server-leaves : Leaves 1 c-clear-server-kinds.ps c-clear-server-kinds.r c-clear-server-reads.Post (λ κs s. now (s .1 .1 .0))
+  pub c-path-byte : Determined 0 c-path-byte-kinds.ps c-path-byte-kinds.r c-path-byte-reads.Post
+  pub c-path-byte-parts : Determined 0 c-path-byte-parts-kinds.ps c-path-byte-parts-kinds.r c-path-byte-parts-reads.Post
+  pub c-room-of : Determined 0 c-room-of-kinds.ps c-room-of-kinds.r c-room-of-reads.Post
   pub c-shape : Determined 0 c-shape-kinds.ps c-shape-kinds.r c-shape-reads.Post
   pub c-servers : Determined 0 c-servers-kinds.ps c-servers-kinds.r c-servers-reads.Post
   pub c-bound : Determined 0 c-bound-kinds.ps c-bound-kinds.r c-bound-reads.Post
   pub c-digits : Determined 1 c-digits-kinds.ps c-digits-kinds.r c-digits-reads.Post
   -- and the buffer that it leaves behind
-  pub c-digits-leaves : Leaves 1 c-digits-kinds.ps c-digits-kinds.r c-digits-reads.Post (λ κs s. now (s .1 .1 .1 .0))
+  pub c-digits-leaves : Leaves 1 c-digits-kinds.ps c-digits-kinds.r c-digits-reads.Post (λ κs s. now (s .1 .1 .0))
   pub c-digit : Determined 0 c-digit-kinds.ps c-digit-kinds.r c-digit-reads.Post
   pub c-address : Determined 0 c-address-kinds.ps c-address-kinds.r c-address-reads.Post
   pub c-switch : Determined 0 c-switch-kinds.ps c-switch-kinds.r c-switch-reads.Post
@@ -342,29 +395,28 @@ pub record Uniqueness : Type 0 where
   pub c-failed-link : Determined 1 c-failed-link-kinds.ps c-failed-link-kinds.r c-failed-link-reads.Post
   pub c-mark-link : Determined 1 c-mark-link-kinds.ps c-mark-link-kinds.r c-mark-link-reads.Post
   -- and the buffer that it leaves behind
-  pub c-mark-link-leaves : Leaves 1 c-mark-link-kinds.ps c-mark-link-kinds.r c-mark-link-reads.Post (λ κs s. now (s .1 .1 .1 .1 .0))
+  pub c-mark-link-leaves : Leaves 1 c-mark-link-kinds.ps c-mark-link-kinds.r c-mark-link-reads.Post (λ κs s. now (s .1 .1 .1 .0))
   pub c-clear-link : Determined 1 c-clear-link-kinds.ps c-clear-link-kinds.r c-clear-link-reads.Post
   -- and the buffer that it leaves behind
-  pub c-clear-link-leaves : Leaves 1 c-clear-link-kinds.ps c-clear-link-kinds.r c-clear-link-reads.Post (λ κs s. now (s .1 .1 .1 .1 .0))
+  pub c-clear-link-leaves : Leaves 1 c-clear-link-kinds.ps c-clear-link-kinds.r c-clear-link-reads.Post (λ κs s. now (s .1 .1 .1 .0))
   pub c-read : Determined 2 c-read-kinds.ps c-read-kinds.r c-read-reads.Post
   -- and the buffer that it leaves behind
-  pub c-read-leaves : Leaves 2 c-read-kinds.ps c-read-kinds.r c-read-reads.Post (λ κs s. now (s .1 .1 .1 .1 .1 .0))
+  pub c-read-leaves : Leaves 2 c-read-kinds.ps c-read-kinds.r c-read-reads.Post (λ κs s. now (s .1 .1 .1 .1 .0))
   pub c-write : Determined 2 c-write-kinds.ps c-write-kinds.r c-write-reads.Post
   -- and the buffer that it leaves behind
-  pub c-write-leaves : Leaves 2 c-write-kinds.ps c-write-kinds.r c-write-reads.Post (λ κs s. now (s .1 .1 .1 .0))
+  pub c-write-leaves : Leaves 2 c-write-kinds.ps c-write-kinds.r c-write-reads.Post (λ κs s. now (s .1 .1 .0))
   pub c-reverse : Determined 2 c-reverse-kinds.ps c-reverse-kinds.r c-reverse-reads.Post
   -- and the buffer that it leaves behind
-  pub c-reverse-leaves : Leaves 2 c-reverse-kinds.ps c-reverse-kinds.r c-reverse-reads.Post (λ κs s. now (s .1 .1 .1 .1 .1 .0))
+  pub c-reverse-leaves : Leaves 2 c-reverse-kinds.ps c-reverse-kinds.r c-reverse-reads.Post (λ κs s. now (s .1 .1 .1 .1 .0))
   pub c-check : Determined 2 c-check-kinds.ps c-check-kinds.r c-check-reads.Post
   pub c-build : Determined 1 c-build-kinds.ps c-build-kinds.r c-build-reads.Post
   -- and the buffer that it leaves behind
-  pub c-build-leaves : Leaves 1 c-build-kinds.ps c-build-kinds.r c-build-reads.Post (λ κs s. now (s .1 .1 .1 .1 .0))
+  pub c-build-leaves : Leaves 1 c-build-kinds.ps c-build-kinds.r c-build-reads.Post (λ κs s. now (s .1 .1 .1 .0))
   pub c-find : Determined 2 c-find-kinds.ps c-find-kinds.r c-find-reads.Post
   -- and the buffer that it leaves behind
-  pub c-find-leaves : Leaves 2 c-find-kinds.ps c-find-kinds.r c-find-reads.Post (λ κs s. now (s .1 .1 .1 .1 .1 .0))
+  pub c-find-leaves : Leaves 2 c-find-kinds.ps c-find-kinds.r c-find-reads.Post (λ κs s. now (s .1 .1 .1 .1 .0))
   pub c-select : Determined 2 c-select-kinds.ps c-select-kinds.r c-select-reads.Post
   -- and the buffer that it leaves behind
-  pub c-select-leaves : Leaves 2 c-select-kinds.ps c-select-kinds.r c-select-reads.Post (λ κs s. now (s .1 .1 .1 .1 .1 .0))
+  pub c-select-leaves : Leaves 2 c-select-kinds.ps c-select-kinds.r c-select-reads.Post (λ κs s. now (s .1 .1 .1 .1 .0))
   pub c-pick : Determined 3 c-pick-kinds.ps c-pick-kinds.r c-pick-reads.Post
   pub c-step : Determined 2 c-step-kinds.ps c-step-kinds.r c-step-reads.Post
-  pub c-step-mac : Determined 2 c-step-mac-kinds.ps c-step-mac-kinds.r c-step-mac-reads.Post

@@ -57,36 +57,44 @@ module _ {s : Shape} {a d : ℕ} (e : Ends s a d) (i : ℕ) (h : i ≤ s .k) whe
 
 -- ---- as the program finds it at a place of the set
 
--- what reading the route at a place tells
-pub record Found (s : Shape) (a d : ℕ) (bs : List ℕ) (j : ℕ) : Type 0 where
-  pub is : bs ≡ builtBytes s (s .k - j) a d
-  pub long : length bs ≡ 8
-  pub some : readAnswer s a d bs .count ≡ suc (length (builtHops s (s .k - j) a d))
-  pub few : length (builtHops s (s .k - j) a d) ≤ 5
+pub place-small : (s : Shape) (a d j : ℕ) → endsRefusal s a d ≡ 0 → j ≤ s .k → j ≤ 3
+place-small s a d j e h = let v = ends-of s a d e .source .valid .levels in omega arith
 
-pub found : (s : Shape) (a d : ℕ) (r : RouteSet) (j : ℕ) → endsRefusal s a d ≡ 0 → r ≡ setOf (builtArrays s a d) → j ≤ s .k → Found s a d (take (8 * j + 8 - 8 * j) (drop (8 * j) (r .bytes))) j
-unfolding arrayAt
-found s a d r j e f h =
-    let p = ends-of s a d e in
-    let z : s .k - j ≤ s .k = omega arith in
-    let m : 8 * j + 8 - 8 * j ≡ 8 = omega arith in
-    let b : take (8 * j + 8 - 8 * j) (drop (8 * j) (r .bytes)) ≡ builtBytes s (s .k - j) a d =
-    ap (λ (x : ℕ). take x (drop (8 * j) (r .bytes))) m
-    ∙ ap (arrayAt j) f
-    ∙ set-array (builtArrays s a d) (arrays-eight p) j (omega (arith, arrays-count s a d))
-    ∙ arrays-at s a d j h in
-    record {
-      is = b;
-      long = ap length b ∙ array-long p (s .k - j) z;
-      some = ap (λ (x : List ℕ). readAnswer s a d x .count) b ∙ slot-read p (s .k - j) z;
-      few = slot-few p (s .k - j) z;
-    }
+-- the eight bytes at place j of the set
+abbrev pub partAt : RouteSet → ℕ → List ℕ
+partAt r j = take (8 * j + 8 - 8 * j) (drop (8 * j) (r .bytes))
 
-pub placed-line : (s : Shape) (a d j : ℕ) (bs : List ℕ) (c : ℕ) → Found s a d bs j → c ≡ readAnswer s a d bs .count → routeLine bs (c - 1) ≡ slotLine s a d (s .k - j)
-unfolding slotLine
-placed-line s a d j bs c f e =
-    let m : c - 1 ≡ length (builtHops s (s .k - j) a d) = omega (arith, f .some) in
-    ap₂ routeLine (f .is) m
+module _ (s : Shape) (a d : ℕ) (r : RouteSet) (j : ℕ) (e : endsRefusal s a d ≡ 0) (f : r ≡ setOf (builtArrays s a d)) (h : j ≤ s .k) where
+  part-is : partAt r j ≡ builtBytes s (s .k - j) a d
+  unfolding arrayAt
+  part-is =
+      let m : 8 * j + 8 - 8 * j ≡ 8 = omega arith in
+      ap (λ (x : ℕ). take x (drop (8 * j) (r .bytes))) m
+      ∙ ap (arrayAt j) f
+      ∙ set-array (builtArrays s a d) (arrays-eight (ends-of s a d e)) j (omega (arith, arrays-count s a d))
+      ∙ arrays-at s a d j h
+
+  pub part-long : length (partAt r j) ≡ 8
+  part-long = ap length part-is ∙ array-long (ends-of s a d e) (s .k - j) (omega arith)
+
+  -- what reading it tells
+  module _ (x : Reading) (g : x ≡ readAnswer s a d (partAt r j)) where
+    counted : x .count ≡ suc (length (builtHops s (s .k - j) a d))
+    counted =
+        ap (λ (y : Reading). y .count) (g ∙ ap (readAnswer s a d) part-is)
+        ∙ slot-read (ends-of s a d e) (s .k - j) (omega arith)
+
+    pub read-some : 1 ≤ x .count
+    read-some = omega (arith, counted)
+
+    pub read-few : x .count - 1 < 10
+    read-few = omega (arith, counted, slot-few (ends-of s a d e) (s .k - j) (omega arith))
+
+    pub read-line : (t : Text) {u : Text} → u ≡ textOf (shown t ++ routeLine (partAt r j) (x .count - 1)) → u ≡ textOf (shown t ++ slotLine s a d (s .k - j))
+    unfolding slotLine
+    read-line t l =
+        let m : x .count - 1 ≡ length (builtHops s (s .k - j) a d) = omega (arith, counted) in
+        l ∙ ap (λ (y : List ℕ). textOf (shown t ++ y)) (ap₂ routeLine part-is m)
 
 -- ---- all the lines, one after another
 
@@ -100,6 +108,7 @@ lines-next s a d m = refl
 
 -- the text t holds the lines of the first j routes, and has room for the rest
 pub record Printed (s : Shape) (a d : ℕ) (t : Text) (j : ℕ) : Type 0 where
+  pub levels : s .k ≤ 3
   pub place : j ≤ suc (s .k)
   pub room : Room t (19 * (suc (s .k) - j))
   pub rest : shown t ++ linesBelow s a d (suc (s .k) - j) ≡ routesText s a d
@@ -110,6 +119,7 @@ print-start s a d t e f =
     let v = ends-of s a d e .source .valid .levels in
     let m : suc (s .k) - 0 ≡ suc (s .k) = omega arith in
     record {
+      levels = v;
       place = omega arith;
       room = room-of [] (19 * (suc (s .k) - 0)) f (omega arith);
       rest = ap₂ (λ (x : List ℕ) (n : ℕ). x ++ linesBelow s a d n) (shown-of [] f) m;
@@ -126,6 +136,7 @@ print-next {s} {a} {d} {t} {j} e p h u f =
     let n : suc (s .k) - (j + 1) ≡ s .k - j = omega arith in
     let line = slotLine s a d (s .k - j) in
     record {
+      levels = p .levels;
       place = omega arith;
       room = room-of (shown t ++ line) (19 * (suc (s .k) - (j + 1))) f (omega (arith, length-append (shown t) line, p .room .room));
       rest = ap₂ (λ (x : List ℕ) (y : ℕ). x ++ linesBelow s a d y) (shown-of (shown t ++ line) f) n
@@ -169,23 +180,32 @@ number-of : (r : ℕ) (x : RouteSet) → answer r noBuilding (aBuilding x) .refu
 number-of zero x = refl
 number-of (suc r) x = refl
 
-pub built-number : (s : Shape) (a d : ℕ) (x : Building) → x ≡ buildAnswer s a d → x .refusal .number ≡ endsRefusal s a d
-unfolding buildAnswer
-built-number s a d x e = ap (λ (y : Building). y .refusal .number) e ∙ number-of (endsRefusal s a d) (setOf (builtArrays s a d))
+-- what building answers, and the text that is made of it
+module _ (s : Shape) (a d : ℕ) (x : Building) (e : x ≡ buildAnswer s a d) where
+  built-number : x .refusal .number ≡ endsRefusal s a d
+  unfolding buildAnswer
+  built-number = ap (λ (y : Building). y .refusal .number) e ∙ number-of (endsRefusal s a d) (setOf (builtArrays s a d))
 
-pub built-routes : (s : Shape) (a d : ℕ) (x : Building) → x ≡ buildAnswer s a d → endsRefusal s a d ≡ 0 → x .routes ≡ setOf (builtArrays s a d)
-unfolding buildAnswer
-built-routes s a d x e h =
-    ap (λ (y : Building). y .routes) (e ∙ answer-none (endsRefusal s a d) noBuilding (aBuilding (setOf (builtArrays s a d))) (sym h))
+  pub built-few : x .refusal .number < 10
+  built-few = omega (arith, built-number, ends-le s a d)
 
-pub text-refused : (s : Shape) (a d n : ℕ) (t : Text) → n ≡ endsRefusal s a d → n ≢ 0 → t ≡ textOf (refusedLine n) → t ≡ textOf (builtText s a d)
-unfolding builtText
-text-refused s a d n t e h f =
-    f ∙ ap textOf (answer-refused n (endsRefusal s a d) refusedLine (refusedLine n) (routesText s a d) refl e h)
+  pub text-refused : {t : Text} → x .refusal .number ≢ 0 → t ≡ textOf (refusedLine (x .refusal .number)) → t ≡ textOf (builtText s a d)
+  unfolding builtText
+  text-refused h f =
+      f ∙ ap textOf (answer-refused (x .refusal .number) (endsRefusal s a d) refusedLine (refusedLine (x .refusal .number)) (routesText s a d) refl built-number h)
 
-pub text-built : (s : Shape) (a d : ℕ) (t : Text) → endsRefusal s a d ≡ 0 → t ≡ textOf (routesText s a d) → t ≡ textOf (builtText s a d)
-unfolding builtText
-text-built s a d t h f = f ∙ ap textOf (sym (answer-none (endsRefusal s a d) refusedLine (routesText s a d) (sym h)))
+  module _ (z : x .refusal .number ≡ 0) where
+    pub built-ends : endsRefusal s a d ≡ 0
+    built-ends = sym built-number ∙ z
+
+    pub built-routes : x .routes ≡ setOf (builtArrays s a d)
+    unfolding buildAnswer
+    built-routes =
+        ap (λ (y : Building). y .routes) (e ∙ answer-none (endsRefusal s a d) noBuilding (aBuilding (setOf (builtArrays s a d))) (sym built-ends))
+
+    pub text-built : {t : Text} → t ≡ textOf (routesText s a d) → t ≡ textOf (builtText s a d)
+    unfolding builtText
+    text-built f = f ∙ ap textOf (sym (answer-none (endsRefusal s a d) refusedLine (routesText s a d) (sym built-ends)))
 
 -- ---- the whole input
 

@@ -38,20 +38,23 @@ pub size-on : (b : ℕ) (bs : List ℕ) → b ≢ newline → lineSize (b ∷ bs
 unfolding lineSize
 size-on b bs h = rw (ne-eqb b newline h)
 
--- ---- from place i on
+-- ---- from place i on: what is passed, and the part before c of what is left, are the whole part
 
-module _ (c : ℕ) (xs : List ℕ) (i : ℕ) where
-  pub before-here : i < length xs → getD xs i 0 ≡ c → length (before c (drop i xs)) ≡ 0
-  before-here h e = ap (λ (l : List ℕ). length (before c l)) (drop-cons xs i 0 h) ∙ ap length (before-stop c (getD xs i 0) (drop (suc i) xs) e)
+module _ (c : ℕ) (xs : List ℕ) (i : ℕ) (p : i + length (before c (drop i xs)) ≡ length (before c xs)) where
+  module _ (h : i < length xs) where
+    at-place : length (before c (drop i xs)) ≡ length (before c (getD xs i 0 ∷ drop (suc i) xs))
+    at-place = ap (λ (l : List ℕ). length (before c l)) (drop-cons xs i 0 h)
 
-  pub before-on : i < length xs → getD xs i 0 ≢ c → length (before c (drop i xs)) ≡ suc (length (before c (drop (i + 1) xs)))
-  before-on h n =
-      rw add-one
-      (ap (λ (l : List ℕ). length (before c l)) (drop-cons xs i 0 h) ∙ ap length (before-more c (getD xs i 0) (drop (suc i) xs) n))
+    pub before-here : getD xs i 0 ≡ c → i ≡ length (before c xs)
+    before-here e = omega (arith, p, at-place, ap length (before-stop c (getD xs i 0) (drop (suc i) xs) e))
 
-  pub before-end : length xs ≤ i → length (before c (drop i xs)) ≡ 0
+    pub before-on : getD xs i 0 ≢ c → i + 1 + length (before c (drop (i + 1) xs)) ≡ length (before c xs)
+    before-on n =
+        rw (ap (λ (m : ℕ). drop m xs) (add-one i)) (omega (arith, p, at-place, ap length (before-more c (getD xs i 0) (drop (suc i) xs) n)))
+
+  pub before-end : length xs ≤ i → i ≡ length (before c xs)
   unfolding before
-  before-end h = ap (λ (l : List ℕ). length (before c l)) (drop-of-length-le xs h)
+  before-end h = omega (arith, p, ap (λ (l : List ℕ). length (before c l)) (drop-of-length-le xs h))
 
 -- ---- the parts as parts of the text
 
@@ -117,6 +120,9 @@ size-without (b ∷ bs) h =
 -- ---- as the program finds them, from the length of the part before
 
 module _ (c : ℕ) (xs : List ℕ) (e : ℕ) where
+  pub found-le : e ≡ length (before c xs) → e ≤ length xs
+  found-le h = omega (arith, before-le c xs)
+
   pub found-before : e ≡ length (before c xs) → take e xs ≡ before c xs
   found-before h = ap (λ (m : ℕ). take m xs) h ∙ before-take c xs
 

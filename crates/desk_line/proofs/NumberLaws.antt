@@ -1,6 +1,6 @@
 -- Laws of words and numbers: a word read on from a place, and the question of four words.
 use Prim.Native.Nat.{ℕ, suc, _+_, _-_, _*_, _≤_, _<_}
-use mathlib.Core.Path.{_≡_, refl, ap, _∙_}
+use mathlib.Core.Path.{_≡_, refl, sym, ap, _∙_}
 use mathlib.Core.Logic.{_≢_}
 use mathlib.Core.Bool.{Bool, true, false, cond, _&&_}
 use mathlib.Core.List.{List, [], _∷_}
@@ -48,33 +48,33 @@ more : (v b : ℕ) (bs : List ℕ) → 48 ≤ b → b ≤ 57 → readOn v (b ∷
 unfolding readOn digitsOnly valueFrom
 more v b bs h k = rw (le-leb 48 b h, le-leb b 57 k)
 
--- ---- from place i on
+-- ---- from place i on: what is left there is the whole word's answer
 
-module _ (v : ℕ) (w : List ℕ) (i : ℕ) where
-  at-place : i < length w → readOn v (drop i w) ≡ readOn v (getD w i 0 ∷ drop (suc i) w)
-  at-place h = ap (readOn v) (drop-cons w i 0 h)
+module _ (v : ℕ) (w : List ℕ) (i : ℕ) (e : readOn v (drop i w) ≡ wordOf w) (h : i < length w) where
+  at-place : readOn v (getD w i 0 ∷ drop (suc i) w) ≡ wordOf w
+  at-place = ap (readOn v) (sym (drop-cons w i 0 h)) ∙ e
 
-  pub read-low : i < length w → getD w i 0 < 48 → readOn v (drop i w) ≡ noWord
-  read-low h k = at-place h ∙ low v (getD w i 0) (drop (suc i) w) k
+  pub read-low : {r : Word} → r ≡ noWord → getD w i 0 < 48 → r ≡ wordOf w
+  read-low n k = n ∙ sym (low v (getD w i 0) (drop (suc i) w) k) ∙ at-place
 
-  pub read-high : i < length w → 48 ≤ getD w i 0 → 57 < getD w i 0 → readOn v (drop i w) ≡ noWord
-  read-high h k l = at-place h ∙ high v (getD w i 0) (drop (suc i) w) k l
+  pub read-high : {r : Word} → r ≡ noWord → 48 ≤ getD w i 0 → 57 < getD w i 0 → r ≡ wordOf w
+  read-high n k l = n ∙ sym (high v (getD w i 0) (drop (suc i) w) k l) ∙ at-place
 
-  pub read-large : i < length w → 65535 < 10 * v + (getD w i 0 - 48) → readOn v (drop i w) ≡ noWord
-  read-large h k = at-place h ∙ large v (getD w i 0) (drop (suc i) w) k
+  pub read-large : {r : Word} → r ≡ noWord → 65535 < 10 * v + (getD w i 0 - 48) → r ≡ wordOf w
+  read-large n k = n ∙ sym (large v (getD w i 0) (drop (suc i) w) k) ∙ at-place
 
-  pub read-more : i < length w → 48 ≤ getD w i 0 → getD w i 0 ≤ 57 → readOn v (drop i w) ≡ readOn (10 * v + (getD w i 0 - 48)) (drop (i + 1) w)
-  read-more h k l = rw add-one (at-place h ∙ more v (getD w i 0) (drop (suc i) w) k l)
+  pub read-more : 48 ≤ getD w i 0 → getD w i 0 ≤ 57 → readOn (10 * v + (getD w i 0 - 48)) (drop (i + 1) w) ≡ wordOf w
+  read-more k l = rw add-one (sym (more v (getD w i 0) (drop (suc i) w) k l) ∙ at-place)
 
-  pub read-end : length w ≤ i → v ≤ 65535 → readOn v (drop i w) ≡ aWord v
-  unfolding readOn digitsOnly valueFrom
-  read-end h k = ap (readOn v) (drop-of-length-le w h) ∙ rw (le-leb v 65535 k)
+pub read-end : (v : ℕ) (w : List ℕ) (i : ℕ) → readOn v (drop i w) ≡ wordOf w → length w ≤ i → v ≤ 65535 → aWord v ≡ wordOf w
+unfolding readOn digitsOnly valueFrom
+read-end v w i e h k = sym (ap (readOn v) (drop-of-length-le w h) ∙ rw (le-leb v 65535 k)) ∙ e
 
 -- ---- the whole word
 
-pub word-empty : (w : List ℕ) → length w ≡ 0 → wordOf w ≡ noWord
+pub word-empty : (w : List ℕ) {r : Word} → r ≡ noWord → length w ≡ 0 → r ≡ wordOf w
 unfolding wordOf
-word-empty w e = rw (le-ltb 0 (length w) (omega arith))
+word-empty w n e = rw (le-ltb 0 (length w) (omega arith)) n
 
 pub word-some : (w : List ℕ) → length w ≢ 0 → readOn 0 w ≡ wordOf w
 unfolding wordOf readOn

@@ -1,67 +1,63 @@
--- No refusal's number is above 23.
+-- No refusal's number is above 23: none of the numbers that its chain gives is.
 use Prim.Native.Nat.{ℕ, _≤_}
+use mathlib.Core.Path.{refl}
 use mathlib.Core.List.{List}
-use mathlib.Core.Bool.{not, _&&_}
-use lib.Dec.{ltb, leb, eqb, lit≤}
+use lib.Dec.{ltb, eqb, lit≤}
 use lib.ListN.{length}
-use Rattle.refusals.specs.Refusals.{_or-else_, _unless_}
+use Rattle.refusals.proofs.NumberLaws.{one-le}
 use Rattle.room.specs.declared.Shape.{Shape}
-use Rattle.room.specs.Shapes.{serversOf, bound}
-use Rattle.room.specs.Refusals.{shapeRefusal, levelRefusal, serverRefusal, pairRefusal, linkRefusal, valueRefusal, placesFit, placesRefusal, endsRefusal}
-use Rattle.links.specs.Table.{bitsFit, tableRefusal, tableLinkRefusal, roomRefusal}
+use Rattle.room.specs.Shapes.{bound}
+use Rattle.room.specs.Refusals.{shapeRefusal, levelRefusal, serverRefusal, pairRefusal, linkRefusal, valueRefusal, placesRefusal, endsRefusal}
+use Rattle.room.specs.Wiring.{portRefusal}
+use Rattle.room.proofs.NumberLaws.{shape-numbers, level-numbers, server-numbers, pair-numbers, link-numbers, value-numbers, places-numbers, port-numbers, ends-numbers}
+use Rattle.links.specs.Table.{tableLinkRefusal, roomRefusal}
+use Rattle.links.specs.Servers.{tableServerRefusal}
+use Rattle.links.proofs.NumberLaws.{table-link-numbers, table-server-numbers, room-numbers}
+use Rattle.path.specs.Bytes.{madeRefusal}
 use Rattle.path.specs.Answers.{arrayRefusal}
 use Rattle.driver.proofs.WordLaws.{chain-le, test-le}
 
-pub shape-le : (s : Shape) → shapeRefusal s ≤ 23
-unfolding shapeRefusal
-shape-le s =
-    chain-le 23 (1 unless (leb 2 (s .n) && leb (s .n) 64) or-else 2 unless leb (s .k) 3) (3 unless leb (serversOf s) 4096)
-    (chain-le 23 (1 unless (leb 2 (s .n) && leb (s .n) 64)) (2 unless leb (s .k) 3) (test-le 23 1 (leb 2 (s .n) && leb (s .n) 64) (lit≤ tt)) (test-le 23 2 (leb (s .k) 3) (lit≤ tt)))
-    (test-le 23 3 (leb (serversOf s) 4096) (lit≤ tt))
+module _ (s : Shape) where
+  pub shape-le : shapeRefusal s ≤ 23
+  shape-le = one-le 23 refl (shape-numbers s)
 
-pub level-le : (s : Shape) (l : ℕ) → levelRefusal s l ≤ 23
-unfolding levelRefusal
-level-le s l = chain-le 23 (shapeRefusal s) (20 unless leb l (s .k)) (shape-le s) (test-le 23 20 (leb l (s .k)) (lit≤ tt))
+  pub level-le : (l : ℕ) → levelRefusal s l ≤ 23
+  level-le l = one-le 23 refl (level-numbers s l)
 
-pub server-le : (s : Shape) (a : ℕ) → serverRefusal s a ≤ 23
-unfolding serverRefusal
-server-le s a = chain-le 23 (shapeRefusal s) (4 unless ltb a (serversOf s)) (shape-le s) (test-le 23 4 (ltb a (serversOf s)) (lit≤ tt))
+  pub server-le : (a : ℕ) → serverRefusal s a ≤ 23
+  server-le a = one-le 23 refl (server-numbers s a)
 
-pub pair-le : (s : Shape) (a b : ℕ) → pairRefusal s a b ≤ 23
-unfolding pairRefusal
-pair-le s a b = chain-le 23 (serverRefusal s a) (serverRefusal s b) (server-le s a) (server-le s b)
+  pub pair-le : (a b : ℕ) → pairRefusal s a b ≤ 23
+  pair-le a b = one-le 23 refl (pair-numbers s a b)
 
-pub link-le : (s : Shape) (a l : ℕ) → linkRefusal s a l ≤ 23
-unfolding linkRefusal
-link-le s a l = chain-le 23 (serverRefusal s a) (levelRefusal s l) (server-le s a) (level-le s l)
+  pub link-le : (a l : ℕ) → linkRefusal s a l ≤ 23
+  link-le a l = one-le 23 refl (link-numbers s a l)
 
-pub value-le : (s : Shape) (a l v : ℕ) → valueRefusal s a l v ≤ 23
-unfolding valueRefusal
-value-le s a l v =
-    chain-le 23 (linkRefusal s a l) (21 unless ltb v (bound s l)) (link-le s a l) (test-le 23 21 (ltb v (bound s l)) (lit≤ tt))
+  pub value-le : (a l v : ℕ) → valueRefusal s a l v ≤ 23
+  value-le a l v = one-le 23 refl (value-numbers s a l v)
 
-pub places-le : (s : Shape) (ds : List ℕ) → placesRefusal s ds ≤ 23
-unfolding placesRefusal
-places-le s ds =
-    chain-le 23 (shapeRefusal s) (21 unless placesFit s 0 ds) (shape-le s) (test-le 23 21 (placesFit s 0 ds) (lit≤ tt))
+  pub places-le : (ds : List ℕ) → placesRefusal s ds ≤ 23
+  places-le ds = one-le 23 refl (places-numbers s ds)
 
-pub table-le : (s : Shape) (t : List ℕ) → tableRefusal s t ≤ 23
-unfolding tableRefusal
-table-le s t = test-le 23 6 (eqb (length t) (serversOf s) && bitsFit (s .k) t) (lit≤ tt)
+  pub port-le : (l w v : ℕ) → portRefusal s l w v ≤ 23
+  port-le l w v = one-le 23 refl (port-numbers s l w v)
 
-pub table-link-le : (s : Shape) (t : List ℕ) (a l : ℕ) → tableLinkRefusal s t a l ≤ 23
-unfolding tableLinkRefusal
-table-link-le s t a l = chain-le 23 (linkRefusal s a l) (tableRefusal s t) (link-le s a l) (table-le s t)
+  pub table-link-le : (t : List ℕ) (a l : ℕ) → tableLinkRefusal s t a l ≤ 23
+  table-link-le t a l = one-le 23 refl (table-link-numbers s t a l)
 
-pub ends-le : (s : Shape) (a d : ℕ) → endsRefusal s a d ≤ 23
-unfolding endsRefusal
-ends-le s a d = chain-le 23 (pairRefusal s a d) (5 unless not (eqb a d)) (pair-le s a d) (test-le 23 5 (not (eqb a d)) (lit≤ tt))
+  pub table-server-le : (t : List ℕ) (a : ℕ) → tableServerRefusal s t a ≤ 23
+  table-server-le t a = one-le 23 refl (table-server-numbers s t a)
 
-pub array-le : (s : Shape) (a d : ℕ) (bs : List ℕ) → arrayRefusal s a d bs ≤ 23
-unfolding arrayRefusal
-array-le s a d bs =
-    chain-le 23 (endsRefusal s a d) (7 unless eqb (length bs) 8) (ends-le s a d) (test-le 23 7 (eqb (length bs) 8) (lit≤ tt))
+  pub ends-le : (a d : ℕ) → endsRefusal s a d ≤ 23
+  ends-le a d = one-le 23 refl (ends-numbers s a d)
 
-pub room-le : (s : Shape) (t : List ℕ) (a d : ℕ) → roomRefusal s t a d ≤ 23
-unfolding roomRefusal
-room-le s t a d = chain-le 23 (endsRefusal s a d) (tableRefusal s t) (ends-le s a d) (table-le s t)
+  pub room-le : (t : List ℕ) (a d : ℕ) → roomRefusal s t a d ≤ 23
+  room-le t a d = one-le 23 refl (room-numbers s t a d)
+
+  pub made-le : (l v : ℕ) → madeRefusal s l v ≤ 23
+  unfolding madeRefusal
+  made-le l v = chain-le 23 (levelRefusal s l) _ (level-le l) (test-le 23 21 (ltb v (bound s l)) (lit≤ tt))
+
+  pub array-le : (a d : ℕ) (bs : List ℕ) → arrayRefusal s a d bs ≤ 23
+  unfolding arrayRefusal
+  array-le a d bs = chain-le 23 (endsRefusal s a d) _ (ends-le a d) (test-le 23 7 (eqb (length bs) 8) (lit≤ tt))

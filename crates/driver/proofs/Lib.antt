@@ -1,7 +1,9 @@
 pub mod WordLaws
 pub mod BoundLaws
+pub mod ShapeLaws
 pub mod RoomSmall
 pub mod PathSmall
 pub mod RouteSmall
 pub mod PickSmall
+pub mod PackLaws
 pub mod Unique

@@ -1,36 +1,35 @@
--- The answers on path bytes fit the result word, and the servers read fit four bytes each.
+-- The answers on path bytes fit the result word.
 use Prim.Native.Nat.{ℕ, zero, suc, _+_, _-_, _*_, _/_, _%_, _≤_, _<_}
 use native.Mathlib.Omega.{arith}
-use native.Mathlib.Decide.{decLt}
-use native.Mathlib.Numerals.{add-one}
-use mathlib.Core.Path.{_≡_, refl, sym, ap, _∙_, subst}
+use mathlib.Core.Path.{_≡_, refl, sym, ap, subst}
 use mathlib.Core.Bool.{Bool, true, false, not, cond, _&&_}
 use mathlib.Core.List.{List, [], _∷_, _++_, map}
 use lib.Dec.{ltb, leb, eqb, lit≤, lit<}
-use lib.ListN.{length, getD, set, drop, take, replicate, length-set, drop-of-length-le}
-use lib.Seq.{drop-cons, take-suc, take-all}
-use borrow.Author.Tests.{lt-leb}
+use lib.ListN.{length, getD, drop}
 use Rattle.lists.specs.Lists.{isIn}
-use Rattle.lists.proofs.ListLaws.{taken-on, length-snoc, filled-at, filled-past}
+use Rattle.lists.proofs.ListLaws.{length-snoc}
 use Rattle.refusals.specs.declared.Refusal.{Refusal}
 use Rattle.refusals.specs.Refusals.{plain, refusedAt, _or-else_, _unless_, answer}
 use Rattle.room.specs.declared.Shape.{Shape}
 use Rattle.room.specs.Shapes.{bound}
 use Rattle.room.specs.Addresses.{digit, differing}
 use Rattle.room.specs.Refusals.{shapeRefusal, serverRefusal}
+use Rattle.room.proofs.RoomLaws.{bound-le}
 use Rattle.links.specs.Table.{live, roomRefusal}
 use Rattle.path.specs.declared.Walked.{Walked}
-use Rattle.path.specs.declared.Reading.{Reading}
 use Rattle.path.specs.declared.Writing.{Writing}
-use Rattle.path.specs.Routes.{switchAt, switchTo, levelOf, valueOf}
+use Rattle.path.specs.declared.Parts.{Parts}
+use Rattle.path.specs.Bytes.{madeRefusal, byteAnswer, partsRefusal, noParts, someParts, partsAnswer}
+use Rattle.path.specs.Routes.{byteOf, switchAt, switchTo, levelOf, valueOf}
 use Rattle.path.specs.Walks.{Walk, stopped, arrived, hopTo, hopRefusal, fault, ended, walkFrom, walk, single, writeFault, writeFrom}
 use Rattle.path.specs.Answers.{arrayRefusal, noWalk, walked, walkAnswer, readAnswer, noWriting, reversed, reverseAnswer, serversRefusal, writeRefusal, written, onTheWay, writeAnswer}
-use Rattle.path.proofs.CodecLaws.{array-of, listed-of, read-exactly, read-given}
+use Rattle.path.proofs.ByteLaws.{made-of, parts-of}
+use Rattle.path.proofs.CodecLaws.{array-of, listed-of}
 use Rattle.verdict.specs.Checks.{arrays, parallel, firstStop, firstMeeting, firstOf, firstPair, listRefusal, walksOf, checkAnswer}
 use Rattle.verdict.proofs.LengthLaws.{list-few}
-use Rattle.driver.specs.Words.{Small, FourBytes}
-use Rattle.driver.proofs.WordLaws.{chain-le, test-le, none-small, plain-small}
-use Rattle.driver.proofs.BoundLaws.{shape-le, server-le, array-le, room-le}
+use Rattle.driver.specs.Words.{Small}
+use Rattle.driver.proofs.WordLaws.{chain-le, test-le, none-small, plain-small, number-small}
+use Rattle.driver.proofs.BoundLaws.{shape-le, server-le, made-le, array-le, room-le}
 
 -- what is so of both arms is so of the one taken
 either : {X : Type 0} (P : X → Type 0) (b : Bool) (x y : X) → P x → P y → P (cond b x y)
@@ -45,11 +44,47 @@ answer-so P (suc q) refused x f h g = f (suc q) h
 at-small : (r i h : ℕ) → r ≤ 23 → i < 256 → h < 256 → Small (refusedAt r i h) 0
 at-small r i h a b c = record { number = omega arith; route = b; hop = c; value = lit< tt }
 
+-- ---- one path byte
+
+pub byte-small : (s : Shape) (l v : ℕ) → Small (byteAnswer s l v .refusal) (byteAnswer s l v .value)
+unfolding byteAnswer byteOf
+byte-small s l v =
+    number-small (madeRefusal s l v) (byteOf l v) (made-le s l v)
+    (λ z. let h = made-of s l v z in omega (arith, h .level, h .value, bound-le (h .valid) l, h .valid .ports, h .valid .levels))
+
+parts-le : (s : Shape) (b : ℕ) → partsRefusal s b ≤ 23
+unfolding partsRefusal
+parts-le s b =
+    let t = leb (levelOf b) (s .k) in
+    let u = ltb (valueOf b) (bound s (levelOf b)) in
+    chain-le 23 (8 unless t) (9 unless u) (test-le 23 8 t (lit≤ tt)) (test-le 23 9 u (lit≤ tt))
+
+-- the value of the word is 256 times the level plus the value
+pub record PartsFit (x : Parts) : Type 0 where
+  pub level : x .level ≤ 3
+  pub value : x .value < 64
+  pub small : Small (x .refusal) (256 * x .level + x .value)
+
+parts-small : (s : Shape) (b : ℕ) → PartsFit (partsAnswer s b)
+unfolding partsAnswer
+parts-small s b =
+    answer-so PartsFit (shapeRefusal s) (λ r. noParts (plain r)) _
+    (λ r h. record { level = lit≤ tt; value = lit< tt; small = plain-small r h })
+    (shape-le s)
+    (λ v.
+    answer-so PartsFit (partsRefusal s b) (λ r. noParts (refusedAt r 1 1)) (someParts (levelOf b) (valueOf b))
+    (λ r h. record { level = lit≤ tt; value = lit< tt; small = at-small r 1 1 h (lit< tt) (lit< tt) })
+    (parts-le s b)
+    (λ z. let h = parts-of s b v z in let l : levelOf b ≤ 3 = omega (arith, h .level, h .valid .levels) in let q : valueOf b < 64 = omega arith in record { level = l; value = q; small = none-small (256 * levelOf b + valueOf b) (omega arith) }))
+
+pub parts-found : (s : Shape) (b : ℕ) (x : Parts) → x ≡ partsAnswer s b → PartsFit x
+parts-found s b x e = subst PartsFit (sym e) (parts-small s b)
+
 -- ---- a walk
 
-hop-le : (s : Shape) (a b : ℕ) → hopRefusal s a b ≤ 23
+pub hop-byte-le : (s : Shape) (a b : ℕ) → hopRefusal s a b ≤ 23
 unfolding hopRefusal
-hop-le s a b =
+hop-byte-le s a b =
     let p = 8 unless leb (levelOf b) (s .k) in
     let q = 9 unless ltb (valueOf b) (bound s (levelOf b)) in
     let r = 10 unless not (eqb (digit s (levelOf b) a) (valueOf b)) in
@@ -63,7 +98,7 @@ fault-le s t met used a b =
     let l = live t (levelOf b) a (hopTo s a b) in
     let o = not (isIn (hopTo s a b) met) && not (isIn (switchAt s (levelOf b) a) used) in
     chain-le 23 (hopRefusal s a b or-else 11 unless l) (12 unless o)
-    (chain-le 23 (hopRefusal s a b) (11 unless l) (hop-le s a b) (test-le 23 11 l (lit≤ tt)))
+    (chain-le 23 (hopRefusal s a b) (11 unless l) (hop-byte-le s a b) (test-le 23 11 l (lit≤ tt)))
     (test-le 23 12 o (lit≤ tt))
 
 -- the refusal that a walk comes to and the count of the servers met fit
@@ -109,25 +144,6 @@ pub read-small : (s : Shape) (a d : ℕ) (bs : List ℕ) → Small (readAnswer s
 unfolding readAnswer
 read-small s a d bs = walk-small s [] a d bs
 
--- the servers read, and the zeros past them
-read-narrow : (s : Shape) (a d : ℕ) (bs : List ℕ) → readAnswer s a d bs .refusal .number ≡ 0 → FourBytes (readAnswer s a d bs .servers)
-read-narrow s a d bs e =
-    let p = read-exactly s a d bs .0 e in
-    let vs = p .0 in
-    let r = p .1 .route .route in
-    let f = ap (λ (x : Reading). x .servers) (read-given (p .1)) in
-    record {
-      each = λ i.
-          elim (decLt i (length vs)) [
-            | yes y ↦ let v = r .servers i y in let g = ap (λ (l : List ℕ). getD l i 0) f ∙ filled-at 9 vs i in omega (arith, v .below, v .valid .small)
-            | no y ↦ let g = ap (λ (l : List ℕ). getD l i 0) f ∙ filled-past 9 vs i (omega arith) in omega arith
-          ];
-    }
-
-pub read-found : (s : Shape) (a d : ℕ) (bs : List ℕ) {x : Reading} → x ≡ readAnswer s a d bs → x .refusal .number ≡ 0 → FourBytes (x .servers)
-read-found s a d bs {x} e n =
-    subst (λ (y : Reading). FourBytes (y .servers)) (sym e) (read-narrow s a d bs (ap (λ (y : Reading). y .refusal .number) (sym e) ∙ n))
-
 reversed-fits : (s : Shape) (w : Walk) → Fits w → Small (reversed s w .refusal) 0
 reversed-fits s (stopped r h) f = f
 reversed-fits s (arrived vs ws) f = none-small 0 (lit< tt)
@@ -138,42 +154,7 @@ reverse-small s a d bs =
     answer-so (λ (w : Writing). Small (w .refusal) 0) (arrayRefusal s a d bs) (λ r. noWriting (plain r)) (reversed s (walk s [] a d bs))
     plain-small (array-le s a d bs) (λ e. reversed-fits s (walk s [] a d bs) (eight-fit s [] a d bs e))
 
--- the numbers of a list from place o on, each by its place
-abbrev from : ℕ → ℕ → List ℕ → List ℕ
-from zero o xs = []
-from (suc m) o xs = getD xs o 0 ∷ from m (suc o) xs
-
-pub from-is : (m o : ℕ) (xs : List ℕ) → o + m ≡ length xs → from m o xs ≡ drop o xs
-from-is zero o xs h = let l : length xs ≤ o = omega arith in sym (drop-of-length-le xs l)
-from-is (suc m) o xs h =
-    ap (λ (l : List ℕ). getD xs o 0 ∷ l) (from-is m (suc o) xs (omega arith)) ∙ sym (drop-cons xs o 0 (omega arith))
-
 -- ---- writing
-
--- the first i of a list stand in the first of nine places
-pub record Copied (xs places : List ℕ) (i : ℕ) : Type 0 where
-  pub within : i ≤ length xs
-  pub long : length places ≡ 9
-  pub same : take i places ≡ take i xs
-
-pub copied-none : (xs : List ℕ) → Copied xs (replicate 9 0) 0
-copied-none xs = record { within = omega arith; long = refl; same = refl }
-
-pub copied-more : {xs places : List ℕ} {i : ℕ} → Copied xs places i → i < length xs → length xs ≤ 9 → Copied xs (set places i (getD xs i 0)) (i + 1)
-copied-more {xs} {places} {i} g h few =
-    record {
-      within = omega arith;
-      long = length-set places i (getD xs i 0) ∙ g .long;
-      same =
-          taken-on places i (getD xs i 0) (omega (arith, g .long))
-          ∙ ap (λ (l : List ℕ). l ++ (getD xs i 0 ∷ [])) (g .same)
-          ∙ rw add-one (sym (take-suc xs i 0 h));
-    }
-
-pub copied-all : {xs places : List ℕ} {i : ℕ} → Copied xs places i → length xs ≤ i → take (length xs) places ≡ xs
-copied-all {xs} {places} {i} g h =
-    let q : length xs ≡ i = omega (arith, g .within) in
-    ap (λ (m : ℕ). take m places) q ∙ g .same ∙ take-all i xs h
 
 servers-le : (s : Shape) (vs : List ℕ) → serversRefusal s vs ≤ 23
 unfolding serversRefusal
@@ -220,20 +201,6 @@ write-small s vs =
     (λ e.
     let o = onTheWay s vs in
     either P (eqb (o .number) 0) _ (noWriting o) (none-small 0 (lit< tt)) (on-the-way-small s vs (listed-of s vs e .few)))
-
--- more than nine servers are refused as none are
-too-many : (p q r : ℕ) (x : Writing) → answer (p or-else 22 or-else q or-else r) (λ r. noWriting (plain r)) x ≡ noWriting (plain (p or-else 22))
-unfolding _or-else_
-too-many zero q r x = refl
-too-many (suc p) q r x = refl
-
-pub write-many : (s : Shape) (vs : List ℕ) → 9 < length vs → writeAnswer s [] ≡ writeAnswer s vs
-unfolding writeAnswer writeRefusal
-write-many s vs h = too-many (shapeRefusal s) _ _ _ ∙ sym (both (leb 2 (length vs)) (lt-leb (length vs) 9 h))
-  where
-    both : (b : Bool) → leb (length vs) 9 ≡ false → answer (shapeRefusal s or-else 22 unless (b && leb (length vs) 9) or-else serversRefusal s vs or-else 5 unless not (eqb (getD vs 0 0) (getD vs (length vs - 1) 0))) (λ r. noWriting (plain r)) (written s vs (onTheWay s vs)) ≡ noWriting (plain (shapeRefusal s or-else 22))
-    both true e = rw e (too-many (shapeRefusal s) _ _ _)
-    both false e = too-many (shapeRefusal s) _ _ _
 
 -- ---- checking
 

@@ -2,15 +2,12 @@
 use Prim.Native.Nat.{ℕ, zero, suc, _+_, _≤_, _<_}
 use native.Mathlib.Numerals.{add-one}
 use native.Mathlib.Omega.{arith}
-use native.Mathlib.Decide.{decLe}
 use mathlib.Core.Path.{_≡_, refl, sym, ap, _∙_, subst}
-use mathlib.Core.Logic.{_≢_}
 use mathlib.Core.Bool.{Bool, true, false, cond}
 use mathlib.Core.List.{List, [], _∷_}
 use lib.Dec.{lit<, lit≤}
-use lib.ListN.{length, getD, replicate}
+use lib.ListN.{length}
 use Rattle.lists.specs.Lists.{filled}
-use Rattle.lists.proofs.ListLaws.{length-filled}
 use Rattle.refusals.specs.declared.Refusal.{Refusal}
 use Rattle.refusals.specs.Refusals.{plain, answer}
 use Rattle.room.specs.declared.Shape.{Shape}
@@ -18,19 +15,23 @@ use Rattle.room.specs.declared.Digits.{Digits}
 use Rattle.room.specs.declared.Between.{Between}
 use Rattle.room.specs.Digits.{addressOf}
 use Rattle.room.specs.Shapes.{serversOf, bound, Server, Link}
-use Rattle.room.specs.Addresses.{digits, digit, withDigit, switchOf, differing}
+use Rattle.room.specs.Addresses.{digits, digit, withDigit, switchOf, switchesAt, differing}
 use Rattle.room.specs.Refusals.{shapeRefusal, levelRefusal, serverRefusal, pairRefusal, linkRefusal, valueRefusal, placesRefusal}
 use Rattle.room.specs.Answers.{noDigits, someDigits, noSwitch, aSwitch, noBetween, onlyLevel, serversAnswer, boundAnswer, digitsAnswer, digitAnswer, addressAnswer, switchAnswer, neighbourAnswer, betweenAnswer}
-use Rattle.room.proofs.RefusalLaws.{valid-of, level-of, server-of, pair-of, link-of, value-of, places-of}
+use Rattle.room.specs.Wiring.{serverAt, portRefusal, switchesAnswer, serverAtAnswer}
+use Rattle.room.proofs.RefusalLaws.{valid-of, level-of, pair-of, link-of, value-of, places-of}
 use Rattle.room.proofs.DigitLaws.{pow-small}
 use Rattle.room.proofs.FourPlaces.{sums}
-use Rattle.room.proofs.RoomLaws.{bound-le, digits-long as levels-long, digit-lt, digit-past, with-server, switches-power, switch-lt, neighbours-exactly, place-digit, places-below}
+use Rattle.room.proofs.RoomLaws.{bound-le, digit-lt, with-server, switches-power, switch-lt, neighbours-exactly, places-below}
+use Rattle.room.proofs.WiringLaws.{port-of, port-server}
 use Rattle.links.specs.declared.Asked.{Asked}
 use Rattle.links.specs.Table.{failed, tableLinkRefusal}
 use Rattle.links.specs.Answers.{notAsked, asked, failedAnswer, linkAnswer}
-use Rattle.driver.specs.Words.{word, left, Small, betweenWord, askedWord}
-use Rattle.driver.proofs.WordLaws.{none-small, plain-small, number-small, left-given, left-lent}
-use Rattle.driver.proofs.BoundLaws.{shape-le, level-le, server-le, pair-le, link-le, value-le, places-le, table-link-le}
+use Rattle.links.specs.Servers.{tableServerRefusal, serverAnswer}
+use Rattle.driver.specs.declared.Answer.{Answer}
+use Rattle.driver.specs.Words.{word, Small, betweenWord, askedWord}
+use Rattle.driver.proofs.WordLaws.{none-small, plain-small, number-small}
+use Rattle.driver.proofs.BoundLaws.{shape-le, level-le, server-le, pair-le, link-le, value-le, places-le, port-le, table-link-le, table-server-le}
 
 -- ---- a refusal of a call as a whole, with any number
 
@@ -40,7 +41,7 @@ plain-with r v h k = record { number = omega arith; route = lit< tt; hop = lit< 
 pub plain-fits : {r q : ℕ} {x : Refusal} (v : ℕ) → q ≤ 23 → v < 4294967296 → r ≡ q → x ≡ plain r → Small x v
 plain-fits {r} {q} {x} v h k e g = subst (λ (z : Refusal). Small z v) (sym (g ∙ ap plain e)) (plain-with q v h k)
 
-pub plain-said : (f : Shape → ℕ) {s t : Shape} {r : ℕ} {x : Refusal} {w : ℕ} → w ≡ word x 0 → x ≡ plain r → r ≡ f s → s ≡ t → w ≡ word (plain (f t)) 0
+pub plain-said : (f : Shape → ℕ) {s t : Shape} {r : ℕ} {x : Refusal} {w : Answer} → w ≡ word x 0 → x ≡ plain r → r ≡ f s → s ≡ t → w ≡ word (plain (f t)) 0
 plain-said f {s} {t} {r} {x} {w} h e g k = h ∙ ap (λ (z : Refusal). word z 0) (e ∙ ap plain (g ∙ ap f k))
 
 -- ---- numbers
@@ -55,6 +56,20 @@ unfolding boundAnswer
 bound-small s l =
     number-small (levelRefusal s l) (bound s l) (level-le s l)
     (λ z. let v = level-of s l z in omega (arith, bound-le (v .0) l, v .0 .ports))
+
+pub switches-small : (s : Shape) (l : ℕ) → Small (switchesAnswer s l .refusal) (switchesAnswer s l .value)
+unfolding switchesAnswer
+switches-small s l =
+    number-small (levelRefusal s l) (switchesAt s l) (level-le s l)
+    (λ z.
+    let v = level-of s l z .0 in
+    omega (arith, switches-power v l, pow-small (s .n) (s .k) (v .ports) (omega (arith, v .levels))))
+
+pub server-at-small : (s : Shape) (l w v : ℕ) → Small (serverAtAnswer s l w v .refusal) (serverAtAnswer s l w v .value)
+unfolding serverAtAnswer
+server-at-small s l w v =
+    number-small (portRefusal s l w v) (serverAt s l w v) (port-le s l w v)
+    (λ z. let a = port-server (port-of s l w v z) in omega (arith, a .below, a .valid .small))
 
 digit-lt-64 : {s : Shape} {a : ℕ} → Server s a → (l : ℕ) → l ≤ s .k → digit s l a < 64
 digit-lt-64 h l p = omega (arith, digit-lt h l p, bound-le (h .valid) l, h .valid .ports)
@@ -134,7 +149,7 @@ between-at s a b v k =
 pub between-fits : (s : Shape) (a b v : ℕ) {x : Between} → v < 4294967296 → x ≡ betweenAnswer s a b → Small (x .refusal) v
 between-fits s a b v {x} k e = subst (λ (z : Between). Small (z .refusal) v) (sym e) (between-at s a b v k)
 
-pub between-said : (f : Shape → Between) {s t : Shape} {x : Between} {w : ℕ} → w ≡ word (x .refusal) (x .level + 1) → x .adjacent ≡ true → x ≡ f s → s ≡ t → w ≡ betweenWord (f t)
+pub between-said : (f : Shape → Between) {s t : Shape} {x : Between} {w : Answer} → w ≡ word (x .refusal) (x .level + 1) → x .adjacent ≡ true → x ≡ f s → s ≡ t → w ≡ betweenWord (f t)
 unfolding betweenWord
 between-said f {s} {t} {x} {w} h q e g =
     h
@@ -142,7 +157,7 @@ between-said f {s} {t} {x} {w} h q e g =
     ∙ ap (λ (b : Bool). word (x .refusal) (cond b (suc (x .level)) 0)) (sym q)
     ∙ ap betweenWord (e ∙ ap f g)
 
-pub apart-said : (f : Shape → Between) {s t : Shape} {x : Between} {w : ℕ} → w ≡ word (x .refusal) 0 → x .adjacent ≡ false → x ≡ f s → s ≡ t → w ≡ betweenWord (f t)
+pub apart-said : (f : Shape → Between) {s t : Shape} {x : Between} {w : Answer} → w ≡ word (x .refusal) 0 → x .adjacent ≡ false → x ≡ f s → s ≡ t → w ≡ betweenWord (f t)
 unfolding betweenWord
 apart-said f {s} {t} {x} {w} h q e g =
     h
@@ -150,31 +165,6 @@ apart-said f {s} {t} {x} {w} h q e g =
     ∙ ap betweenWord (e ∙ ap f g)
 
 -- ---- digits
-
-zeros-small : (n i : ℕ) → getD (replicate n 0) i 0 < 4294967296
-zeros-small zero i = lit< tt
-zeros-small (suc n) zero = lit< tt
-zeros-small (suc n) (suc i) = zeros-small n i
-
-padded-small : {s : Shape} {a : ℕ} → Server s a → (i : ℕ) → getD (filled 4 (digits s a)) i 0 < 4294967296
-padded-small {s} {a} h i =
-    elim (decLe i (s .k)) [
-      | yes y ↦ omega (arith, place-digit s a i, digit-lt-64 h i y)
-      | no y ↦ omega (arith, place-digit s a i, digit-past s a i (omega arith))
-    ]
-
-digits-part : (r : ℕ) (ds : List ℕ) (i : ℕ) → (r ≡ 0 → getD ds i 0 < 4294967296) → getD (answer r noDigits (someDigits ds) .places) i 0 < 4294967296
-digits-part zero ds i f = f refl
-digits-part (suc r) ds i f = zeros-small 4 i
-
-digits-at : (s : Shape) (a i : ℕ) → getD (digitsAnswer s a .places) i 0 < 4294967296
-unfolding digitsAnswer
-digits-at s a i =
-    digits-part (serverRefusal s a) (filled 4 (digits s a)) i (λ z. padded-small (server-of s a z) i)
-
--- each place fits four bytes
-pub place-small : (s : Shape) (a i : ℕ) {x : Digits} → x ≡ digitsAnswer s a → getD (x .places) i 0 < 4294967296
-place-small s a i {x} e = subst (λ (z : Digits). getD (z .places) i 0 < 4294967296) (sym e) (digits-at s a i)
 
 digits-refusal : (r v : ℕ) (ds : List ℕ) → r ≤ 23 → v < 4294967296 → Small (answer r noDigits (someDigits ds) .refusal) v
 digits-refusal zero v ds h k = none-small v k
@@ -186,41 +176,6 @@ digits-with s a v k = digits-refusal (serverRefusal s a) v (filled 4 (digits s a
 
 pub digits-fits : (s : Shape) (a v : ℕ) {x : Digits} → v < 4294967296 → x ≡ digitsAnswer s a → Small (x .refusal) v
 digits-fits s a v {x} k e = subst (λ (z : Digits). Small (z .refusal) v) (sym e) (digits-with s a v k)
-
-digits-four-long : (r : ℕ) (ds : List ℕ) → (r ≡ 0 → length ds ≡ 4) → length (answer r noDigits (someDigits ds) .places) ≡ 4
-digits-four-long zero ds f = f refl
-digits-four-long (suc r) ds f = refl
-
-digits-four : (s : Shape) (a : ℕ) → length (digitsAnswer s a .places) ≡ 4
-unfolding digitsAnswer
-digits-four s a =
-    digits-four-long (serverRefusal s a) (filled 4 (digits s a))
-    (λ z. length-filled 4 (digits s a) (omega (arith, levels-long s a, server-of s a z .valid .levels)))
-
--- and there are four
-pub digits-long : (s : Shape) (a : ℕ) {x : Digits} → x ≡ digitsAnswer s a → length (x .places) ≡ 4
-digits-long s a {x} e = ap (λ (z : Digits). length (z .places)) e ∙ digits-four s a
-
--- a buffer that keeps what was lent
-pub digits-kept : (f : Shape → Digits) {s t : Shape} {x : Digits} (lent : List ℕ) → x .refusal .number ≢ 0 → x ≡ f s → s ≡ t → lent ≡ left (f t .refusal .number) lent (f t .places)
-digits-kept f {s} {t} {x} lent h e g =
-    left-lent (x .refusal .number) lent (x .places) h
-    ∙ ap (λ (z : Digits). left (z .refusal .number) lent (z .places)) (e ∙ ap f g)
-
--- a list of four, place by place
-pub four-places : (ds : List ℕ) → length ds ≡ 4 → getD ds 0 0 ∷ getD ds 1 0 ∷ getD ds 2 0 ∷ getD ds 3 0 ∷ [] ≡ ds
-four-places [] e = let z : ⊥ = omega arith in absurd z
-four-places (p ∷ []) e = let z : ⊥ = omega arith in absurd z
-four-places (p ∷ q ∷ []) e = let z : ⊥ = omega arith in absurd z
-four-places (p ∷ q ∷ r ∷ []) e = let z : ⊥ = omega arith in absurd z
-four-places (p ∷ q ∷ r ∷ t ∷ []) e = refl
-four-places (p ∷ q ∷ r ∷ t ∷ u ∷ ds) e = let z : ⊥ = omega arith in absurd z
-
-pub digits-put : (f : Shape → Digits) {s t : Shape} {x : Digits} (lent : List ℕ) → length (x .places) ≡ 4 → x .refusal .number ≡ 0 → x ≡ f s → s ≡ t → getD (x .places) 0 0 ∷ getD (x .places) 1 0 ∷ getD (x .places) 2 0 ∷ getD (x .places) 3 0 ∷ [] ≡ left (f t .refusal .number) lent (f t .places)
-digits-put f {s} {t} {x} lent l h e g =
-    four-places (x .places) l
-    ∙ left-given (x .refusal .number) lent (x .places) h
-    ∙ ap (λ (z : Digits). left (z .refusal .number) lent (z .places)) (e ∙ ap f g)
 
 -- ---- the failed-link table
 
@@ -235,12 +190,12 @@ asked-at s t a l v k = asked-part (tableLinkRefusal s t a l) v (failed t a l) (t
 pub asked-fits : (s : Shape) (t : List ℕ) (a l v : ℕ) {x : Asked} → v < 4294967296 → x ≡ failedAnswer s t a l → Small (x .refusal) v
 asked-fits s t a l v {x} k e = subst (λ (z : Asked). Small (z .refusal) v) (sym e) (asked-at s t a l v k)
 
-pub failed-said : (f : Shape → Asked) {s t : Shape} {x : Asked} {w : ℕ} → w ≡ word (x .refusal) 1 → x .failed ≡ true → x ≡ f s → s ≡ t → w ≡ askedWord (f t)
+pub failed-said : (f : Shape → Asked) {s t : Shape} {x : Asked} {w : Answer} → w ≡ word (x .refusal) 1 → x .failed ≡ true → x ≡ f s → s ≡ t → w ≡ askedWord (f t)
 unfolding askedWord
 failed-said f {s} {t} {x} {w} h q e g =
     h ∙ ap (λ (b : Bool). word (x .refusal) (cond b 1 0)) (sym q) ∙ ap askedWord (e ∙ ap f g)
 
-pub live-said : (f : Shape → Asked) {s t : Shape} {x : Asked} {w : ℕ} → w ≡ word (x .refusal) 0 → x .failed ≡ false → x ≡ f s → s ≡ t → w ≡ askedWord (f t)
+pub live-said : (f : Shape → Asked) {s t : Shape} {x : Asked} {w : Answer} → w ≡ word (x .refusal) 0 → x .failed ≡ false → x ≡ f s → s ≡ t → w ≡ askedWord (f t)
 unfolding askedWord
 live-said f {s} {t} {x} {w} h q e g =
     h ∙ ap (λ (b : Bool). word (x .refusal) (cond b 1 0)) (sym q) ∙ ap askedWord (e ∙ ap f g)
@@ -252,3 +207,8 @@ link-at s t a l v k = plain-with (tableLinkRefusal s t a l) v (table-link-le s t
 
 pub link-fits : (s : Shape) (t : List ℕ) (a l v : ℕ) {x : Refusal} → v < 4294967296 → x ≡ linkAnswer s t a l → Small x v
 link-fits s t a l v {x} k e = subst (λ (z : Refusal). Small z v) (sym e) (link-at s t a l v k)
+
+-- and so do marking and clearing a whole server
+pub server-fits : (s : Shape) (t : List ℕ) (a : ℕ) {x : Refusal} → x ≡ serverAnswer s t a → Small x 0
+unfolding serverAnswer
+server-fits s t a {x} e = subst (λ (z : Refusal). Small z 0) (sym e) (plain-with (tableServerRefusal s t a) 0 (table-server-le s t a) (lit< tt))

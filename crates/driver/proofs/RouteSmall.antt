@@ -14,6 +14,7 @@ use Rattle.room.specs.Refusals.{endsRefusal}
 use Rattle.room.specs.Shapes.{Ends}
 use Rattle.room.proofs.RefusalLaws.{ends-of}
 use Rattle.links.specs.Table.{roomRefusal}
+use Rattle.links.proofs.TableLaws.{room-of}
 use Rattle.path.specs.Routes.{encode}
 use Rattle.build.specs.declared.Building.{Building}
 use Rattle.build.specs.declared.RouteSet.{RouteSet}
@@ -27,11 +28,11 @@ use Rattle.finder.proofs.AnswerLaws.{given-some, found-refusal, found-or-none}
 use Rattle.select.specs.declared.Selection.{Selection}
 use Rattle.select.specs.Selection.{Selecting, GivesRoutes, selection}
 use Rattle.select.proofs.SlotLaws.{all-settled}
-use Rattle.select.proofs.SelectLaws.{select-ends, select-le}
+use Rattle.driver.specs.declared.Answer.{Answer}
 use Rattle.driver.specs.Words.{word, Small, left}
 use Rattle.driver.specs.Routes.{FoundWord, SelectedWord}
-use Rattle.driver.proofs.WordLaws.{chain-le, none-small, plain-small}
-use Rattle.driver.proofs.BoundLaws.{ends-le, table-le}
+use Rattle.driver.proofs.WordLaws.{none-small, plain-small}
+use Rattle.driver.proofs.BoundLaws.{ends-le, room-le}
 
 -- ---- built routes
 
@@ -49,29 +50,25 @@ build-small s a d x e =
     (building-small (endsRefusal s a d) (setOf (builtArrays s a d)) (ends-le s a d) (λ z. let h = ends-of s a d z in omega (arith, arrays-count s a d, h .source .valid .levels)))
 
 -- what the call says of the answer of the builder, asked with the shape t
-pub build-said : {s t : Shape} (a d : ℕ) {w : ℕ} {x : Building} (lent : List ℕ) {bytes : List ℕ} → x ≡ buildAnswer s a d → s ≡ t → w ≡ word (x .refusal) (x .routes .count) → bytes ≡ left (x .refusal .number) lent (x .routes .bytes) → (w ≡ word (buildAnswer t a d .refusal) (buildAnswer t a d .routes .count)) × (bytes ≡ left (buildAnswer t a d .refusal .number) lent (buildAnswer t a d .routes .bytes))
+pub build-said : {s t : Shape} (a d : ℕ) {w : Answer} {x : Building} (lent : List ℕ) {bytes : List ℕ} → x ≡ buildAnswer s a d → s ≡ t → w ≡ word (x .refusal) (x .routes .count) → bytes ≡ left (x .refusal .number) lent (x .routes .bytes) → (w ≡ word (buildAnswer t a d .refusal) (buildAnswer t a d .routes .count)) × (bytes ≡ left (buildAnswer t a d .refusal .number) lent (buildAnswer t a d .routes .bytes))
 build-said {s} {t} a d {w} {x} lent {bytes} e g h f =
     let q : x ≡ buildAnswer t a d = e ∙ ap (λ (z : Shape). buildAnswer z a d) g in
     (h ∙ ap (λ (y : Building). word (y .refusal) (y .routes .count)) q, f ∙ ap (λ (y : Building). left (y .refusal .number) lent (y .routes .bytes)) q)
 
 -- ---- the alternate
 
-find-le : (s : Shape) (t : List ℕ) (a d : ℕ) → roomRefusal s t a d ≤ 23
-unfolding roomRefusal
-find-le s t a d = chain-le 23 (endsRefusal s a d) _ (ends-le s a d) (table-le s t)
-
 pub find-small : {s : Shape} {t : List ℕ} {a d : ℕ} (x : Found) → Finding s t a d x → Small (x .refusal) (x .hops)
 find-small {s} {t} {a} {d} x f =
     elim (ℕ-discrete (roomRefusal s t a d) 0) [
       | yes z ↦ subst (λ (r : Refusal). Small r (x .hops)) (sym (found-refusal f ∙ ap plain z)) (none-small (x .hops) (few z))
-      | no n ↦ subst (λ (y : Found). Small (y .refusal) (y .hops)) (sym (f .refused n)) (plain-small (roomRefusal s t a d) (find-le s t a d))
+      | no n ↦ subst (λ (y : Found). Small (y .refusal) (y .hops)) (sym (f .refused n)) (plain-small (roomRefusal s t a d) (room-le s t a d))
     ]
   where
     few : roomRefusal s t a d ≡ 0 → x .hops < 4294967296
     few z =
         ⊎-elim (λ g. let h = given-some g .1 in omega arith) (λ g. omega (arith, ap (λ (y : Found). y .hops) (g .0))) (found-or-none f z)
 
-pub find-said : {s e : Shape} {t : List ℕ} {a d w : ℕ} {x : Found} {lent path : List ℕ} → Finding s t a d x → s ≡ e → w ≡ word (x .refusal) (x .hops) → path ≡ left (x .refusal .number) lent (x .bytes) → FoundWord e t a d w lent path
+pub find-said : {s e : Shape} {t : List ℕ} {a d : ℕ} {w : Answer} {x : Found} {lent path : List ℕ} → Finding s t a d x → s ≡ e → w ≡ word (x .refusal) (x .hops) → path ≡ left (x .refusal .number) lent (x .bytes) → FoundWord e t a d w lent path
 find-said {t = t} {a} {d} {w} {x} {lent} {path} f g h p =
     subst (λ (z : Shape). FoundWord z t a d w lent path) g (record { answer = x; finding = f; says = h; leaves = p })
 
@@ -92,8 +89,8 @@ chosen-small s (vs ∷ vss) h = none-small (length (map (encode s) (vs ∷ vss))
 pub select-small : {s : Shape} {t : List ℕ} {a d : ℕ} (x : Selection) → Selecting s t a d x → Small (x .refusal) (x .routes .count)
 select-small {s} {t} {a} {d} x f =
     elim (ℕ-discrete (roomRefusal s t a d) 0) [
-      | yes z ↦ given (f .given z) (select-ends s t a d z)
-      | no n ↦ subst (λ (y : Selection). Small (y .refusal) (y .routes .count)) (sym (f .refused n)) (plain-small (roomRefusal s t a d) (let h = select-le s t a d in omega arith))
+      | yes z ↦ given (f .given z) (room-of s t a d z .0)
+      | no n ↦ subst (λ (y : Selection). Small (y .refusal) (y .routes .count)) (sym (f .refused n)) (plain-small (roomRefusal s t a d) (room-le s t a d))
     ]
   where
     given : GivesRoutes s t a d x → Ends s a d → Small (x .refusal) (x .routes .count)
@@ -101,6 +98,6 @@ select-small {s} {t} {a} {d} x f =
         let h = all-settled t e (c .slots) in
         subst (λ (y : Selection). Small (y .refusal) (y .routes .count)) (sym (c .answer)) (chosen-small s (c .routes) (omega (arith, h .few, e .source .valid .levels)))
 
-pub select-said : {s e : Shape} {t : List ℕ} {a d w : ℕ} {x : Selection} {lent routes : List ℕ} → Selecting s t a d x → s ≡ e → w ≡ word (x .refusal) (x .routes .count) → routes ≡ left (x .refusal .number) lent (x .routes .bytes) → SelectedWord e t a d w lent routes
+pub select-said : {s e : Shape} {t : List ℕ} {a d : ℕ} {w : Answer} {x : Selection} {lent routes : List ℕ} → Selecting s t a d x → s ≡ e → w ≡ word (x .refusal) (x .routes .count) → routes ≡ left (x .refusal .number) lent (x .routes .bytes) → SelectedWord e t a d w lent routes
 select-said {t = t} {a} {d} {w} {x} {lent} {routes} f g h p =
     subst (λ (z : Shape). SelectedWord z t a d w lent routes) g (record { answer = x; selecting = f; says = h; leaves = p })

@@ -13,8 +13,23 @@ use Rattle.finder.specs.declared.Found.{Found}
 use Rattle.finder.proofs.Unique.{finding-unique}
 use Rattle.select.specs.declared.Selection.{Selection}
 use Rattle.select.proofs.OneAnswer.{selecting-unique}
+use Rattle.driver.specs.declared.Answer.{Answer}
 use Rattle.driver.specs.Words.{word, left}
 use Rattle.driver.specs.Routes.{FoundWord, SelectedWord}
+use Rattle.driver.proofs.rooms.bcube_switches.Reads as bcube-switches
+use Rattle.driver.proofs.rooms.bcube_switches.Kinds as bcube-switches-kinds
+use Rattle.driver.proofs.rooms.bcube_server_at.Reads as bcube-server-at
+use Rattle.driver.proofs.rooms.bcube_server_at.Kinds as bcube-server-at-kinds
+use Rattle.driver.proofs.paths.bcube_path_byte.Reads as bcube-path-byte
+use Rattle.driver.proofs.paths.bcube_path_byte.Kinds as bcube-path-byte-kinds
+use Rattle.driver.proofs.paths.bcube_path_byte_parts.Reads as bcube-path-byte-parts
+use Rattle.driver.proofs.paths.bcube_path_byte_parts.Kinds as bcube-path-byte-parts-kinds
+use Rattle.driver.proofs.marks.bcube_mark_server.Reads as bcube-mark-server
+use Rattle.driver.proofs.marks.bcube_mark_server.Kinds as bcube-mark-server-kinds
+use Rattle.driver.proofs.marks.bcube_clear_server.Reads as bcube-clear-server
+use Rattle.driver.proofs.marks.bcube_clear_server.Kinds as bcube-clear-server-kinds
+use Rattle.driver.proofs.shapes.bcube_version.Reads as bcube-version
+use Rattle.driver.proofs.shapes.bcube_version.Kinds as bcube-version-kinds
 use Rattle.driver.proofs.rooms.bcube_shape.Reads as bcube-shape
 use Rattle.driver.proofs.rooms.bcube_shape.Kinds as bcube-shape-kinds
 use Rattle.driver.proofs.rooms.bcube_servers.Reads as bcube-servers
@@ -57,10 +72,16 @@ use Rattle.driver.proofs.picks.bcube_pick.Reads as bcube-pick
 use Rattle.driver.proofs.picks.bcube_pick.Kinds as bcube-pick-kinds
 use Rattle.driver.proofs.steps.bcube_step.Reads as bcube-step
 use Rattle.driver.proofs.steps.bcube_step.Kinds as bcube-step-kinds
-use Rattle.driver.proofs.steps.bcube_step_mac.Reads as bcube-step-mac
-use Rattle.driver.proofs.steps.bcube_step_mac.Kinds as bcube-step-mac-kinds
+use Rattle.driver.proofs.shapes.bcube_room_of.Reads as bcube-room-of
+use Rattle.driver.proofs.shapes.bcube_room_of.Kinds as bcube-room-of-kinds
 
 -- ---- rooms and failed links
+
+pub bcube-room-of-unique : Determined 0 bcube-room-of-kinds.ps bcube-room-of-kinds.r bcube-room-of.Post
+bcube-room-of-unique κs a x y s t e f = e ∙ sym f
+
+pub bcube-version-unique : Determined 0 bcube-version-kinds.ps bcube-version-kinds.r bcube-version.Post
+bcube-version-unique κs a x y s t e f = e ∙ sym f
 
 pub bcube-shape-unique : Determined 0 bcube-shape-kinds.ps bcube-shape-kinds.r bcube-shape.Post
 bcube-shape-unique κs a x y s t e f = e ∙ sym f
@@ -71,11 +92,14 @@ bcube-servers-unique κs a x y s t e f = e ∙ sym f
 pub bcube-bound-unique : Determined 0 bcube-bound-kinds.ps bcube-bound-kinds.r bcube-bound.Post
 bcube-bound-unique κs a x y s t e f = e ∙ sym f
 
+pub bcube-switches-unique : Determined 0 bcube-switches-kinds.ps bcube-switches-kinds.r bcube-switches.Post
+bcube-switches-unique κs a x y s t e f = e ∙ sym f
+
 pub bcube-digits-unique : Determined 1 bcube-digits-kinds.ps bcube-digits-kinds.r bcube-digits.Post
 bcube-digits-unique κs a x y s t e f = e .0 ∙ sym (f .0)
 
--- the digits in the buffer at exit, its fourth parameter
-pub bcube-digits-leaves : (κs : Lfts 1) (a : Dens κs bcube-digits-kinds.ps) (x y : resT bcube-digits-kinds.r κs .Denot) (s t : AtExit (endedOf 1 bcube-digits-kinds.ps bcube-digits-kinds.r) κs) → bcube-digits.Post κs a x s → bcube-digits.Post κs a y t → now (s .1 .1 .1 .0) ≡ now (t .1 .1 .1 .0)
+-- the digits in the buffer at exit, its third parameter
+pub bcube-digits-leaves : (κs : Lfts 1) (a : Dens κs bcube-digits-kinds.ps) (x y : resT bcube-digits-kinds.r κs .Denot) (s t : AtExit (endedOf 1 bcube-digits-kinds.ps bcube-digits-kinds.r) κs) → bcube-digits.Post κs a x s → bcube-digits.Post κs a y t → now (s .1 .1 .0) ≡ now (t .1 .1 .0)
 bcube-digits-leaves κs a x y s t e f = e .1 ∙ sym (f .1)
 
 pub bcube-digit-unique : Determined 0 bcube-digit-kinds.ps bcube-digit-kinds.r bcube-digit.Post
@@ -86,6 +110,9 @@ bcube-address-unique κs a x y s t e f = e ∙ sym f
 
 pub bcube-switch-unique : Determined 0 bcube-switch-kinds.ps bcube-switch-kinds.r bcube-switch.Post
 bcube-switch-unique κs a x y s t e f = e ∙ sym f
+
+pub bcube-server-at-unique : Determined 0 bcube-server-at-kinds.ps bcube-server-at-kinds.r bcube-server-at.Post
+bcube-server-at-unique κs a x y s t e f = e ∙ sym f
 
 pub bcube-neighbour-unique : Determined 0 bcube-neighbour-kinds.ps bcube-neighbour-kinds.r bcube-neighbour.Post
 bcube-neighbour-unique κs a x y s t e f = e ∙ sym f
@@ -99,38 +126,58 @@ bcube-failed-link-unique κs a x y s t e f = e ∙ sym f
 pub bcube-mark-link-unique : Determined 1 bcube-mark-link-kinds.ps bcube-mark-link-kinds.r bcube-mark-link.Post
 bcube-mark-link-unique κs a x y s t e f = e .0 ∙ sym (f .0)
 
--- the bytes of the table at exit, its fifth parameter
-pub bcube-mark-link-leaves : (κs : Lfts 1) (a : Dens κs bcube-mark-link-kinds.ps) (x y : resT bcube-mark-link-kinds.r κs .Denot) (s t : AtExit (endedOf 1 bcube-mark-link-kinds.ps bcube-mark-link-kinds.r) κs) → bcube-mark-link.Post κs a x s → bcube-mark-link.Post κs a y t → now (s .1 .1 .1 .1 .0) ≡ now (t .1 .1 .1 .1 .0)
+-- the bytes of the table at exit, its fourth parameter
+pub bcube-mark-link-leaves : (κs : Lfts 1) (a : Dens κs bcube-mark-link-kinds.ps) (x y : resT bcube-mark-link-kinds.r κs .Denot) (s t : AtExit (endedOf 1 bcube-mark-link-kinds.ps bcube-mark-link-kinds.r) κs) → bcube-mark-link.Post κs a x s → bcube-mark-link.Post κs a y t → now (s .1 .1 .1 .0) ≡ now (t .1 .1 .1 .0)
 bcube-mark-link-leaves κs a x y s t e f = e .1 ∙ sym (f .1)
 
 pub bcube-clear-link-unique : Determined 1 bcube-clear-link-kinds.ps bcube-clear-link-kinds.r bcube-clear-link.Post
 bcube-clear-link-unique κs a x y s t e f = e .0 ∙ sym (f .0)
 
--- the bytes of the table at exit, its fifth parameter
-pub bcube-clear-link-leaves : (κs : Lfts 1) (a : Dens κs bcube-clear-link-kinds.ps) (x y : resT bcube-clear-link-kinds.r κs .Denot) (s t : AtExit (endedOf 1 bcube-clear-link-kinds.ps bcube-clear-link-kinds.r) κs) → bcube-clear-link.Post κs a x s → bcube-clear-link.Post κs a y t → now (s .1 .1 .1 .1 .0) ≡ now (t .1 .1 .1 .1 .0)
+-- the bytes of the table at exit, its fourth parameter
+pub bcube-clear-link-leaves : (κs : Lfts 1) (a : Dens κs bcube-clear-link-kinds.ps) (x y : resT bcube-clear-link-kinds.r κs .Denot) (s t : AtExit (endedOf 1 bcube-clear-link-kinds.ps bcube-clear-link-kinds.r) κs) → bcube-clear-link.Post κs a x s → bcube-clear-link.Post κs a y t → now (s .1 .1 .1 .0) ≡ now (t .1 .1 .1 .0)
 bcube-clear-link-leaves κs a x y s t e f = e .1 ∙ sym (f .1)
 
+pub bcube-mark-server-unique : Determined 1 bcube-mark-server-kinds.ps bcube-mark-server-kinds.r bcube-mark-server.Post
+bcube-mark-server-unique κs a x y s t e f = e .0 ∙ sym (f .0)
+
+-- the bytes of the table at exit, its third parameter
+pub bcube-mark-server-leaves : (κs : Lfts 1) (a : Dens κs bcube-mark-server-kinds.ps) (x y : resT bcube-mark-server-kinds.r κs .Denot) (s t : AtExit (endedOf 1 bcube-mark-server-kinds.ps bcube-mark-server-kinds.r) κs) → bcube-mark-server.Post κs a x s → bcube-mark-server.Post κs a y t → now (s .1 .1 .0) ≡ now (t .1 .1 .0)
+bcube-mark-server-leaves κs a x y s t e f = e .1 ∙ sym (f .1)
+
+pub bcube-clear-server-unique : Determined 1 bcube-clear-server-kinds.ps bcube-clear-server-kinds.r bcube-clear-server.Post
+bcube-clear-server-unique κs a x y s t e f = e .0 ∙ sym (f .0)
+
+-- the bytes of the table at exit, its third parameter
+pub bcube-clear-server-leaves : (κs : Lfts 1) (a : Dens κs bcube-clear-server-kinds.ps) (x y : resT bcube-clear-server-kinds.r κs .Denot) (s t : AtExit (endedOf 1 bcube-clear-server-kinds.ps bcube-clear-server-kinds.r) κs) → bcube-clear-server.Post κs a x s → bcube-clear-server.Post κs a y t → now (s .1 .1 .0) ≡ now (t .1 .1 .0)
+bcube-clear-server-leaves κs a x y s t e f = e .1 ∙ sym (f .1)
+
 -- ---- path bytes and lists
+
+pub bcube-path-byte-unique : Determined 0 bcube-path-byte-kinds.ps bcube-path-byte-kinds.r bcube-path-byte.Post
+bcube-path-byte-unique κs a x y s t e f = e ∙ sym f
+
+pub bcube-path-byte-parts-unique : Determined 0 bcube-path-byte-parts-kinds.ps bcube-path-byte-parts-kinds.r bcube-path-byte-parts.Post
+bcube-path-byte-parts-unique κs a x y s t e f = e ∙ sym f
 
 pub bcube-read-unique : Determined 2 bcube-read-kinds.ps bcube-read-kinds.r bcube-read.Post
 bcube-read-unique κs a x y s t e f = e .0 ∙ sym (f .0)
 
--- the numbers of `servers` at exit, its sixth parameter
-pub bcube-read-leaves : (κs : Lfts 2) (a : Dens κs bcube-read-kinds.ps) (x y : resT bcube-read-kinds.r κs .Denot) (s t : AtExit (endedOf 2 bcube-read-kinds.ps bcube-read-kinds.r) κs) → bcube-read.Post κs a x s → bcube-read.Post κs a y t → now (s .1 .1 .1 .1 .1 .0) ≡ now (t .1 .1 .1 .1 .1 .0)
+-- the numbers of `servers` at exit, its fifth parameter
+pub bcube-read-leaves : (κs : Lfts 2) (a : Dens κs bcube-read-kinds.ps) (x y : resT bcube-read-kinds.r κs .Denot) (s t : AtExit (endedOf 2 bcube-read-kinds.ps bcube-read-kinds.r) κs) → bcube-read.Post κs a x s → bcube-read.Post κs a y t → now (s .1 .1 .1 .1 .0) ≡ now (t .1 .1 .1 .1 .0)
 bcube-read-leaves κs a x y s t e f = e .1 ∙ sym (f .1)
 
 pub bcube-write-unique : Determined 2 bcube-write-kinds.ps bcube-write-kinds.r bcube-write.Post
 bcube-write-unique κs a x y s t e f = e .0 ∙ sym (f .0)
 
--- the numbers of `path` at exit, its fourth parameter
-pub bcube-write-leaves : (κs : Lfts 2) (a : Dens κs bcube-write-kinds.ps) (x y : resT bcube-write-kinds.r κs .Denot) (s t : AtExit (endedOf 2 bcube-write-kinds.ps bcube-write-kinds.r) κs) → bcube-write.Post κs a x s → bcube-write.Post κs a y t → now (s .1 .1 .1 .0) ≡ now (t .1 .1 .1 .0)
+-- the numbers of `path` at exit, its third parameter
+pub bcube-write-leaves : (κs : Lfts 2) (a : Dens κs bcube-write-kinds.ps) (x y : resT bcube-write-kinds.r κs .Denot) (s t : AtExit (endedOf 2 bcube-write-kinds.ps bcube-write-kinds.r) κs) → bcube-write.Post κs a x s → bcube-write.Post κs a y t → now (s .1 .1 .0) ≡ now (t .1 .1 .0)
 bcube-write-leaves κs a x y s t e f = e .1 ∙ sym (f .1)
 
 pub bcube-reverse-unique : Determined 2 bcube-reverse-kinds.ps bcube-reverse-kinds.r bcube-reverse.Post
 bcube-reverse-unique κs a x y s t e f = e .0 ∙ sym (f .0)
 
--- the numbers of `reversed` at exit, its sixth parameter
-pub bcube-reverse-leaves : (κs : Lfts 2) (a : Dens κs bcube-reverse-kinds.ps) (x y : resT bcube-reverse-kinds.r κs .Denot) (s t : AtExit (endedOf 2 bcube-reverse-kinds.ps bcube-reverse-kinds.r) κs) → bcube-reverse.Post κs a x s → bcube-reverse.Post κs a y t → now (s .1 .1 .1 .1 .1 .0) ≡ now (t .1 .1 .1 .1 .1 .0)
+-- the numbers of `reversed` at exit, its fifth parameter
+pub bcube-reverse-leaves : (κs : Lfts 2) (a : Dens κs bcube-reverse-kinds.ps) (x y : resT bcube-reverse-kinds.r κs .Denot) (s t : AtExit (endedOf 2 bcube-reverse-kinds.ps bcube-reverse-kinds.r) κs) → bcube-reverse.Post κs a x s → bcube-reverse.Post κs a y t → now (s .1 .1 .1 .1 .0) ≡ now (t .1 .1 .1 .1 .0)
 bcube-reverse-leaves κs a x y s t e f = e .1 ∙ sym (f .1)
 
 pub bcube-check-unique : Determined 2 bcube-check-kinds.ps bcube-check-kinds.r bcube-check.Post
@@ -138,7 +185,7 @@ bcube-check-unique κs a x y s t e f = e ∙ sym f
 
 -- ---- routes, picking, the step
 
-module _ {s : Shape} {t : List ℕ} {a d v w : ℕ} {lent x y : List ℕ} where
+module _ {s : Shape} {t : List ℕ} {a d : ℕ} {v w : Answer} {lent x y : List ℕ} where
   found-word : FoundWord s t a d v lent x → FoundWord s t a d w lent y → v ≡ w
   found-word p q =
       p .says ∙ ap (λ (z : Found). word (z .refusal) (z .hops)) (finding-unique s t a d (p .answer) (q .answer) (p .finding) (q .finding)) ∙ sym (q .says)
@@ -159,21 +206,21 @@ pub bcube-build-unique : Determined 1 bcube-build-kinds.ps bcube-build-kinds.r b
 bcube-build-unique κs a x y s t e f = e .0 ∙ sym (f .0)
 
 -- the bytes of the routes at exit
-pub bcube-build-leaves : (κs : Lfts 1) (a : Dens κs bcube-build-kinds.ps) (x y : resT bcube-build-kinds.r κs .Denot) (s t : AtExit (endedOf 1 bcube-build-kinds.ps bcube-build-kinds.r) κs) → bcube-build.Post κs a x s → bcube-build.Post κs a y t → now (s .1 .1 .1 .1 .0) ≡ now (t .1 .1 .1 .1 .0)
+pub bcube-build-leaves : (κs : Lfts 1) (a : Dens κs bcube-build-kinds.ps) (x y : resT bcube-build-kinds.r κs .Denot) (s t : AtExit (endedOf 1 bcube-build-kinds.ps bcube-build-kinds.r) κs) → bcube-build.Post κs a x s → bcube-build.Post κs a y t → now (s .1 .1 .1 .0) ≡ now (t .1 .1 .1 .0)
 bcube-build-leaves κs a x y s t e f = e .1 ∙ sym (f .1)
 
 pub bcube-find-unique : Determined 2 bcube-find-kinds.ps bcube-find-kinds.r bcube-find.Post
 bcube-find-unique κs a x y s t e f = found-word e f
 
 -- the bytes of the path at exit
-pub bcube-find-leaves : (κs : Lfts 2) (a : Dens κs bcube-find-kinds.ps) (x y : resT bcube-find-kinds.r κs .Denot) (s t : AtExit (endedOf 2 bcube-find-kinds.ps bcube-find-kinds.r) κs) → bcube-find.Post κs a x s → bcube-find.Post κs a y t → now (s .1 .1 .1 .1 .1 .0) ≡ now (t .1 .1 .1 .1 .1 .0)
+pub bcube-find-leaves : (κs : Lfts 2) (a : Dens κs bcube-find-kinds.ps) (x y : resT bcube-find-kinds.r κs .Denot) (s t : AtExit (endedOf 2 bcube-find-kinds.ps bcube-find-kinds.r) κs) → bcube-find.Post κs a x s → bcube-find.Post κs a y t → now (s .1 .1 .1 .1 .0) ≡ now (t .1 .1 .1 .1 .0)
 bcube-find-leaves κs a x y s t e f = found-left e f
 
 pub bcube-select-unique : Determined 2 bcube-select-kinds.ps bcube-select-kinds.r bcube-select.Post
 bcube-select-unique κs a x y s t e f = selected-word e f
 
 -- the bytes of the routes at exit
-pub bcube-select-leaves : (κs : Lfts 2) (a : Dens κs bcube-select-kinds.ps) (x y : resT bcube-select-kinds.r κs .Denot) (s t : AtExit (endedOf 2 bcube-select-kinds.ps bcube-select-kinds.r) κs) → bcube-select.Post κs a x s → bcube-select.Post κs a y t → now (s .1 .1 .1 .1 .1 .0) ≡ now (t .1 .1 .1 .1 .1 .0)
+pub bcube-select-leaves : (κs : Lfts 2) (a : Dens κs bcube-select-kinds.ps) (x y : resT bcube-select-kinds.r κs .Denot) (s t : AtExit (endedOf 2 bcube-select-kinds.ps bcube-select-kinds.r) κs) → bcube-select.Post κs a x s → bcube-select.Post κs a y t → now (s .1 .1 .1 .1 .0) ≡ now (t .1 .1 .1 .1 .0)
 bcube-select-leaves κs a x y s t e f = selected-left e f
 
 pub bcube-pick-unique : Determined 3 bcube-pick-kinds.ps bcube-pick-kinds.r bcube-pick.Post
@@ -181,6 +228,3 @@ bcube-pick-unique κs a x y s t e f = e ∙ sym f
 
 pub bcube-step-unique : Determined 2 bcube-step-kinds.ps bcube-step-kinds.r bcube-step.Post
 bcube-step-unique κs a x y s t e f = e ∙ sym f
-
-pub bcube-step-mac-unique : Determined 2 bcube-step-mac-kinds.ps bcube-step-mac-kinds.r bcube-step-mac.Post
-bcube-step-mac-unique κs a x y s t e f = e ∙ sym f

@@ -11,10 +11,11 @@ use Rattle.refusals.specs.Refusals.{none, plain, _or-else_, _unless_, answer}
 use Rattle.room.specs.declared.Shape.{Shape}
 use Rattle.room.specs.declared.Number.{Number}
 use Rattle.room.specs.Answers.{noNumber, aNumber}
+use Rattle.driver.specs.declared.Answer.{Answer}
 use Rattle.driver.specs.Words.{word, refusalIn, valueIn, Small, left}
 
 -- the sum that the code makes is the word
-pub word-made : (r : Refusal) (v : ℕ) → 4294967296 * v + (65536 * r .hop + (256 * r .route + r .number)) ≡ word r v
+pub word-made : (r : Refusal) (v : ℕ) → _≡_ {A = Answer} (record { word = 4294967296 * v + (65536 * r .hop + (256 * r .route + r .number)) }) (word r v)
 unfolding word
 word-made r v = refl
 
@@ -37,7 +38,7 @@ refusal-back r v h =
     let e1 : (256 * (65536 * v + r .hop) + r .route) % 256 ≡ r .route = omega arith in
     let f2 : w / 65536 ≡ 256 * (256 * v) + r .hop = omega arith in
     let e2 : (256 * (256 * v) + r .hop) % 256 ≡ r .hop = omega arith in
-    refusal-same (refusalIn w) r e0 (ap (λ (q : ℕ). q % 256) f1 ∙ e1) (ap (λ (q : ℕ). q % 256) f2 ∙ e2)
+    refusal-same (refusalIn (record { word = w })) r e0 (ap (λ (q : ℕ). q % 256) f1 ∙ e1) (ap (λ (q : ℕ). q % 256) f2 ∙ e2)
 
 pub value-back : (r : Refusal) (v : ℕ) → Small r v → valueIn (word r v) ≡ v
 unfolding word valueIn
@@ -49,7 +50,7 @@ value-back r v h =
     e
 
 -- what a call says of its answer, where it was asked with a shape that is t
-pub said : {X : Type 0} (says : X → ℕ) (f : Shape → X) {s t : Shape} {x : X} {w : ℕ} → w ≡ says x → x ≡ f s → s ≡ t → w ≡ says (f t)
+pub said : {X : Type 0} (says : X → Answer) (f : Shape → X) {s t : Shape} {x : X} {w : Answer} → w ≡ says x → x ≡ f s → s ≡ t → w ≡ says (f t)
 said says f h e g = h ∙ ap says (e ∙ ap f g)
 
 -- what is small of an answer is small of what a call answered
@@ -98,7 +99,7 @@ module _ {X : Type 0} (refusal : X → Refusal) (value : X → ℕ) where
   pub told-fits : {x y : X} → Small (refusal y) (value y) → x ≡ y → Small (refusal x) (value x)
   told-fits h e = subst (λ (z : X). Small (refusal z) (value z)) (sym e) h
 
-  module _ (f : Shape → X) {s t : Shape} {x : X} (e : x ≡ f s) (g : s ≡ t) {w : ℕ} (h : w ≡ word (refusal x) (value x)) where
+  module _ (f : Shape → X) {s t : Shape} {x : X} (e : x ≡ f s) (g : s ≡ t) {w : Answer} (h : w ≡ word (refusal x) (value x)) where
     pub told-word : w ≡ word (refusal (f t)) (value (f t))
     told-word = said (λ (z : X). word (refusal z) (value z)) f h e g
 

@@ -1,2 +1,4 @@
+pub mod Rooms
 pub mod Words
 pub mod Routes
+pub mod Packed

@@ -2,28 +2,29 @@
 use Prim.Native.Nat.{ℕ, zero, suc, _+_, _*_, _/_, _%_, _<_}
 use mathlib.Core.List.{List}
 use mathlib.Core.Bool.{cond}
-use lib.ListN.{getD}
 use Rattle.refusals.specs.declared.Refusal.{Refusal}
 use Rattle.room.specs.declared.Number.{Number}
 use Rattle.room.specs.declared.Digits.{Digits}
 use Rattle.room.specs.declared.Switch.{Switch}
 use Rattle.room.specs.declared.Between.{Between}
 use Rattle.links.specs.declared.Asked.{Asked}
+use Rattle.path.specs.declared.Parts.{Parts}
 use Rattle.path.specs.declared.Reading.{Reading}
 use Rattle.path.specs.declared.Writing.{Writing}
 use Rattle.build.specs.declared.Building.{Building}
 use Rattle.pick.specs.declared.Place.{Place}
+use Rattle.driver.specs.declared.Answer.{Answer}
 
 -- from the lowest byte: the refusal's number, its route, its hop, 0, and a number of four bytes
-unfoldable pub word : Refusal → ℕ → ℕ
-word r v = 4294967296 * v + (65536 * r .hop + (256 * r .route + r .number))
+unfoldable pub word : Refusal → ℕ → Answer
+word r v = record { word = 4294967296 * v + (65536 * r .hop + (256 * r .route + r .number)) }
 
 -- what a driver reads back of a word
-unfoldable pub refusalIn : ℕ → Refusal
-refusalIn w = record { number = w % 256; route = w / 256 % 256; hop = w / 65536 % 256 }
+unfoldable pub refusalIn : Answer → Refusal
+refusalIn a = record { number = a .word % 256; route = a .word / 256 % 256; hop = a .word / 65536 % 256 }
 
-unfoldable pub valueIn : ℕ → ℕ
-valueIn w = w / 4294967296
+unfoldable pub valueIn : Answer → ℕ
+valueIn a = a .word / 4294967296
 
 -- each part fits its place in a word
 pub record Small (r : Refusal) (v : ℕ) : Type 0 where
@@ -39,53 +40,53 @@ left (suc r) lent written = lent
 
 -- ---- the words of the answers, and the buffers left
 
-abbrev pub numberWord : Number → ℕ
+abbrev pub numberWord : Number → Answer
 numberWord x = word (x .refusal) (x .value)
 
 -- the digits in the buffer
-abbrev pub digitsWord : Digits → ℕ
+abbrev pub digitsWord : Digits → Answer
 digitsWord x = word (x .refusal) 0
 
 abbrev pub digitsLeft : List ℕ → Digits → List ℕ
 digitsLeft lent x = left (x .refusal .number) lent (x .places)
 
 -- the switch's number
-abbrev pub switchWord : Switch → ℕ
+abbrev pub switchWord : Switch → Answer
 switchWord x = word (x .refusal) (x .number)
 
 -- the level counted from 1 where two servers are neighbours, else 0
-unfoldable pub betweenWord : Between → ℕ
+unfoldable pub betweenWord : Between → Answer
 betweenWord x = word (x .refusal) (cond (x .adjacent) (suc (x .level)) 0)
 
 -- 1 where the link is failed, else 0
-unfoldable pub askedWord : Asked → ℕ
+unfoldable pub askedWord : Asked → Answer
 askedWord x = word (x .refusal) (cond (x .failed) 1 0)
 
+-- the level of a path byte and its value
+abbrev pub partsWord : Parts → Answer
+partsWord x = word (x .refusal) (256 * x .level + x .value)
+
 -- the count of the servers in the word, the servers in the buffer
-abbrev pub readingWord : Reading → ℕ
+abbrev pub readingWord : Reading → Answer
 readingWord x = word (x .refusal) (x .count)
 
 abbrev pub readingLeft : List ℕ → Reading → List ℕ
 readingLeft lent x = left (x .refusal .number) lent (x .servers)
 
 -- the path bytes in the buffer
-abbrev pub writingWord : Writing → ℕ
+abbrev pub writingWord : Writing → Answer
 writingWord x = word (x .refusal) 0
 
 abbrev pub writingLeft : List ℕ → Writing → List ℕ
 writingLeft lent x = left (x .refusal .number) lent (x .bytes)
 
 -- the count of the routes in the word, the routes in the buffer
-abbrev pub buildingWord : Building → ℕ
+abbrev pub buildingWord : Building → Answer
 buildingWord x = word (x .refusal) (x .routes .count)
 
 abbrev pub buildingLeft : List ℕ → Building → List ℕ
 buildingLeft lent x = left (x .refusal .number) lent (x .routes .bytes)
 
 -- the list that holds a picked route, and its place there
-abbrev pub placeWord : Place → ℕ
+abbrev pub placeWord : Place → Answer
 placeWord x = word (x .refusal) (256 * x .list + x .route)
-
--- each number of a list fits four bytes
-pub record FourBytes (xs : List ℕ) : Type 0 where
-  pub each : (i : ℕ) → getD xs i 0 < 4294967296

@@ -1,25 +1,32 @@
-// The static library for the driver in C: numbers and byte buffers in, one result word out. A slice is
-// passed as a pointer and a length, an array as a pointer. Every call takes every input: it answers, or
-// refuses by number and leaves every buffer as it was lent.
+// The static library for the driver in C: a room, numbers and buffers in, numbers out. A slice is passed
+// as a pointer and a length, an array as a pointer, a struct by value in one register or two; usize is
+// C's uint64_t. Every call takes every input: it answers, or refuses by number and leaves every buffer as
+// it was lent.
 // marks.rt: the failed-link table
 mod marks;
 // paths.rt: path bytes read, written and reversed, and lists checked
 mod paths;
 // picks.rt: picking a usable route
 mod picks;
-// rooms.rt: shapes, addresses, switches, neighbours
+// rooms.rt: addresses, switches, neighbours
 mod rooms;
 // routes.rt: built routes, the alternate, and selection
 mod routes;
+// shapes.rt: a room as one number, and the version
+mod shapes;
 // steps.rt: one forwarding step
 mod steps;
 // words.rt: the result word
 mod words;
 
 pub use marks::bcube_clear_link;
+pub use marks::bcube_clear_server;
 pub use marks::bcube_failed_link;
 pub use marks::bcube_mark_link;
+pub use marks::bcube_mark_server;
 pub use paths::bcube_check;
+pub use paths::bcube_path_byte;
+pub use paths::bcube_path_byte_parts;
 pub use paths::bcube_read;
 pub use paths::bcube_reverse;
 pub use paths::bcube_write;
@@ -30,11 +37,33 @@ pub use rooms::bcube_bound;
 pub use rooms::bcube_digit;
 pub use rooms::bcube_digits;
 pub use rooms::bcube_neighbour;
+pub use rooms::bcube_server_at;
 pub use rooms::bcube_servers;
 pub use rooms::bcube_shape;
 pub use rooms::bcube_switch;
+pub use rooms::bcube_switches;
 pub use routes::bcube_build;
 pub use routes::bcube_find;
 pub use routes::bcube_select;
+pub use shapes::bcube_room_of;
+pub use shapes::bcube_version;
 pub use steps::bcube_step;
-pub use steps::bcube_step_mac;
+
+// A room, as the driver holds it: n plus 256 times k. Whatever the number, a call takes it.
+#[repr(C)]
+pub struct Room {
+    pub number: u64,
+}
+
+// The answer of a call: the refusal's number, route and hop, and a value, in one word.
+#[repr(C)]
+pub struct Answer {
+    pub word: u64,
+}
+
+// The answer of a step: one word, and the MAC as one number, its first byte highest.
+#[repr(C)]
+pub struct Stepped {
+    pub word: u64,
+    pub mac: u64,
+}

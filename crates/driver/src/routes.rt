@@ -1,26 +1,27 @@
 // Built routes, the alternate, and selection.
 ghost use mathlib.Core.Path.{_≡_};
-ghost use Rattle.room.specs.Shapes.{fullRoom};
 ghost use Rattle.build.specs.Answers.{buildAnswer};
+ghost use Rattle.driver.specs.Rooms.{shapeIn};
 ghost use Rattle.driver.specs.Words.{buildingWord, buildingLeft};
 ghost use Rattle.driver.specs.Routes.{FoundWord, SelectedWord};
+use crate::Answer;
+use crate::Room;
+use crate::shapes::shape_in;
 use crate::words::result_word;
-use room::Shape;
 
 // The built routes of two servers, slots k down to 0, into 32 bytes with zeros past them; the value is
 // their count. Refusals 1, 2, 3, 4, 5.
 #[no_mangle]
 pub extern "C" fn bcube_build(
-    n: u32,
-    k: u32,
-    source: u32,
-    destination: u32,
+    room: Room,
+    source: usize,
+    destination: usize,
     routes: &mut [u8; 32],
-) -> u64
-    ensures { λ r. ⌜ (r ≡ buildingWord (buildAnswer (fullRoom n k) source destination)) × (now (routes .exit) ≡ buildingLeft (now (routes .entry)) (buildAnswer (fullRoom n k) source destination)) ⌝ }
+) -> Answer
+    ensures { λ r. ⌜ (r ≡ buildingWord (buildAnswer (shapeIn room) source destination)) × (now (routes .exit) ≡ buildingLeft (now (routes .entry)) (buildAnswer (shapeIn room) source destination)) ⌝ }
 {
-    let shape = Shape::full(n as usize, k as usize);
-    let built = build::build_routes(shape, source as usize, destination as usize);
+    let shape = shape_in(room);
+    let built = build::build_routes(shape, source, destination);
     let set = built.routes;
     if built.refusal.number == 0 {
         let bytes = set.bytes;
@@ -33,17 +34,16 @@ pub extern "C" fn bcube_build(
 // where there is no route. Refusals 1, 2, 3, 4, 5, 6.
 #[no_mangle]
 pub extern "C" fn bcube_find(
-    n: u32,
-    k: u32,
-    source: u32,
-    destination: u32,
+    room: Room,
+    source: usize,
+    destination: usize,
     table: &[u8],
     path: &mut [u8; 8],
-) -> u64
-    ensures { λ r. ⌜ FoundWord (fullRoom n k) (now (table .entry)) source destination r (now (path .entry)) (now (path .exit)) ⌝ }
+) -> Answer
+    ensures { λ r. ⌜ FoundWord (shapeIn room) (now (table .entry)) source destination r (now (path .entry)) (now (path .exit)) ⌝ }
 {
-    let shape = Shape::full(n as usize, k as usize);
-    let found = finder::find_route(shape, table, source as usize, destination as usize);
+    let shape = shape_in(room);
+    let found = finder::find_route(shape, table, source, destination);
     if found.refusal.number == 0 {
         let bytes = found.bytes;
         *path = bytes;
@@ -55,17 +55,16 @@ pub extern "C" fn bcube_find(
 // is their count. Refusals 1, 2, 3, 4, 5, 6, 16.
 #[no_mangle]
 pub extern "C" fn bcube_select(
-    n: u32,
-    k: u32,
-    source: u32,
-    destination: u32,
+    room: Room,
+    source: usize,
+    destination: usize,
     table: &[u8],
     routes: &mut [u8; 32],
-) -> u64
-    ensures { λ r. ⌜ SelectedWord (fullRoom n k) (now (table .entry)) source destination r (now (routes .entry)) (now (routes .exit)) ⌝ }
+) -> Answer
+    ensures { λ r. ⌜ SelectedWord (shapeIn room) (now (table .entry)) source destination r (now (routes .entry)) (now (routes .exit)) ⌝ }
 {
-    let shape = Shape::full(n as usize, k as usize);
-    let selected = select::select_routes(shape, table, source as usize, destination as usize);
+    let shape = shape_in(room);
+    let selected = select::select_routes(shape, table, source, destination);
     let set = selected.routes;
     if selected.refusal.number == 0 {
         let bytes = set.bytes;

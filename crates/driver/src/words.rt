@@ -1,15 +1,18 @@
 // The result word: a refusal and a number in eight bytes.
 ghost use mathlib.Core.Path.{_≡_};
 ghost use Rattle.driver.specs.Words.{word, Small};
+use crate::Answer;
 use refusals::Refusal;
 
 // The result word of a refusal and a number.
-pub(crate) fn result_word(refusal: Refusal, value: usize) -> u64
+pub(crate) fn result_word(refusal: Refusal, value: usize) -> Answer
     requires { ⌜ Small refusal value ⌝ }
     ensures { λ r. ⌜ r ≡ word refusal value ⌝ }
 {
     let number = refusal.number as u64;
     let route = refusal.route as u64;
     let hop = refusal.hop as u64;
-    4294967296 * (value as u64) + (65536 * hop + (256 * route + number))
+    Answer {
+        word: 4294967296 * (value as u64) + (65536 * hop + (256 * route + number)),
+    }
 }

@@ -7,6 +7,7 @@ use mathlib.Core.Logic.{⊎-elim}
 use mathlib.Core.List.{List, [], _∷_, _++_, append-nil, append-assoc, map, map-append}
 use lib.ListN.{length, getD, take, replicate, length-append, length-replicate}
 use lib.Seq.{take-take, length-take-le}
+use Rattle.lists.proofs.ListLaws.{same-at}
 use Rattle.refusals.specs.declared.Refusal.{Refusal}
 use Rattle.refusals.specs.Refusals.{none}
 use Rattle.finder.specs.declared.Found.{Found}
@@ -17,11 +18,6 @@ use Rattle.finder.specs.Kept.{keyed}
 use Rattle.finder.specs.Trace.{Reached, TracedBack}
 use Rattle.finder.proofs.Trail.{trail-step, trail-zero}
 use Rattle.finder.proofs.Order.{split}
-
-pub zeros : (n i : ℕ) → getD {A = ℕ} (replicate n 0) i 0 ≡ 0
-zeros zero i = refl
-zeros (suc n) zero = refl
-zeros (suc n) (suc i) = zeros n i
 
 take-zero : (m : ℕ) (l : List ℕ) (j : ℕ) → getD l j 0 ≡ 0 → getD (take m l) j 0 ≡ 0
 take-zero zero l j e = refl
@@ -129,7 +125,7 @@ pub record Tracing (k root : ℕ) (back queue : List ℕ) (dst : ℕ) (bytes : L
 module _ {k root : ℕ} {back queue : List ℕ} {dst : ℕ} where
   pub tracing-starts : (m : ℕ) → m ≡ 8 → Tracing k root back queue dst (replicate m 0) 0 dst
   tracing-starts m e =
-      record { few = omega arith; long = length-replicate {A = ℕ} m 0 ∙ e; rest = λ i h. zeros m i; along = λ p. along-start p (replicate m 0) }
+      record { few = omega arith; long = length-replicate {A = ℕ} m 0 ∙ e; rest = λ i h. same-at 0 m i; along = λ p. along-start p (replicate m 0) }
 
   module _ {bytes : List ℕ} {hops at : ℕ} (h : Tracing k root back queue dst bytes hops at) where
     -- the hop before, put in front
@@ -154,7 +150,7 @@ module _ {k root : ℕ} {back queue : List ℕ} {dst : ℕ} where
         rw e
         (record {
           refusal = refl;
-          traced = λ p. record { fits = λ few. absurd (omega (arith, more p (h .along p) away (h .long) (h .few))); over = λ many. refl; long = refl; rest = λ i few. zeros 8 i };
+          traced = λ p. record { fits = λ few. absurd (omega (arith, more p (h .along p) away (h .long) (h .few))); over = λ many. refl; long = refl; rest = λ i few. same-at 0 8 i };
         })
 
     -- the root

@@ -7,13 +7,11 @@ use mathlib.Core.List.{List, [], _∷_, _++_, map}
 use lib.ListN.{length, getD, take, drop, replicate, length-map, length-drop, length-replicate, getD-replicate, take-append-drop}
 use lib.Seq.{ext-getD, getD-drop}
 use Rattle.lists.specs.Lists.{inTurn, filled}
-use Rattle.refusals.specs.Refusals.{none, _or-else_}
-use Rattle.refusals.proofs.ChainLaws.{or-else-zero, chain-goes}
+use Rattle.refusals.specs.Refusals.{none}
 use Rattle.room.specs.declared.Shape.{Shape}
-use Rattle.room.specs.Refusals.{shapeRefusal, endsRefusal}
-use Rattle.room.proofs.RefusalLaws.{valid-none, ends-of}
 use Rattle.room.specs.Shapes.{Ends}
-use Rattle.links.specs.Table.{tableRefusal, roomTableRefusal, roomRefusal}
+use Rattle.links.specs.Table.{roomRefusal}
+use Rattle.links.proofs.TableLaws.{room-of}
 use Rattle.path.specs.Routes.{byteTo, encode}
 use Rattle.finder.specs.declared.Found.{Found}
 use Rattle.finder.specs.Answers.{noRoute, aRoute, Finding}
@@ -27,19 +25,6 @@ use Rattle.finder.proofs.Theory.{found-least, none-leads}
 use Rattle.finder.proofs.Hops.{Kept-in, ok-low}
 use Rattle.finder.proofs.Walking.{met, met-long, met-bytes′}
 use Rattle.finder.proofs.Least.{least-alternate, no-walk-no-route}
-
--- ---- what is given where nothing is refused
-
-pub ready : (s : Shape) (t : List ℕ) (a d : ℕ) → roomRefusal s t a d ≡ 0 → Ends s a d
-unfolding roomRefusal
-ready s t a d e = ends-of s a d (or-else-zero _ _ e .0)
-
--- the table's test, after that of the ends
-pub table-next : (s : Shape) (t : List ℕ) (a d r x : ℕ) → r ≡ endsRefusal s a d → r ≡ 0 → x ≡ roomTableRefusal s t → x ≡ endsRefusal s a d or-else tableRefusal s t
-unfolding _or-else_ roomTableRefusal
-table-next s t a d r x e z f =
-    let v : 0 ≡ shapeRefusal s = valid-none (ends-of s a d (sym e ∙ z) .source .valid) in
-    chain-goes r _ _ x e z (rw (← v) at f)
 
 pub refused-answer : {s : Shape} {t : List ℕ} {a d : ℕ} (q : ℕ) → q ≡ roomRefusal s t a d → (q ≡ 0 → ⊥) → (r : Found) → r ≡ noRoute q → Finding s t a d r
 refused-answer q e ne r f =
@@ -70,7 +55,7 @@ pub record Ended (s : Shape) (t : List ℕ) (a : ℕ) (back queue : List ℕ) (n
 
 module _ {s : Shape} {t : List ℕ} {a d : ℕ} {back queue : List ℕ} {n : ℕ} (pre : roomRefusal s t a d ≡ 0) (e : Ended s t a back queue n d) where
   given : Ends s a d
-  given = ready s t a d pre
+  given = room-of s t a d pre .0
 
   low : (u x : ℕ) → Ok s t u x → x < 256
   low = ok-low s (given .source .valid) t

@@ -1,37 +1,36 @@
 -- What holds at each turn of the three loops of the scan, and how one follows from another.
-use Prim.Native.Nat.{ℕ, _+_, _-_, _*_, _/_, _^_, _<_, _≤_}
+use Prim.Native.Nat.{ℕ, _+_, _-_, _*_, _/_, _<_, _≤_}
 use native.Mathlib.Omega.{arith}
 use native.Mathlib.Nat.{add-mul}
 use native.Mathlib.Decide.{ℕ-discrete}
 use mathlib.Core.Path.{_≡_, refl, sym, ap, _∙_, subst}
 use mathlib.Core.Logic.{_≢_, _⊎_, inl, inr, ⊎-elim}
 use mathlib.Core.Bool.{true, false}
-use mathlib.Core.List.{List, [], _∷_}
+use mathlib.Core.List.{List}
 use lib.ListN.{length, getD, set, replicate, length-set, length-replicate}
 use lib.Seq.{getD-set-other}
+use Rattle.lists.proofs.ListLaws.{same-at}
 use Rattle.room.specs.declared.Shape.{Shape}
-use Rattle.room.specs.Shapes.{serversOf, Valid, Server, Value}
+use Rattle.room.specs.declared.Side.{Side}
+use Rattle.room.specs.Shapes.{serversOf, Valid, Server, Link, Value}
 use Rattle.room.specs.Addresses.{digit, withDigit, switchOf, Beside}
 use Rattle.room.proofs.RoomLaws.{bound-le, digit-lt, with-server, with-switch, switch-same}
 use Rattle.links.specs.Table.{failed, roomRefusal}
-use Rattle.links.proofs.TableLaws.{live-exactly}
-use Rattle.finder.specs.declared.Side.{Side}
+use Rattle.links.proofs.TableLaws.{room-of, live-exactly}
 use Rattle.finder.specs.Hops.{stepOf, Ok}
 use Rattle.finder.specs.Kept.{noParent, Kept}
-use Rattle.finder.specs.Scan.{markAt, Scanned, Swept, Siding, Sided, Visiting, Visited}
+use Rattle.finder.specs.Scan.{markAt, Scanned, Swept, Sided, Visiting, Visited}
 use Rattle.finder.proofs.Order.{split}
 use Rattle.finder.proofs.Tables.{recast}
-use Rattle.finder.proofs.Back.{zeros}
 use Rattle.finder.proofs.Hops.{Kept-in, absurd-bool, seen, next-level, past-level, next-server}
 use Rattle.finder.proofs.Walking.{beside-step, beside-ok, hop-server, step-switch}
-use Rattle.finder.proofs.Sides.{weight-at}
-use Rattle.finder.proofs.Finish.{ready, Ended}
+use Rattle.finder.proofs.Finish.{Ended}
 
 -- ---- marks
 
 -- with no marks nothing has been scanned
 swept-none : (s : Shape) (t queue : List ℕ) (n m : ℕ) → m ≡ 16384 → Swept s t (replicate m 0) queue n
-swept-none s t queue n m e = record { long = length-replicate {A = ℕ} m 0 ∙ e; scanned = λ l u hl hu ne. absurd (ne (zeros m (markAt l u))) }
+swept-none s t queue n m e = record { long = length-replicate {A = ℕ} m 0 ∙ e; scanned = λ l u hl hu ne. absurd (ne (same-at 0 m (markAt l u))) }
 
 -- what is found stays found
 scanned-more : {s : Shape} {t queue queue′ : List ℕ} {n n′ l u : ℕ} → Scanned s t queue n l u → n ≤ n′ → ((i : ℕ) → i < n → getD queue′ i 0 ≡ getD queue i 0) → Scanned s t queue′ n′ l u
@@ -147,7 +146,7 @@ module _ (s : Shape) (t : List ℕ) (a d : ℕ) where
       → ((s′ : Shape) (t′ : List ℕ) → serversOf s′ ≤ 4096 → a < serversOf s′ → Kept (stepOf s′) (Ok s′ t′) (serversOf s′) a back queue 1 0)
       → (m : ℕ) → m ≡ 16384 → AtServer back queue (replicate m 0) 0 1
   scan-starts pre back queue f m e =
-      let r = ready s t a d pre in
+      let r = room-of s t a d pre .0 in
       let v = r .source .valid in
       record {
         valid = v;
@@ -177,13 +176,8 @@ module _ {s : Shape} {t : List ℕ} {a d : ℕ} {back queue marks : List ℕ} {h
     here-server : Server s u
     here-server = record { valid = h .valid; below = h .server }
 
-    pub side-needs : (ws : List ℕ) → ws ≡ s .n ^ 0 ∷ s .n ^ 1 ∷ s .n ^ 2 ∷ s .n ^ 3 ∷ [] → Siding s marks u (level - 1) (getD ws (level - 1) 0)
-    side-needs ws e =
-        record {
-          link = record { server = here-server; level = omega (arith, h .below) };
-          stride = weight-at (s .n) (level - 1) ws (omega (arith, h .below, h .valid .levels)) e;
-          long = h .swept .long;
-        }
+    pub here-link : Link s u (level - 1)
+    here-link = record { server = here-server; level = omega (arith, h .below) }
 
     pub values-start : (side : Side) → Sided s t marks u (level - 1) side → AtValue s t a d u side marks back queue marks head tail (level - 1) 0 (side .first)
     values-start side sided =

@@ -1,15 +1,15 @@
 -- What the parts of the scan are given and give.
-use Prim.Native.Nat.{ℕ, _+_, _-_, _*_, _^_, _<_, _≤_}
+use Prim.Native.Nat.{ℕ, _+_, _-_, _*_, _<_, _≤_}
 use mathlib.Core.Path.{_≡_}
 use mathlib.Core.Logic.{_≢_, _⊎_}
 use mathlib.Core.Bool.{true, false}
 use mathlib.Core.List.{List}
 use lib.ListN.{length, getD}
 use Rattle.room.specs.declared.Shape.{Shape}
-use Rattle.room.specs.Shapes.{serversOf, bound, Valid, Server, Link}
+use Rattle.room.specs.declared.Side.{Side}
+use Rattle.room.specs.Shapes.{serversOf, bound, Valid, Server}
 use Rattle.room.specs.Addresses.{withDigit, switchOf}
 use Rattle.links.specs.Table.{failed}
-use Rattle.finder.specs.declared.Side.{Side}
 use Rattle.finder.specs.Hops.{stepOf, Ok}
 use Rattle.finder.specs.Kept.{noParent, Kept}
 
@@ -25,12 +25,6 @@ pub record Scanned (s : Shape) (t queue : List ℕ) (n l u : ℕ) : Type 0 where
 pub record Swept (s : Shape) (t marks queue : List ℕ) (n : ℕ) : Type 0 where
   pub long : length marks ≡ 16384
   pub scanned : (l u : ℕ) → l ≤ s .k → Server s u → getD marks (markAt l u) 0 ≢ 0 → Scanned s t queue n l u
-
--- what the servers at the switch of server u at level l are computed from
-pub record Siding (s : Shape) (marks : List ℕ) (u l p : ℕ) : Type 0 where
-  pub link : Link s u l
-  pub stride : p ≡ s .n ^ l
-  pub long : length marks ≡ 16384
 
 -- the servers at the switch of server u at level l, and how many of them to try: all, or none where the link of u is failed or
 -- u is marked

@@ -19,10 +19,3 @@ pub struct Found {
     pub hops: usize,
     pub bytes: [u8; 8],
 }
-
-// The servers at a switch: the first, how far the next is from each, and how many to try.
-pub(crate) struct Side {
-    pub(crate) first: usize,
-    pub(crate) stride: usize,
-    pub(crate) count: usize,
-}

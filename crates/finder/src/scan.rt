@@ -1,23 +1,23 @@
 // The scan: breadth first from the source, levels from k down and values from 0 up, until the
 // destination is met.
 ghost use mathlib.Core.Path.{_≡_};
-ghost use Prim.Native.Nat.{ℕ, _^_, _<_, _≤_};
-ghost use mathlib.Core.List.{List, [], _∷_};
+ghost use Prim.Native.Nat.{ℕ, _<_, _≤_};
+ghost use mathlib.Core.List.{List};
 ghost use lib.ListN.{length};
 ghost use Rattle.room.specs.declared.Shape.{Shape as AShape};
-ghost use Rattle.room.specs.Shapes.{serversOf};
+ghost use Rattle.room.specs.Shapes.{serversOf, Link};
 ghost use Rattle.links.specs.Table.{roomRefusal};
 ghost use Rattle.finder.specs.Hops.{stepOf, Ok};
 ghost use Rattle.finder.specs.Kept.{Blank, Kept};
-ghost use Rattle.finder.specs.Scan.{Siding, Sided, Visiting, Visited};
+ghost use Rattle.finder.specs.Scan.{Sided, Visiting, Visited};
 ghost use Rattle.finder.specs.Answers.{Finding};
 use crate::Found;
-use crate::Side;
 use crate::answers::no_route;
 use crate::trace::retrace;
 use links::is_live;
 use room::Shape;
-use room::bound_of;
+use room::Side;
+use room::side_of;
 
 // What stands in the back-links of a server that is not found.
 const NONE: u32 = 4294967295;
@@ -25,40 +25,21 @@ const NONE: u32 = 4294967295;
 // What stands in the queue past the servers found: no server.
 const NOBODY: u16 = 65535;
 
-// The weights of the digits to the base n.
-fn weights(n: usize) -> [usize; 4]
-    requires { ⌜ n ≤ 64 ⌝ }
-    ensures { λ r. ⌜ r ≡ n ^ 0 ∷ n ^ 1 ∷ n ^ 2 ∷ n ^ 3 ∷ [] ⌝ }
-{
-    [1, n, n * n, n * n * n]
-}
-
 // The servers at the switch of a server at a level; none to try where the server's link is failed, or
 // the switch has been scanned. A server has a mark for each level, set when its switch there is scanned.
-fn side_of(
-    shape: Shape,
-    table: &[u8],
-    marks: &[u8; 16384],
-    server: usize,
-    level: usize,
-    stride: usize,
-) -> Side
-    requires { ⌜ Siding shape (now marks) server level stride ⌝ }
+fn to_scan(shape: Shape, table: &[u8], marks: &[u8; 16384], server: usize, level: usize) -> Side
+    requires { ⌜ Link shape server level × (length (now marks) ≡ 16384) ⌝ }
     ensures { λ r. ⌜ Sided shape (now (table .entry)) (now (marks .entry)) server level r ⌝ }
 {
-    let mut first: usize = 0;
-    let mut count: usize = 0;
     if marks[server * 4 + level] == 0 {
         if is_live(table, level, server, server) {
-            let bound = bound_of(shape, level);
-            count = bound.value;
-            first = server % stride + stride * (count * (server / stride / count));
+            return side_of(shape, server, level);
         }
     }
     Side {
-        first,
-        stride,
-        count,
+        first: 0,
+        stride: 0,
+        count: 0,
     }
 }
 
@@ -106,7 +87,6 @@ pub(crate) fn search(shape: Shape, table: &[u8], source: usize, destination: usi
     let mut queue = [NOBODY; 4096];
     begin(&mut back, &mut queue, source);
     let mut marks = [0u8; 16384];
-    let weight = weights(shape.n);
     let mut head: usize = 0;
     let mut tail: usize = 1;
     'scan: while head < tail {
@@ -114,7 +94,7 @@ pub(crate) fn search(shape: Shape, table: &[u8], source: usize, destination: usi
         let mut level = shape.k + 1;
         while 0 < level {
             level -= 1;
-            let side = side_of(shape, table, &marks, here, level, weight[level]);
+            let side = to_scan(shape, table, &marks, here, level);
             let mut w = side.first;
             for v in 0..side.count {
                 marks[w * 4 + level] = 1;

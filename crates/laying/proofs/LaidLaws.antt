@@ -2,7 +2,7 @@
 use Prim.Native.Nat.{ℕ, zero, suc, _+_, _-_, _*_, _<_, suc-le-suc, zero-le}
 use mathlib.Core.Path.{_≡_, refl, sym, ap, _∙_, subst}
 use mathlib.Core.Logic.{_↔_}
-use mathlib.Core.Bool.{Bool, true, false, _||_}
+use mathlib.Core.Bool.{Bool, true, false, _||_, or-assoc}
 use mathlib.Core.List.{List, [], _∷_, _++_, List·Memᴰ as In, List·Memᴰ·head, List·Memᴰ·tail}
 use native.Mathlib.Omega.{arith}
 use native.Mathlib.Decide.{decLt}
@@ -18,7 +18,7 @@ use Rattle.links.proofs.TableLaws.{live-exactly}
 use Rattle.path.specs.Routes.{switchAt, levelTo, switchTo, switchesOf, Route, RouteTo}
 use Rattle.laying.specs.Avoids.{Avoids}
 use Rattle.laying.specs.Laid.{takes, taken, Marks, Laid}
-use Rattle.laying.proofs.MarkLaws.{or-assoc, marks-then, switches-long}
+use Rattle.laying.proofs.MarkLaws.{marks-then, switches-long}
 
 -- ---- tests that fail
 

@@ -2,20 +2,18 @@
 use Prim.Native.Nat.{ℕ, _≤_}
 use mathlib.Core.Path.{_≡_, refl, sym, ap, _∙_, subst}
 use mathlib.Core.Logic.{_↔_}
+use mathlib.Core.Bool.{or-false}
 use mathlib.Core.List.{List, [], _∷_}
 use native.Mathlib.Omega.{arith}
 use lib.ListN.{length, take}
 use Rattle.lists.proofs.ListLaws.{take-filled, length-filled}
 use Rattle.refusals.specs.declared.Refusal.{Refusal}
-use Rattle.refusals.specs.Refusals.{none, plain, _or-else_}
-use Rattle.refusals.proofs.ChainLaws.{or-else-zero, chain-goes}
+use Rattle.refusals.specs.Refusals.{none, plain}
 use Rattle.refusals.proofs.AnswerLaws.{answer-refused, answer-given, answered, answer-none}
 use Rattle.room.specs.declared.Shape.{Shape}
-use Rattle.room.proofs.RefusalLaws.{valid-none, ends-of, ends-none}
-use Rattle.room.specs.Refusals.{endsRefusal}
 use Rattle.room.specs.Shapes.{Ends}
-use Rattle.links.specs.Table.{tableRefusal, roomTableRefusal, TableOf, roomRefusal}
-use Rattle.links.proofs.TableLaws.{table-of, table-none}
+use Rattle.links.specs.Table.{roomRefusal, TableOf}
+use Rattle.links.proofs.TableLaws.{room-of, room-none}
 use Rattle.path.specs.declared.Reading.{Reading}
 use Rattle.path.specs.Routes.{Route, Encodes}
 use Rattle.path.specs.Answers.{readAnswer}
@@ -23,29 +21,12 @@ use Rattle.path.proofs.ReverseLaws.{source-server, dest-server, ends-differ}
 use Rattle.path.proofs.CodecLaws.{encodes-unique, read-given, read-exactly}
 use Rattle.laying.specs.Laid.{takes, taken, Marks, Laid}
 use Rattle.laying.specs.Answers.{layRefusal, Lays}
-use Rattle.laying.proofs.MarkLaws.{or-false, marks-same}
+use Rattle.laying.proofs.MarkLaws.{marks-same}
 
--- ---- the room, its ends and its table
-
--- the table's test, after that of the ends
-pub table-after : (s : Shape) (t : List ℕ) (a d r x : ℕ) → r ≡ endsRefusal s a d → r ≡ 0 → x ≡ roomTableRefusal s t → x ≡ endsRefusal s a d or-else tableRefusal s t
-unfolding roomTableRefusal
-table-after s t a d r x e z g =
-    let h = ends-of s a d (sym e ∙ z) in
-    chain-goes r _ _ _ e z (g ∙ sym (chain-goes _ _ _ _ (valid-none (h .source .valid)) refl refl))
-
-pub room-of : (s : Shape) (t : List ℕ) (a d : ℕ) → roomRefusal s t a d ≡ 0 → Ends s a d × TableOf s t
-unfolding roomRefusal
-room-of s t a d e =
-    let z = or-else-zero (endsRefusal s a d) (tableRefusal s t) e in
-    (ends-of s a d (z .0), table-of s t (z .1))
+-- ---- where nothing is refused
 
 pub room-table : (s : Shape) (t : List ℕ) (a d n : ℕ) → n ≡ roomRefusal s t a d → n ≡ 0 → TableOf s t
 room-table s t a d n e z = room-of s t a d (sym e ∙ z) .1
-
-room-none : {s : Shape} {t : List ℕ} {a d : ℕ} → Ends s a d → TableOf s t → 0 ≡ roomRefusal s t a d
-unfolding roomRefusal
-room-none h k = chain-goes _ _ _ _ (ends-none h) refl (table-none k)
 
 -- ---- the route that is read, laid
 

@@ -1,30 +1,31 @@
 -- Marking link after link: what stands marked after each.
-use Prim.Native.Nat.{ℕ, suc, _+_, _-_, _*_, _/_, _%_, _^_, _≤_, _<_}
+use Prim.Native.Nat.{ℕ, suc, _+_, _-_, _*_, _≤_, _<_}
 use mathlib.Core.Path.{_≡_, refl, sym, ap, ap₂, _∙_, subst}
 use mathlib.Core.Logic.{_⊎_, inl, inr, ⊎-elim}
-use mathlib.Core.Bool.{Bool, true, false, _&&_, _||_}
+use mathlib.Core.Bool.{Bool, true, false, cond, _&&_, _||_, and-true, and-false, or-true, or-false, or-assoc, and-or-distrib-left}
 use mathlib.Core.List.{List, [], _∷_, _++_}
 use native.Mathlib.Omega.{arith}
 use native.Mathlib.Numerals.{add-one}
+use native.Mathlib.Nat.{add-mul}
 use native.Mathlib.Decide.{ℕ-discrete, decLt}
 use lib.Dec.{ltb, eqb}
-use lib.ListN.{length, getD, set, take, drop}
-use lib.Seq.{take-suc, take-all, set-getD}
+use lib.ListN.{length, getD, take, drop}
+use lib.Seq.{take-suc, take-all}
 use borrow.Author.Tests.{eq-eqb, ne-eqb, lt-ltb, le-ltb}
 use Rattle.lists.specs.Lists.{isIn, middle}
 use Rattle.lists.proofs.ListLaws.{length-turn, turn-at, length-middle, middle-at}
 use Rattle.room.specs.declared.Shape.{Shape}
 use Rattle.room.specs.Shapes.{bound, Server, Link, Value}
-use Rattle.room.specs.declared.Number.{Number}
+use Rattle.room.specs.declared.Side.{Side}
 use Rattle.room.specs.declared.Between.{Between}
 use Rattle.room.specs.Addresses.{digit, withDigit, switchOf}
-use Rattle.room.specs.Answers.{onlyLevel, boundAnswer, neighbourAnswer, betweenAnswer}
-use Rattle.room.proofs.AnswerLaws.{bound-answered, neighbour-answered, between-answered}
+use Rattle.room.specs.Answers.{onlyLevel, betweenAnswer}
+use Rattle.room.specs.Sides.{sideOf}
+use Rattle.room.proofs.SideLaws.{side-reach, side-count, side-small}
+use Rattle.room.proofs.AnswerLaws.{between-answered}
 use Rattle.room.proofs.RoomLaws.{digit-lt, with-server, with-same, with-switch, beside-with, switch-same, neighbours-exactly}
-use Rattle.links.specs.Table.{bit, failed, marked, TableOf, changed}
-use Rattle.links.proofs.BitLaws.{put-same, put-raised}
-use Rattle.links.proofs.TableLaws.{changed-own, changed-other, changed-table}
-use Rattle.links.proofs.LinkLaws.{bit-by, raise-fits}
+use Rattle.links.specs.Table.{failed, changedIn, marked, TableOf}
+use Rattle.links.proofs.TableLaws.{changed-own, changed-long, changed-in, changed-other, changed-table}
 use Rattle.path.specs.Routes.{switchAt, levelTo, switchTo, switchesOf, Route}
 use Rattle.path.proofs.HopLaws.{switch-id}
 use Rattle.laying.specs.Laid.{takes, Marks}
@@ -34,18 +35,6 @@ use Rattle.laying.specs.Laid.{takes, Marks}
 -- x is server y, and l is level m
 abbrev pub only : ℕ → ℕ → ℕ → ℕ → Bool
 only y m x l = eqb x y && eqb l m
-
-or-true : (p : Bool) → p || true ≡ true
-or-true true = refl
-or-true false = refl
-
-pub or-false : (p : Bool) → p || false ≡ p
-or-false true = refl
-or-false false = refl
-
-pub or-assoc : (p q r : Bool) → p || q || r ≡ p || (q || r)
-or-assoc true q r = refl
-or-assoc false q r = refl
 
 only-own : (y m x l : ℕ) → x ≡ y → l ≡ m → only y m x l ≡ true
 only-own y m x l e f = rw (eq-eqb x y e, eq-eqb l m f)
@@ -76,9 +65,10 @@ marks-same {s} {t} {u} p q e h =
     record { table = h .table; marks = λ x l k. h .marks x l k ∙ ap (λ (b : Bool). failed t x l || b) (e x l k) }
 
 -- one link more
-pub marks-more : {s : Shape} {t u : List ℕ} {y m : ℕ} (p q : ℕ → ℕ → Bool) → Link s y m → Marks s t p u → ((x l : ℕ) → Link s x l → q x l ≡ p x l || only y m x l) → Marks s t q (marked y m u)
-marks-more {s} {t} {u} {y} {m} p q k h e =
-    record {
+marks-more : {s : Shape} {t u v : List ℕ} {y m : ℕ} (p q : ℕ → ℕ → Bool) → Link s y m → Marks s t p u → v ≡ changedIn true y m u → ((x l : ℕ) → Link s x l → q x l ≡ p x l || only y m x l) → Marks s t q v
+marks-more {s} {t} {u} {v} {y} {m} p q k h c e =
+    subst (Marks s t q) (sym (c ∙ changed-in true y m u (omega (arith, k .level, k .server .valid .levels))))
+    (record {
       table = changed-table true (h .table) y m (k .level);
       marks = λ x l z.
           ⊎-elim
@@ -90,7 +80,7 @@ marks-more {s} {t} {u} {y} {m} p q k h e =
           let same : q x l ≡ p x l = e x l z ∙ ap (λ (b : Bool). p x l || b) (only-other y m x l w) ∙ or-false (p x l) in
           changed-other true y m x l u w ∙ h .marks x l z ∙ ap (λ (b : Bool). failed t x l || b) (sym same))
           (same-link y m x l);
-    }
+    })
 
 -- and many more
 pub marks-then : {s : Shape} {t u v : List ℕ} (p q r : ℕ → ℕ → Bool) → Marks s t p u → Marks s u q v → ((x l : ℕ) → Link s x l → r x l ≡ p x l || q x l) → Marks s t r v
@@ -101,44 +91,11 @@ marks-then {s} {t} {u} {v} p q r h k e =
           k .marks x l z ∙ ap (λ (b : Bool). b || q x l) (h .marks x l z) ∙ or-assoc (failed t x l) (p x l) (q x l) ∙ ap (λ (b : Bool). failed t x l || b) (sym (e x l z));
     }
 
--- ---- the byte that is stored
-
-pub weight-eight : (l : ℕ) → (l ≡ 0 → ⊥) → (l ≡ 1 → ⊥) → (l ≡ 2 → ⊥) → l ≤ 3 → 8 ≡ 2 ^ l
-weight-eight l a b c h = let e : l ≡ 3 = omega arith in rw e
-
-not-one : (x : ℕ) → x % 2 ≡ 0 → eqb (x % 2) 1 ≡ false
-not-one x e = ne-eqb (x % 2) 1 (λ q. omega arith)
-
-pub clear-bit : (l x w : ℕ) → w ≡ 2 ^ l → x / w % 2 ≡ 0 → false ≡ bit l x
-clear-bit l x w e h = sym (not-one (x / w) h) ∙ bit-by l x w e
-
-pub stored-fits : (l x w : ℕ) → w ≡ 2 ^ l → x / w % 2 ≡ 0 → l ≤ 3 → x < 256 → x + w < 256
-stored-fits l x w e h k b = raise-fits l x w false (clear-bit l x w e h) refl e (omega arith) b
-
-pub mark-stored : (a l w : ℕ) (t : List ℕ) → w ≡ 2 ^ l → getD t a 0 / w % 2 ≡ 0 → set t a (getD t a 0 + w) ≡ marked a l t
-unfolding changed
-mark-stored a l w t e h =
-    ap (λ (y : ℕ). set t a y) (ap (λ (m : ℕ). getD t a 0 + m) e ∙ sym (put-raised l (getD t a 0) (sym (clear-bit l (getD t a 0) w e h))))
-
-pub mark-kept : (a l w : ℕ) (t : List ℕ) → w ≡ 2 ^ l → (getD t a 0 / w % 2 ≡ 0 → ⊥) → t ≡ marked a l t
-unfolding changed
-mark-kept a l w t e h =
-    let o : getD t a 0 / w % 2 ≡ 1 = omega arith in
-    sym (set-getD t a 0) ∙ ap (λ (y : ℕ). set t a y) (sym (put-same true l (getD t a 0) (sym (bit-by l (getD t a 0) w e) ∙ eq-eqb (getD t a 0 / w % 2) 1 o)))
-
 -- ---- all levels of a server
 
 -- x is server y, and l is below m
 abbrev pub upTo : ℕ → ℕ → ℕ → ℕ → Bool
 upTo y m x l = eqb x y && ltb l m
-
-and-false : (p : Bool) → p && false ≡ false
-and-false true = refl
-and-false false = refl
-
-and-true : (p : Bool) → p && true ≡ p
-and-true true = refl
-and-true false = refl
 
 pub up-none : (y x l : ℕ) → upTo y 0 x l ≡ false
 up-none y x l = ap (λ (b : Bool). eqb x y && b) (le-ltb l 0 (omega arith)) ∙ and-false (eqb x y)
@@ -154,12 +111,8 @@ less-more l m =
           ])
     ]
 
-and-or : (p q r : Bool) → p && (q || r) ≡ p && q || p && r
-and-or true q r = refl
-and-or false q r = refl
-
 pub up-more : (y m x l : ℕ) → upTo y (m + 1) x l ≡ upTo y m x l || only y m x l
-up-more y m x l = ap (λ (b : Bool). eqb x y && b) (less-more l m) ∙ and-or (eqb x y) (ltb l m) (eqb l m)
+up-more y m x l = ap (λ (b : Bool). eqb x y && b) (less-more l m) ∙ and-or-distrib-left (eqb x y) (ltb l m) (eqb l m)
 
 pub up-all : {s : Shape} (y m x l : ℕ) → s .k < m → Link s x l → upTo y m x l ≡ eqb x y
 up-all y m x l h k = ap (λ (b : Bool). eqb x y && b) (lt-ltb l m (omega (arith, k .level))) ∙ and-true (eqb x y)
@@ -168,10 +121,9 @@ up-all y m x l h k = ap (λ (b : Bool). eqb x y && b) (lt-ltb l m (omega (arith,
 pub up-start : {s : Shape} {t : List ℕ} (y : ℕ) → TableOf s t → Marks s t (upTo y 0) t
 up-start y h = marks-none (upTo y 0) h (up-none y)
 
-pub up-step : {s : Shape} {y m : ℕ} {t u v : List ℕ} → Server s y → m ≤ s .k → v ≡ marked y m u → Marks s t (upTo y m) u → Marks s t (upTo y (m + 1)) v
+pub up-step : {s : Shape} {y m : ℕ} {t u v : List ℕ} → Server s y → m ≤ s .k → v ≡ changedIn true y m u → Marks s t (upTo y m) u → Marks s t (upTo y (m + 1)) v
 up-step {s} {y} {m} {t} {u} {v} h k e p =
-    subst (Marks s t (upTo y (m + 1))) (sym e)
-    (marks-more (upTo y m) (upTo y (m + 1)) (record { server = h; level = k }) p (λ x l z. up-more y m x l))
+    marks-more (upTo y m) (upTo y (m + 1)) (record { server = h; level = k }) p e (λ x l z. up-more y m x l)
 
 pub up-done : {s : Shape} {t u : List ℕ} (y m : ℕ) → s .k < m → Marks s t (upTo y m) u → Marks s t (λ x l. eqb x y) u
 up-done y m h p = marks-same (upTo y m) (λ x l. eqb x y) (λ x l k. up-all y m x l h k) p
@@ -208,40 +160,63 @@ digit-exactly {s} {y} {m} {v} {x} {l} h k =
 value-more : {s : Shape} {y m v x l : ℕ} → Value s y m v → Link s x l → upToValue s y m (v + 1) x l ≡ upToValue s y m v x l || only (withDigit s m v y) m x l
 value-more {s} {y} {m} {v} {x} {l} h k =
     let e = eqb (switchAt s l x) (switchAt s m y) in
-    ap (λ (b : Bool). e && b) (less-more (digit s m x) v) ∙ and-or e (ltb (digit s m x) v) (eqb (digit s m x) v) ∙ ap (λ (b : Bool). e && ltb (digit s m x) v || b) (digit-exactly h k)
+    ap (λ (b : Bool). e && b) (less-more (digit s m x) v) ∙ and-or-distrib-left e (ltb (digit s m x) v) (eqb (digit s m x) v) ∙ ap (λ (b : Bool). e && ltb (digit s m x) v || b) (digit-exactly h k)
 
 value-all : {s : Shape} {y m v x l : ℕ} → Link s y m → bound s m ≤ v → Link s x l → upToValue s y m v x l ≡ eqb (switchAt s l x) (switchAt s m y)
 value-all {s} {y} {m} {v} {x} {l} h p k =
     ap (λ (b : Bool). eqb (switchAt s l x) (switchAt s m y) && b) (lt-ltb (digit s m x) v (omega (arith, digit-lt (k .server) m (h .level)))) ∙ and-true (eqb (switchAt s l x) (switchAt s m y))
 
--- the loop over a switch's servers: nothing, one server more, all
-pub value-start : {s : Shape} {t : List ℕ} (y m : ℕ) → TableOf s t → Marks s t (upToValue s y m 0) t
-value-start {s} y m h = marks-none (upToValue s y m 0) h (value-none s y m)
+mark-long : (a l : ℕ) (t : List ℕ) → length (changedIn true a l t) ≡ length t
+unfolding changedIn
+mark-long a l t = by (ltb l 8)
+  where
+    by : (b : Bool) → length (cond b (marked a l t) t) ≡ length t
+    by true = changed-long true a l t
+    by false = refl
 
-pub value-step : {s : Shape} {t u w : List ℕ} {y m v z : ℕ} → Value s y m v → z ≡ withDigit s m v y → w ≡ marked z m u → Marks s t (upToValue s y m v) u → Marks s t (upToValue s y m (v + 1)) w
-value-step {s} {t} {u} {w} {y} {m} {v} {z} h f e p =
-    subst (Marks s t (upToValue s y m (v + 1))) (sym (e ∙ ap (λ (i : ℕ). marked i m u) f))
-    (marks-more (upToValue s y m v) (upToValue s y m (v + 1)) (record { server = with-server h; level = h .link .level }) p (λ x l k. value-more h k))
+-- the loop over a switch's servers: v of them are marked, and `other` is the next
+pub record MarkedSide (t : List ℕ) (y m : ℕ) (side : Side) (u : List ℕ) (v other : ℕ) : Type 0 where
+  pub below : v ≤ side .count
+  pub next : other ≡ side .first + v * side .stride
+  pub long : length u ≡ length t
+  pub marks : (s : Shape) → Link s y m → side ≡ sideOf s y m → TableOf s t → Marks s t (upToValue s y m v) u
 
-pub value-done : {s : Shape} {t u : List ℕ} {y m : ℕ} (v : ℕ) → Link s y m → bound s m ≤ v → Marks s t (upToValue s y m v) u → Marks s t (λ x l. eqb (switchAt s l x) (switchAt s m y)) u
-value-done {s} {t} {u} {y} {m} v h q p = marks-same (upToValue s y m v) (λ x l. eqb (switchAt s l x) (switchAt s m y)) (λ x l k. value-all h q k) p
+values : {s : Shape} {y m : ℕ} {side : Side} → Link s y m → side ≡ sideOf s y m → side .count ≡ bound s m
+values h e = ap (λ (x : Side). x .count) e ∙ side-count h
 
--- what the calls on the room say
-pub bound-value : {s : Shape} {y m v : ℕ} (b : Number) → Link s y m → b ≡ boundAnswer s m → v < b .value → Value s y m v
-bound-value {s} {y} {m} {v} b h e p =
-    let q : b .value ≡ bound s m = ap (λ (x : Number). x .value) (bound-answered (h .server .valid) (h .level) b e) in
-    record { link = h; value = omega arith }
+value-at : {s : Shape} {y m : ℕ} {side : Side} → Link s y m → side ≡ sideOf s y m → (v : ℕ) → v < side .count → Value s y m v
+value-at h e v q = record { link = h; value = omega (arith, values h e) }
 
-pub bound-reached : {s : Shape} {y m v : ℕ} (b : Number) → Link s y m → b ≡ boundAnswer s m → b .value ≤ v → bound s m ≤ v
-bound-reached {s} {y} {m} {v} b h e p =
-    let q : b .value ≡ bound s m = ap (λ (x : Number). x .value) (bound-answered (h .server .valid) (h .level) b e) in
-    omega arith
+module _ {t : List ℕ} {y m : ℕ} {side : Side} where
+  pub side-start : MarkedSide t y m side t 0 (side .first)
+  side-start =
+      record { below = omega arith; next = omega arith; long = refl; marks = λ s h e k. marks-none (upToValue s y m 0) k (value-none s y m) }
 
-pub other-server : {s : Shape} {y m v : ℕ} (x : Number) → Value s y m v → x ≡ neighbourAnswer s y m v → x .value ≡ withDigit s m v y
-other-server x h e = ap (λ (z : Number). z .value) (neighbour-answered h x e)
+  module _ {s : Shape} (h : Link s y m) (e : side ≡ sideOf s y m) where
+    module _ {u : List ℕ} {v other : ℕ} (p : MarkedSide t y m side u v other) where
+      side-server : v < side .count → other ≡ withDigit s m v y
+      side-server q = p .next ∙ ap (λ (x : Side). x .first + v * x .stride) e ∙ side-reach h v (omega (arith, values h e))
 
-pub other-inside : {s : Shape} {y m v : ℕ} {u : List ℕ} (x : Number) → Value s y m v → x ≡ neighbourAnswer s y m v → TableOf s u → x .value < length u
-other-inside x h e k = let q = with-server h in omega (arith, other-server x h e, q .below, k .long)
+      -- the next is a server, and the way on is short
+      pub side-near : v < side .count → (other < 4096) × (side .stride ≤ 16777216)
+      side-near q =
+          (omega (arith, side-server q, with-server (value-at h e v q) .below, h .server .valid .small), omega (arith, ap (λ (x : Side). x .stride) e, side-small h .1))
+
+      -- all are marked
+      pub side-done : TableOf s t → side .count ≤ v → Marks s t (λ x l. eqb (switchAt s l x) (switchAt s m y)) u
+      side-done k q =
+          marks-same (upToValue s y m v) (λ x l. eqb (switchAt s l x) (switchAt s m y)) (λ x l z. value-all h (omega (arith, values h e)) z) (p .marks s h e k)
+
+  pub side-step : {u : List ℕ} {v other : ℕ} → MarkedSide t y m side u v other → v < side .count → (w : List ℕ) → w ≡ changedIn true other m u → MarkedSide t y m side w (v + 1) (other + side .stride)
+  side-step {u} {v} {other} p q w c =
+      record {
+        below = omega arith;
+        next = omega (arith, p .next, add-mul v 1 (side .stride));
+        long = ap length c ∙ mark-long other m u ∙ p .long;
+        marks = λ s h e k.
+            marks-more (upToValue s y m v) (upToValue s y m (v + 1)) (record { server = with-server (value-at h e v q); level = h .level }) (p .marks s h e k)
+            (c ∙ ap (λ (i : ℕ). changedIn true i m u) (side-server h e p q)) (λ x l z. value-more (value-at h e v q) z);
+      }
 
 -- ---- list after list: what f gives is in the part that was gone through
 

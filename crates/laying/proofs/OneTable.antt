@@ -9,12 +9,11 @@ use native.Mathlib.Decide.{ℕ-discrete}
 use lib.Dec.{eqb}
 use lib.ListN.{getD}
 use lib.Seq.{ext-getD}
-use borrow.Author.Tests.{eq-eqb, eqb-true}
+use borrow.Author.Tests.{eq-eqb, eqb-true, ltb-true}
 use Rattle.refusals.specs.declared.Refusal.{Refusal}
 use Rattle.room.specs.declared.Shape.{Shape}
 use Rattle.room.specs.Shapes.{Valid, Link}
-use Rattle.links.proofs.TableLaws.{table-fits}
-use Rattle.links.specs.Table.{bit, failed}
+use Rattle.links.specs.Table.{bit, failed, fitsLevels, TableOf}
 use Rattle.path.proofs.ReverseLaws.{source-server}
 use Rattle.laying.specs.Laid.{Marks}
 use Rattle.laying.specs.Answers.{Lays}
@@ -51,11 +50,15 @@ bits-same (suc m) x y hx hy h =
 
 -- ---- one table
 
+below : {s : Shape} {t : List ℕ} → TableOf s t → (a : ℕ) → getD t a 0 < 2 ^ suc (s .k)
+unfolding fitsLevels
+below h a = ltb-true _ _ (h .fits a)
+
 pub marks-unique : {s : Shape} {t : List ℕ} {links : ℕ → ℕ → Bool} {u v : List ℕ} → Valid s → Marks s t links u → Marks s t links v → u ≡ v
 unfolding failed
 marks-unique {s} {t} {links} {u} {v} valid p q =
     ext-getD 0 u v (p .table .long ∙ sym (q .table .long))
-    (λ x h. bits-same (suc (s .k)) (getD u x 0) (getD v x 0) (table-fits (p .table) x) (table-fits (q .table) x)
+    (λ x h. bits-same (suc (s .k)) (getD u x 0) (getD v x 0) (below (p .table) x) (below (q .table) x)
     (λ l k.
     let z : Link s x l = record { server = record { valid = valid; below = omega (arith, p .table .long) }; level = omega arith } in
     p .marks x l z ∙ sym (q .marks x l z)))

@@ -1,45 +1,16 @@
 // Links marked in a copy of the failed-link table: those of middle servers, and those to used
 // switches.
-ghost use mathlib.Core.Path.{_≡_};
 ghost use mathlib.Core.List.{[]};
-ghost use Prim.Native.Nat.{ℕ, _≤_, _<_, _^_};
+ghost use Prim.Native.Nat.{ℕ, _<_};
 ghost use lib.Dec.{eqb};
 ghost use lib.ListN.{length, getD};
 ghost use Rattle.lists.specs.Lists.{isIn};
 ghost use Rattle.room.specs.Shapes.{Server, Link};
-ghost use Rattle.links.specs.Table.{marked, TableOf};
+ghost use Rattle.links.specs.Table.{TableOf};
 ghost use Rattle.path.specs.Routes.{Route, switchAt, switchesOf};
 ghost use Rattle.laying.specs.Laid.{Marks, takes};
+use links::mark;
 use room::Shape;
-
-// The weight of the bit of a level.
-fn weight_of(level: usize) -> u8
-    requires { ⌜ level ≤ 3 ⌝ }
-    ensures { λ r. ⌜ r ≡ 2 ^ level ⌝ }
-{
-    if level == 0 {
-        return 1;
-    }
-    if level == 1 {
-        return 2;
-    }
-    if level == 2 {
-        return 4;
-    }
-    8
-}
-
-// Marks the link of a server at a level; where it is marked already nothing changes.
-fn mark(copy: &mut [u8], server: usize, level: usize)
-    requires { ⌜ (level ≤ 3) × (server < length (now copy)) ⌝ }
-    ensures { λ r. ⌜ now (copy .exit) ≡ marked server level (now (copy .entry)) ⌝ }
-{
-    let byte = copy[server];
-    let weight = weight_of(level);
-    if byte / weight % 2 == 0 {
-        copy[server] = byte + weight;
-    }
-}
 
 // Marks every link of a server.
 fn mark_server(shape: Shape, copy: &mut [u8], server: usize)
@@ -58,12 +29,11 @@ fn mark_switch(shape: Shape, copy: &mut [u8], server: usize, level: usize)
     requires { ⌜ Link shape server level × TableOf shape (now copy) ⌝ }
     ensures { λ r. ⌜ Marks shape (now (copy .entry)) (λ x l. eqb (switchAt shape l x) (switchAt shape level server)) (now (copy .exit)) ⌝ }
 {
-    let values = room::bound_of(shape, level).value;
-    let mut value: usize = 0;
-    while value < values {
-        let other = room::neighbour_of(shape, server, level, value);
-        mark(&mut *copy, other.value, level);
-        value += 1;
+    let side = room::side_of(shape, server, level);
+    let mut other = side.first;
+    for _value in 0..side.count {
+        mark(&mut *copy, other, level);
+        other += side.stride;
     }
 }
 

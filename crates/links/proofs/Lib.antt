@@ -3,4 +3,5 @@ pub mod TableLaws
 pub mod NumberLaws
 pub mod LinkLaws
 pub mod AnswerLaws
+pub mod ServerLaws
 pub mod Unique

@@ -8,8 +8,9 @@ use Rattle.refusals.specs.Refusals.{OneOf}
 use Rattle.refusals.proofs.NumberLaws.{test-one, chain-one}
 use Rattle.room.specs.declared.Shape.{Shape}
 use Rattle.room.specs.Shapes.{serversOf}
-use Rattle.room.proofs.NumberLaws.{shape-numbers, ends-numbers, link-numbers}
+use Rattle.room.proofs.NumberLaws.{shape-numbers, server-numbers, ends-numbers, link-numbers}
 use Rattle.links.specs.Table.{bitsFit, tableRefusal, tableNumbers, roomTableRefusal, roomTableNumbers, roomRefusal, roomNumbers, tableLinkRefusal, tableLinkNumbers}
+use Rattle.links.specs.Servers.{tableServerRefusal, tableServerNumbers}
 
 module _ (s : Shape) (t : List ℕ) where
   pub table-numbers : OneOf tableNumbers (tableRefusal s t)
@@ -27,3 +28,7 @@ module _ (s : Shape) (t : List ℕ) where
   pub table-link-numbers : (a l : ℕ) → OneOf tableLinkNumbers (tableLinkRefusal s t a l)
   unfolding tableLinkRefusal
   table-link-numbers a l = chain-one _ _ (link-numbers s a l) table-numbers
+
+  pub table-server-numbers : (a : ℕ) → OneOf tableServerNumbers (tableServerRefusal s t a)
+  unfolding tableServerRefusal
+  table-server-numbers a = chain-one _ _ (server-numbers s a) table-numbers

@@ -95,7 +95,7 @@ fits-lt : (k x : ℕ) → fitsLevels k x ≡ true → x < 2 ^ suc k
 unfolding fitsLevels
 fits-lt k x e = ltb-true x (2 ^ suc k) e
 
-lt-fits : (k x : ℕ) → x < 2 ^ suc k → fitsLevels k x ≡ true
+pub lt-fits : (k x : ℕ) → x < 2 ^ suc k → fitsLevels k x ≡ true
 unfolding fitsLevels
 lt-fits k x h = lt-ltb x (2 ^ suc k) h
 
@@ -146,20 +146,17 @@ pub table-link-none : {s : Shape} {t : List ℕ} {a l : ℕ} → Link s a l → 
 unfolding tableLinkRefusal
 table-link-none h k = chain-goes _ _ _ _ (link-none h) refl (table-none k)
 
-pub table-fits : {s : Shape} {t : List ℕ} → TableOf s t → (a : ℕ) → getD t a 0 < 2 ^ suc (s .k)
-table-fits {s} {t} h a = fits-lt (s .k) (getD t a 0) (h .fits a)
-
 -- no bit above k is set
 pub table-above : {s : Shape} {t : List ℕ} → TableOf s t → (a l : ℕ) → s .k < l → failed t a l ≡ false
 unfolding failed
-table-above {s} {t} h a l p = bit-none (suc (s .k)) l (getD t a 0) (table-fits h a) p
+table-above {s} {t} h a l p = bit-none (suc (s .k)) l (getD t a 0) (fits-lt (s .k) (getD t a 0) (h .fits a)) p
 
 -- every byte is one
 pub table-byte : {s : Shape} {t : List ℕ} → Valid s → TableOf s t → (a : ℕ) → getD t a 0 < 256
 table-byte {s} {t} v h a =
     let p : suc (s .k) ≤ 8 = omega (arith, v .levels) in
     let q : 2 ^ suc (s .k) ≤ 2 ^ 8 = pow-le-pow-right (lit< tt) p in
-    lt-of-lt-of-le (table-fits h a) q
+    lt-of-lt-of-le (fits-lt (s .k) (getD t a 0) (h .fits a)) q
 
 -- changing a link of the room leaves a table of the room
 pub changed-table : (b : Bool) {s : Shape} {t : List ℕ} → TableOf s t → (a l : ℕ) → l ≤ s .k → TableOf s (changed b a l t)

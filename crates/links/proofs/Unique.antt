@@ -9,6 +9,10 @@ use Rattle.links.proofs.links.mark_link.Reads as mark-link
 use Rattle.links.proofs.links.mark_link.Kinds as mark-link-kinds
 use Rattle.links.proofs.links.clear_link.Reads as clear-link
 use Rattle.links.proofs.links.clear_link.Kinds as clear-link-kinds
+use Rattle.links.proofs.servers.mark_server.Reads as mark-server
+use Rattle.links.proofs.servers.mark_server.Kinds as mark-server-kinds
+use Rattle.links.proofs.servers.clear_server.Reads as clear-server
+use Rattle.links.proofs.servers.clear_server.Kinds as clear-server-kinds
 use Rattle.links.proofs.changes.mark.Reads as mark
 use Rattle.links.proofs.changes.mark.Kinds as mark-kinds
 use Rattle.links.proofs.changes.clear.Reads as clear
@@ -48,6 +52,20 @@ is-live-unique κs a x y s t e f = e ∙ sym f
 
 pub table-refusal-unique : Determined 1 table-refusal-kinds.ps table-refusal-kinds.r table-refusal.Post
 table-refusal-unique κs a x y s t e f = e ∙ sym f
+
+pub mark-server-unique : Determined 1 mark-server-kinds.ps mark-server-kinds.r mark-server.Post
+mark-server-unique κs a x y s t e f = e .0 ∙ sym (f .0)
+
+-- the table is its second parameter
+pub mark-server-leaves : Leaves 1 mark-server-kinds.ps mark-server-kinds.r mark-server.Post (λ κs s. now (s .1 .0))
+mark-server-leaves κs a x y s t e f = e .1 ∙ sym (f .1)
+
+pub clear-server-unique : Determined 1 clear-server-kinds.ps clear-server-kinds.r clear-server.Post
+clear-server-unique κs a x y s t e f = e .0 ∙ sym (f .0)
+
+-- the table is its second parameter
+pub clear-server-leaves : Leaves 1 clear-server-kinds.ps clear-server-kinds.r clear-server.Post (λ κs s. now (s .1 .0))
+clear-server-leaves κs a x y s t e f = e .1 ∙ sym (f .1)
 
 pub room-refusal-unique : Determined 1 room-refusal-kinds.ps room-refusal-kinds.r room-refusal.Post
 room-refusal-unique κs a x y s t e f = e ∙ sym f

@@ -14,11 +14,11 @@ use Rattle.room.specs.Refusals.{shapeRefusal, shapeNumbers, linkRefusal, linkNu
 unfoldable pub bit : ℕ → ℕ → Bool
 bit l x = eqb (x / 2 ^ l % 2) 1
 
--- whether the link of server a at level l is failed
+-- whether the link of server a at level l is failed (rule 2.1)
 unfoldable pub failed : List ℕ → ℕ → ℕ → Bool
 failed t a l = bit l (getD t a 0)
 
--- a hop at level l from server a to server b is live: neither of its two links is failed
+-- a hop at level l from server a to server b is live: neither of its two links is failed (rule 2.3)
 unfoldable pub live : List ℕ → ℕ → ℕ → ℕ → Bool
 live t l a b = not (failed t a l) && not (failed t b l)
 
@@ -29,7 +29,7 @@ unfoldable pub withBit : Bool → ℕ → ℕ → ℕ
 withBit true l x = cond (bit l x) x (x + 2 ^ l)
 withBit false l x = cond (bit l x) (x - 2 ^ l) x
 
--- the table with the link of server a at level l failed, or not, and no other link changed
+-- the table with the link of server a at level l failed, or not, and no other link changed (rule 2.2)
 unfoldable pub changed : Bool → ℕ → ℕ → List ℕ → List ℕ
 changed b a l t = set t a (withBit b l (getD t a 0))
 
@@ -59,13 +59,13 @@ pub record TableOf (s : Shape) (t : List ℕ) : Type 0 where
   pub long : length t ≡ serversOf s
   pub fits : (a : ℕ) → fitsLevels (s .k) (getD t a 0) ≡ true
 
--- a dead server has all its links marked
+-- a dead server has all its links marked (rule 2.3)
 pub record Dead (s : Shape) (t : List ℕ) (a : ℕ) : Type 0 where
   pub all : (l : ℕ) → l ≤ s .k → failed t a l ≡ true
 
 -- ---- refusals
 
--- one byte for each server, and no bit above k
+-- one byte for each server, and no bit above k (rule 8.2)
 unfoldable pub tableRefusal : Shape → List ℕ → ℕ
 tableRefusal s t = 6 unless (eqb (length t) (serversOf s) && bitsFit (s .k) t)
 

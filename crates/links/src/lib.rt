@@ -7,6 +7,8 @@ mod bits;
 mod changes;
 // links.rt: one link, asked for, marked, cleared
 mod links;
+// servers.rt: all links of a server at once
+mod servers;
 // tables.rt: a whole table, and the links of a hop
 mod tables;
 
@@ -15,6 +17,8 @@ pub use changes::mark;
 pub use links::clear_link;
 pub use links::failed_link;
 pub use links::mark_link;
+pub use servers::clear_server;
+pub use servers::mark_server;
 pub use tables::is_live;
 pub use tables::room_refusal;
 pub use tables::table_refusal;

@@ -5,4 +5,5 @@ pub mod CodecLaws
 pub mod WalkLaws
 pub mod WriteLaws
 pub mod TurnLaws
+pub mod ByteLaws
 pub mod Unique

@@ -1,6 +1,10 @@
 -- Each public function's contract determines its answer: whatever meets it on some arguments is the one answer to them.
 use mathlib.Core.Path.{_∙_, sym}
 use Rattle.refusals.specs.Determined.{Determined}
+use Rattle.path.proofs.bytes.byte_of.Reads as byte-of
+use Rattle.path.proofs.bytes.byte_of.Kinds as byte-of-kinds
+use Rattle.path.proofs.bytes.parts_of.Reads as parts-of
+use Rattle.path.proofs.bytes.parts_of.Kinds as parts-of-kinds
 use Rattle.path.proofs.hops.hop_of.Reads as hop-of
 use Rattle.path.proofs.hops.hop_of.Kinds as hop-of-kinds
 use Rattle.path.proofs.hops.level_of.Reads as level-of
@@ -41,3 +45,9 @@ write-path-unique κs a x y s t e f = e ∙ sym f
 
 pub is-among-unique : Determined 1 is-among-kinds.ps is-among-kinds.r is-among.Post
 is-among-unique κs a x y s t e f = e ∙ sym f
+
+pub byte-of-unique : Determined 0 byte-of-kinds.ps byte-of-kinds.r byte-of.Post
+byte-of-unique κs a x y s t e f = e ∙ sym f
+
+pub parts-of-unique : Determined 0 parts-of-kinds.ps parts-of-kinds.r parts-of.Post
+parts-of-unique κs a x y s t e f = e ∙ sym f

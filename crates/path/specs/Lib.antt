@@ -1,4 +1,5 @@
 pub mod Routes
 pub mod Walks
 pub mod Answers
+pub mod Bytes
 pub mod Inside

@@ -10,7 +10,7 @@ use Rattle.room.specs.Shapes.{Server}
 use Rattle.room.specs.Addresses.{digit, switchOf, differing, Neighbours}
 use Rattle.links.specs.Table.{live}
 
--- a path byte: the level in its two high bits, the new value in the six low ones; and what it names
+-- a path byte: the level in its two high bits, the new value in the six low ones; and what it names (rule 3.3)
 unfoldable pub byteOf : ℕ → ℕ → ℕ
 byteOf l v = 64 * l + v
 
@@ -35,7 +35,7 @@ switchTo s a b = switchAt s (levelTo s a b) a
 unfoldable pub byteTo : Shape → ℕ → ℕ → ℕ
 byteTo s a b = byteOf (levelTo s a b) (digit s (levelTo s a b) b)
 
--- the switches that a route uses, and its eight path bytes
+-- the switches that a route uses, and its eight path bytes (rule 3.3)
 unfoldable pub switchesOf : Shape → List ℕ → List ℕ
 switchesOf s vs = inTurn (switchTo s) vs
 
@@ -43,7 +43,7 @@ unfoldable pub encode : Shape → List ℕ → List ℕ
 encode s vs = filled 8 (inTurn (byteTo s) vs)
 
 -- a route over the live links of a table, by the servers that it meets: 1 to 8 hops, each to a neighbour over two links
--- that are not failed, no server met twice, no switch used twice. Over the table with no bytes every link is live.
+-- that are not failed, no server met twice, no switch used twice. Over the table with no bytes every link is live. (rule 3.1)
 pub record Route (s : Shape) (t vs : List ℕ) : Type 0 where
   pub some : 2 ≤ length vs
   pub few : length vs ≤ 9
@@ -68,7 +68,7 @@ pub record RouteTo (s : Shape) (t : List ℕ) (a d : ℕ) (vs : List ℕ) : Type
   pub source : getD vs 0 0 ≡ a
   pub arrives : getD vs (length vs - 1) 0 ≡ d
 
--- two routes between the same ends are parallel: they share no switch and no server other than the ends
+-- two routes between the same ends are parallel: they share no switch and no server other than the ends (rule 3.2)
 pub record Parallel (s : Shape) (us vs : List ℕ) : Type 0 where
   pub switches : Apart (switchesOf s us) (switchesOf s vs)
   pub servers : Apart (middle us) (middle vs)

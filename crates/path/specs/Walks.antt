@@ -26,17 +26,17 @@ unfoldable pub hopRefusal : Shape → ℕ → ℕ → ℕ
 hopRefusal s a b =
     8 unless leb (levelOf b) (s .k) or-else 9 unless ltb (valueOf b) (bound s (levelOf b)) or-else 10 unless not (eqb (digit s (levelOf b) a) (valueOf b))
 
--- why a walk that has met these servers and used these switches does not take the hop by byte b from a: 8, 9, 10, 11, 12
+-- why a walk that has met these servers and used these switches does not take the hop by byte b from a: 8, 9, 10, 11, 12 (rule 8.4)
 unfoldable pub fault : Shape → List ℕ → List ℕ → List ℕ → ℕ → ℕ → ℕ
 fault s t met used a b =
     hopRefusal s a b or-else 11 unless live t (levelOf b) a (hopTo s a b) or-else 12 unless (not (isIn (hopTo s a b) met) && not (isIn (switchAt s (levelOf b) a) used))
 
--- arrived after h hops, with these bytes left: each must be zero, else 14 at the first that is not
+-- arrived after h hops, with these bytes left: each must be zero, else 14 at the first that is not (rule 3.4)
 unfoldable pub ended : ℕ → List ℕ → List ℕ → List ℕ → Walk
 ended h met used [] = arrived met used
 ended h met used (b ∷ bs) = cond (eqb b 0) (ended (h + 1) met used bs) (stopped 14 (h + 1))
 
--- walking on to d from server a after h hops, with these bytes left
+-- walking on to d from server a after h hops, with these bytes left (rule 3.4)
 unfoldable pub walkFrom : Shape → List ℕ → ℕ → ℕ → List ℕ → List ℕ → ℕ → List ℕ → Walk
 walkFrom s t d h met used a [] = stopped 13 8
 walkFrom s t d h met used a (b ∷ bs) =
@@ -63,7 +63,7 @@ unfoldable pub writeFault : Shape → List ℕ → List ℕ → ℕ → ℕ → 
 writeFault s met used a b =
     23 unless single (differing s a b) or-else 12 unless (not (isIn b met) && not (isIn (switchTo s a b) used))
 
--- the first refusal of writing the servers of a list after server a and h hops: 23, then 12, at each hop
+-- the first refusal of writing the servers of a list after server a and h hops: 23, then 12, at each hop (rule 3.5)
 unfoldable pub writeFrom : Shape → ℕ → List ℕ → List ℕ → ℕ → List ℕ → Refusal
 writeFrom s h met used a [] = none
 writeFrom s h met used a (b ∷ bs) =

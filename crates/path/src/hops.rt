@@ -11,18 +11,18 @@ use room::digit_bound;
 use room::power;
 use room::server_refusal;
 
-// The level that a path byte names.
-pub fn level_of(byte: u8) -> usize
+// The level that a path byte names; of a number that is no byte one above 3.
+pub fn level_of(byte: usize) -> usize
     ensures { λ r. ⌜ r ≡ levelOf byte ⌝ }
 {
-    byte as usize / 64
+    byte / 64
 }
 
 // The value that a path byte names.
-pub fn value_of(byte: u8) -> usize
+pub fn value_of(byte: usize) -> usize
     ensures { λ r. ⌜ r ≡ valueOf byte ⌝ }
 {
-    byte as usize % 64
+    byte % 64
 }
 
 fn no_hop(number: usize) -> Hop
@@ -36,8 +36,8 @@ pub(crate) fn hop_from(shape: Shape, server: usize, byte: u8) -> Hop
     requires { ⌜ serverRefusal shape server ≡ 0 ⌝ }
     ensures { λ r. ⌜ r ≡ hopFrom shape server byte ⌝ }
 {
-    let level = level_of(byte);
-    let value = value_of(byte);
+    let level = level_of(byte as usize);
+    let value = value_of(byte as usize);
     if shape.k < level {
         return no_hop(Refusal::POSITION);
     }

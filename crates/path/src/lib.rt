@@ -1,5 +1,7 @@
 // Path bytes: one hop, and whole arrays read, written and reversed.
 use refusals::Refusal;
+// bytes.rt: one path byte by itself
+mod bytes;
 // hops.rt: one hop, by its byte
 mod hops;
 // readings.rt: plain reading
@@ -13,6 +15,8 @@ mod walks;
 // writings.rt: the bytes of servers in turn
 mod writings;
 
+pub use bytes::byte_of;
+pub use bytes::parts_of;
 pub use hops::hop_of;
 pub use hops::level_of;
 pub use hops::value_of;
@@ -21,6 +25,13 @@ pub use repeats::is_among;
 pub use turns::reverse_path;
 pub use walks::walk;
 pub use writings::write_path;
+
+// The level and the value of a path byte; or a refusal and zeros.
+pub struct Parts {
+    pub refusal: Refusal,
+    pub level: usize,
+    pub value: usize,
+}
 
 // Where a hop leads; or the number of its refusal, whose place the caller knows, and 0.
 pub struct Hop {

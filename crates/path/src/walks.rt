@@ -60,7 +60,7 @@ fn try_hop(
     if hop.number != 0 {
         return no_try(hop.number);
     }
-    let level = level_of(byte);
+    let level = level_of(byte as usize);
     if is_live(table, level, server, hop.next) {
         return add_hop(met, used, hop.next, switch_at(shape, level, server));
     }

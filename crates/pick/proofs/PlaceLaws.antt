@@ -47,6 +47,11 @@ partAt r bs = take (8 * r - (8 * r - 8)) (drop (8 * r - 8) bs)
 abbrev partLies : ℕ → ℕ × ℕ → ℕ × ℕ
 partLies r p = (p .0, 8 * r - 8 + p .1)
 
+-- they lie in the list
+pub record Inside (r : ℕ) (bs : List ℕ) : Type 0 where
+  pub start : 8 ≤ 8 * r
+  pub end : 8 * r ≤ length bs
+
 part-is : (bs : List ℕ) (r i : ℕ) → r ≡ i + 1 → partAt r bs ≡ arrayAt i bs
 part-is bs r i e =
     let m : 8 * r - 8 ≡ 8 * i = omega arith in
@@ -93,18 +98,17 @@ module _ (s : Shape) (t : List ℕ) (a d : ℕ) (fs ks : List ℕ) where
     in-none f k =
         nowhere-of (pickRefusal s t a d fs ks) (pickSource s t a d fs ks) (λ z. f (ap (λ (y : Place). y .list) e ∙ z)) (λ z. k (ap (λ (y : Place). y .list) e ∙ z))
 
-    -- the eight bytes of the place lie in the list
-    pub fresh-inside : x .list ≡ 1 → (8 ≤ 8 * x .route) × (8 * x .route ≤ length fs)
+    pub fresh-inside : x .list ≡ 1 → Inside (x .route) fs
     fresh-inside h =
         let f = in-fresh h in
         let w : f .index < length fs / 8 = subst Within (sym (f .source)) within in
-        (omega (arith, f .route), omega (arith, f .route))
+        record { start = omega (arith, f .route); end = omega (arith, f .route) }
 
-    pub kept-inside : x .list ≡ 2 → (8 ≤ 8 * x .route) × (8 * x .route ≤ length ks)
+    pub kept-inside : x .list ≡ 2 → Inside (x .route) ks
     kept-inside h =
         let f = in-kept h in
         let w : f .index < length ks / 8 = subst Within (sym (f .source)) within in
-        (omega (arith, f .route), omega (arith, f .route))
+        record { start = omega (arith, f .route); end = omega (arith, f .route) }
 
     module _ (p q : ℕ × ℕ) where
       pub part-fresh : x .list ≡ 1 → Lies s t a d fs ks p q (partAt (x .route) fs) (partLies (x .route) p)

@@ -12,7 +12,7 @@ use Rattle.room.specs.declared.Shape.{Shape}
 use Rattle.links.specs.Table.{roomRefusal}
 use Rattle.verdict.specs.Checks.{arrays, checkAnswer}
 
--- whether checking takes an array as a list of one
+-- whether checking takes an array as a list of one (rule 6.2)
 unfoldable pub usable : Shape → List ℕ → ℕ → ℕ → List ℕ → Bool
 usable s t a d bs = eqb (checkAnswer s t a d bs .number) 0
 

@@ -3,6 +3,7 @@ pub mod PowerLaws
 pub mod RefusalLaws
 pub mod NumberLaws
 pub mod RoomLaws
+pub mod WiringLaws
 pub mod FourPlaces
 pub mod SideLaws
 pub mod AnswerLaws

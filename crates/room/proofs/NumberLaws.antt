@@ -9,6 +9,8 @@ use Rattle.refusals.specs.Refusals.{OneOf}
 use Rattle.refusals.proofs.NumberLaws.{test-one, chain-one, one-of}
 use Rattle.room.specs.declared.Shape.{Shape}
 use Rattle.room.specs.Shapes.{serversOf, bound}
+use Rattle.room.specs.Addresses.{switchesAt}
+use Rattle.room.specs.Wiring.{portRefusal, portNumbers}
 use Rattle.room.specs.Refusals.{shapeRefusal, shapeNumbers, levelRefusal, levelNumbers, serverRefusal, pairRefusal, serverNumbers, endsRefusal, endsNumbers, linkRefusal, linkNumbers, valueRefusal, valueNumbers, placesFit, placesRefusal, placesNumbers}
 
 module _ (s : Shape) where
@@ -43,3 +45,7 @@ module _ (s : Shape) where
   pub places-numbers : (ds : List ℕ) → OneOf placesNumbers (placesRefusal s ds)
   unfolding placesRefusal
   places-numbers ds = chain-one _ _ shape-numbers (test-one 21 (placesFit s 0 ds))
+
+  pub port-numbers : (l w v : ℕ) → OneOf portNumbers (portRefusal s l w v)
+  unfolding portRefusal
+  port-numbers l w v = chain-one _ _ (level-numbers l) (test-one 21 (ltb w (switchesAt s l) && ltb v (bound s l)))

@@ -29,6 +29,10 @@ use Rattle.room.proofs.addresses.digit_of.Reads as digit-of
 use Rattle.room.proofs.addresses.digit_of.Kinds as digit-of-kinds
 use Rattle.room.proofs.addresses.address_of.Reads as address-of
 use Rattle.room.proofs.addresses.address_of.Kinds as address-of-kinds
+use Rattle.room.proofs.wiring.switches_of.Reads as switches-of
+use Rattle.room.proofs.wiring.switches_of.Kinds as switches-of-kinds
+use Rattle.room.proofs.wiring.server_at.Reads as server-at
+use Rattle.room.proofs.wiring.server_at.Kinds as server-at-kinds
 use Rattle.room.proofs.switches.switch_of.Reads as switch-of
 use Rattle.room.proofs.switches.switch_of.Kinds as switch-of-kinds
 use Rattle.room.proofs.sides.side_of.Reads as side-of
@@ -91,3 +95,9 @@ neighbour-of-unique κs a x y s t e f = e ∙ sym f
 
 pub level-between-unique : Determined 0 level-between-kinds.ps level-between-kinds.r level-between.Post
 level-between-unique κs a x y s t e f = e ∙ sym f
+
+pub switches-of-unique : Determined 0 switches-of-kinds.ps switches-of-kinds.r switches-of.Post
+switches-of-unique κs a x y s t e f = e ∙ sym f
+
+pub server-at-unique : Determined 0 server-at-kinds.ps server-at-kinds.r server-at.Post
+server-at-unique κs a x y s t e f = e ∙ sym f

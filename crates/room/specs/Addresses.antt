@@ -8,7 +8,7 @@ use Rattle.room.specs.declared.Shape.{Shape}
 use Rattle.room.specs.Digits.{digitsOf, addressOf, strike, differFrom}
 use Rattle.room.specs.Shapes.{serversOf, bound}
 
--- the digits of server a, one for each level, digit 0 first
+-- the digits of server a, one for each level, digit 0 first (rule 1.2)
 unfoldable pub digits : Shape → ℕ → List ℕ
 digits s a = digitsOf (s .n) (suc (s .k)) a
 
@@ -20,11 +20,11 @@ digit s l a = getD (digits s a) l 0
 unfoldable pub withDigit : Shape → ℕ → ℕ → ℕ → ℕ
 withDigit s l v a = addressOf (s .n) (set (digits s a) l v)
 
--- the number of the switch at level l of server a: its digits with digit l struck out and the rest closed up
+-- the number of the switch at level l of server a: its digits with digit l struck out and the rest closed up (rule 1.4)
 unfoldable pub switchOf : Shape → ℕ → ℕ → ℕ
 switchOf s l a = addressOf (s .n) (strike l (digits s a))
 
--- how many switches a level has: each joins as many servers as digit l has values
+-- how many switches a level has: each joins as many servers as digit l has values (rule 1.4)
 unfoldable pub switchesAt : Shape → ℕ → ℕ
 switchesAt s l = serversOf s / bound s l
 
@@ -41,7 +41,7 @@ pub record Written (s : Shape) (ds : List ℕ) : Type 0 where
 pub record Beside (s : Shape) (l a b : ℕ) : Type 0 where
   pub agree : (i : ℕ) → i ≢ l → digit s i a ≡ digit s i b
 
--- servers a and b are neighbours at level l: they differ in digit l only
+-- servers a and b are neighbours at level l: they differ in digit l only (rule 1.5)
 pub record Neighbours (s : Shape) (l a b : ℕ) : Type 0 where
   pub level : l ≤ s .k
   pub beside : Beside s l a b

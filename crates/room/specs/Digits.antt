@@ -5,12 +5,12 @@ use mathlib.Core.Bool.{cond}
 use lib.Dec.{eqb}
 use lib.ListN.{length, getD, take, drop}
 
--- the m lowest digits of a to the base n
+-- the m lowest digits of a to the base n (rule 1.2)
 unfoldable pub digitsOf : ℕ → ℕ → ℕ → List ℕ
 digitsOf n zero a = []
 digitsOf n (suc m) a = a % n ∷ digitsOf n m (a / n)
 
--- the number that a list of digits writes
+-- the number that a list of digits writes (rule 1.2)
 unfoldable pub addressOf : ℕ → List ℕ → ℕ
 addressOf n [] = 0
 addressOf n (d ∷ ds) = d + n * addressOf n ds

@@ -1,4 +1,4 @@
--- Refusals of the room, by document 01's numbers and in its order, each chain with its numbers. 0 is no refusal.
+-- Refusals of the room, by their numbers and in their order (rules 8.2 and 8.4), each chain with its numbers. 0 is no refusal.
 use Prim.Native.Nat.{ℕ, suc}
 use mathlib.Core.List.{List, [], _∷_, _++_}
 use mathlib.Core.Bool.{Bool, true, not, cond, _&&_}

@@ -9,11 +9,11 @@ use Rattle.room.specs.declared.Shape.{Shape}
 abbrev pub fullRoom : ℕ → ℕ → Shape
 fullRoom n k = record { n = n; k = k }
 
--- N, the number of servers
+-- N, the number of servers (rule 1.1)
 unfoldable pub serversOf : Shape → ℕ
 serversOf s = s .n ^ suc (s .k)
 
--- digit l of an address is below this
+-- digit l of an address is below this (rule 1.3)
 unfoldable pub bound : Shape → ℕ → ℕ
 bound s l = s .n
 
@@ -25,14 +25,14 @@ powerOf n l = cond (leb 1 n && (leb n 64 && leb l 3)) (n ^ l) 0
 unfoldable pub serverCount : Shape → ℕ
 serverCount s = s .n * powerOf (s .n) (s .k)
 
--- the shapes that a room can have
+-- the shapes that a room can have (rule 1.1)
 pub record Valid (s : Shape) : Type 0 where
   pub two : 2 ≤ s .n
   pub ports : s .n ≤ 64
   pub levels : s .k ≤ 3
   pub small : serversOf s ≤ 4096
 
--- a is a server of the room
+-- a is a server of the room (rule 1.2)
 pub record Server (s : Shape) (a : ℕ) : Type 0 where
   pub valid : Valid s
   pub below : a < serversOf s
@@ -43,7 +43,7 @@ pub record Ends (s : Shape) (a d : ℕ) : Type 0 where
   pub destination : Server s d
   pub differ : a ≢ d
 
--- server a has a link at level l
+-- server a has a link at level l (rule 1.6)
 pub record Link (s : Shape) (a l : ℕ) : Type 0 where
   pub server : Server s a
   pub level : l ≤ s .k

@@ -19,6 +19,8 @@ mod sides;
 mod switches;
 // tests.rt: what is tested before a call answers
 mod tests;
+// wiring.rt: switches and their ports
+mod wiring;
 
 pub use addresses::address_of;
 pub use addresses::digit_of;
@@ -37,6 +39,8 @@ pub use tests::link_refusal;
 pub use tests::pair_refusal;
 pub use tests::server_refusal;
 pub use tests::shape_refusal;
+pub use wiring::server_at;
+pub use wiring::switches_of;
 
 // The shape of a room: n ports a switch, and levels 0 to k.
 pub struct Shape {

@@ -1,13 +1,12 @@
 -- Routes held in a set, array after array, and laid into a table.
-use Prim.Native.Nat.{ℕ, zero, suc, _+_, _*_, _≤_, _<_}
+use Prim.Native.Nat.{ℕ, suc, _+_, _*_, _≤_, _<_}
 use mathlib.Core.Path.{_≡_, refl, sym, ap, _∙_}
-use mathlib.Core.List.{List, [], _∷_, _++_, map, List·Memᴰ as In, List·Memᴰ·head, List·Memᴰ·tail}
+use mathlib.Core.List.{List, [], _∷_, _++_, map, map-append, List·Memᴰ as In, List·Memᴰ·head, List·Memᴰ·tail}
 use native.Mathlib.Omega.{arith}
-use native.Mathlib.Nat.{le-of-suc-le-suc}
 use native.Mathlib.Numerals.{add-one}
-use lib.ListN.{length, getD, take, drop, length-drop, length-append, length-map, drop-of-length-le}
+use lib.ListN.{length, getD, take, drop, length-drop, length-map, drop-of-length-le}
 use lib.Seq.{slice, slice-cons, getD-take, getD-drop, length-take-le}
-use Rattle.lists.proofs.ListLaws.{All}
+use Rattle.lists.proofs.ListLaws.{All, map-at, all-snoc, length-snoc}
 use Rattle.refusals.specs.declared.Refusal.{Refusal}
 use Rattle.room.specs.declared.Shape.{Shape}
 use Rattle.links.specs.Table.{TableOf}
@@ -55,40 +54,27 @@ array-bytes j r h l = eight-bytes (8 * j) (r .bytes) (omega arith)
 
 -- ---- a set of the arrays of routes
 
-map-at : {A B : Type 0} (f : A → B) (x : A) (y : B) (xs : List A) (i : ℕ) → i < length xs → getD (map f xs) i y ≡ f (getD xs i x)
-map-at f x y [] i h = let z : ⊥ = omega arith in absurd z
-map-at f x y (z ∷ zs) zero h = refl
-map-at f x y (z ∷ zs) (suc i) h = map-at f x y zs i (le-of-suc-le-suc h)
-
 map-eight : (s : Shape) (vss : List (List ℕ)) → ((vs : List ℕ) → In vs vss → length vs ≤ 9) → All (λ (x : List ℕ). length x ≡ 8) (map (encode s) vss)
 map-eight s [] h = tt
 map-eight s (vs ∷ vss) h = (encode-long s vs (h vs (List·Memᴰ·head refl)), map-eight s vss (λ us m. h us (List·Memᴰ·tail m)))
-
-map-snoc : (s : Shape) (vss : List (List ℕ)) (vs : List ℕ) → map (encode s) (vss ++ (vs ∷ [])) ≡ map (encode s) vss ++ (encode s vs ∷ [])
-map-snoc s [] vs = refl
-map-snoc s (us ∷ vss) vs = ap (λ (x : List (List ℕ)). encode s us ∷ x) (map-snoc s vss vs)
 
 gathered-snoc : (r : RouteSet) (xs : List (List ℕ)) (x : List ℕ) → gathered r (xs ++ (x ∷ [])) ≡ added (gathered r xs) x
 unfolding gathered
 gathered-snoc r [] x = refl
 gathered-snoc r (y ∷ ys) x = gathered-snoc (added r y) ys x
 
-all-snoc : (xs : List (List ℕ)) (x : List ℕ) → All (λ (y : List ℕ). length y ≡ 8) xs → length x ≡ 8 → All (λ (y : List ℕ). length y ≡ 8) (xs ++ (x ∷ []))
-all-snoc [] x h e = (e, tt)
-all-snoc (y ∷ ys) x h e = (h .0, all-snoc ys x (h .1) e)
-
 -- an array added after others
 set-more : (xs : List (List ℕ)) (x : List ℕ) → All (λ (y : List ℕ). length y ≡ 8) xs → length x ≡ 8 → length xs < 4 → added (setOf xs) x ≡ setOf (xs ++ (x ∷ []))
 set-more xs x h e l =
     ap (λ (r : RouteSet). added r x) (sym (gathered-set xs h (omega arith)))
     ∙ sym (gathered-snoc emptySet xs x)
-    ∙ gathered-set (xs ++ (x ∷ [])) (all-snoc xs x h e) (omega (arith, length-append xs (x ∷ [])))
+    ∙ gathered-set (xs ++ (x ∷ [])) (all-snoc (λ (y : List ℕ). length y ≡ 8) xs x h e) (omega (arith, length-snoc xs x))
 
 module _ (s : Shape) (vss : List (List ℕ)) (few : (vs : List ℕ) → In vs vss → length vs ≤ 9) where
   pub route-more : (vs : List ℕ) → length vs ≤ 9 → length vss < 4 → added (setOf (map (encode s) vss)) (encode s vs) ≡ setOf (map (encode s) (vss ++ (vs ∷ [])))
   route-more vs h l =
       set-more (map (encode s) vss) (encode s vs) (map-eight s vss few) (encode-long s vs h) (omega (arith, length-map vss (encode s)))
-      ∙ ap setOf (sym (map-snoc s vss vs))
+      ∙ ap setOf (sym (map-append (encode s) vss (vs ∷ [])))
 
   pub route-array : (j : ℕ) → j < length vss → arrayAt j (setOf (map (encode s) vss)) ≡ encode s (getD vss j [])
   route-array j h =

@@ -3,24 +3,23 @@
 use Prim.Native.Nat.{ℕ, zero, suc, _+_, _-_, _*_, _≤_, _<_, suc-le-suc, zero-le}
 use mathlib.Core.Path.{_≡_, refl, sym, ap, ap₂, _∙_, subst}
 use mathlib.Core.Logic.{_↔_}
-use mathlib.Core.Bool.{Bool, true, false, not, _&&_}
 use mathlib.Core.List.{List, [], _∷_, _++_, map, append-nil, append-assoc, List·Memᴰ·head}
 use native.Mathlib.Omega.{arith}
 use native.Mathlib.Nat.{le-of-suc-le-suc}
 use native.Mathlib.Decide.{ℕ-discrete}
-use lib.Dec.{ltb, leb, eqb}
 use lib.ListN.{length, getD, replicate, length-append, length-map}
 use lib.Seq.{append-snoc, take-at}
 use Rattle.lists.specs.Lists.{filled, downFrom}
-use Rattle.refusals.specs.Refusals.{none, _or-else_, _unless_}
-use Rattle.refusals.proofs.ChainLaws.{or-else-zero}
+use Rattle.refusals.specs.Refusals.{none}
 use Rattle.refusals.proofs.AnswerLaws.{answer-none}
 use Rattle.room.specs.declared.Shape.{Shape}
-use Rattle.room.specs.Shapes.{serversOf, Ends}
-use Rattle.room.specs.Refusals.{shapeRefusal, serverRefusal, pairRefusal, endsRefusal}
-use Rattle.room.proofs.RefusalLaws.{ends-of}
-use Rattle.links.specs.Table.{bitsFit, tableRefusal, roomRefusal}
-use Rattle.links.proofs.TableLaws.{live-zeros}
+use Rattle.room.specs.Shapes.{Ends}
+use Rattle.room.specs.Refusals.{endsRefusal}
+use Rattle.room.proofs.RefusalLaws.{ends-none}
+use Rattle.links.specs.Table.{roomRefusal}
+use Rattle.refusals.proofs.NumberLaws.{one-le}
+use Rattle.links.proofs.NumberLaws.{room-numbers}
+use Rattle.links.proofs.TableLaws.{room-of, live-zeros}
 use Rattle.path.specs.Routes.{encode, RouteTo}
 use Rattle.verdict.specs.Checks.{checkAnswer}
 use Rattle.verdict.specs.Accepted.{encodeAll, Accepted}
@@ -35,24 +34,6 @@ use Rattle.select.specs.Selection.{Unbroken, Slot, kept, replaced, nothi
 use Rattle.select.specs.Inside.{Settled}
 use Rattle.select.proofs.AvoidedLaws.{lower, none-avoided}
 use Rattle.select.proofs.SlotLaws.{member-at, all-settled}
-
--- ---- where nothing is refused
-
-pub select-ends : (s : Shape) (t : List ℕ) (a d : ℕ) → roomRefusal s t a d ≡ 0 → Ends s a d
-unfolding roomRefusal
-select-ends s t a d e = ends-of s a d (or-else-zero (endsRefusal s a d) (tableRefusal s t) e .0)
-
-pub select-table : (s : Shape) (t : List ℕ) (a d : ℕ) → roomRefusal s t a d ≡ 0 → tableRefusal s t ≡ 0
-unfolding roomRefusal
-select-table s t a d e = or-else-zero (endsRefusal s a d) (tableRefusal s t) e .1
-
-select-ends-zero : (s : Shape) (t : List ℕ) (a d : ℕ) → roomRefusal s t a d ≡ 0 → endsRefusal s a d ≡ 0
-unfolding roomRefusal
-select-ends-zero s t a d e = or-else-zero (endsRefusal s a d) (tableRefusal s t) e .0
-
-select-room : (s : Shape) (t : List ℕ) (a d : ℕ) → roomRefusal s t a d ≡ 0 → roomRefusal s t a d ≡ 0
-unfolding roomRefusal
-select-room s t a d e = e
 
 -- ---- what is written
 
@@ -94,7 +75,7 @@ pub gives : {s : Shape} {t : List ℕ} {a d : ℕ} {r : Selection} → Selecting
 gives {s} {t} {a} {d} {r} h n =
     let e = no-refusal h n in
     let c = h .given e in
-    given-by (c .routes) (c .slots) (c .answer) (all-settled t (select-ends s t a d e) (c .slots)) n
+    given-by (c .routes) (c .slots) (c .answer) (all-settled t (room-of s t a d e .0) (c .slots)) n
 
 pub gives-accepted : {s : Shape} {t : List ℕ} {a d : ℕ} {r : Selection} → Gives s t a d r → Accepted s t a d (held (r .routes))
 gives-accepted {s} {t} {a} {d} {r} g =
@@ -114,7 +95,7 @@ selection-accepted s t a d r h n = gives-accepted (gives h n)
 -- and checking accepts it
 pub selection-checked : (s : Shape) (t : List ℕ) (a d : ℕ) (r : Selection) → Selecting s t a d r → r .refusal .number ≡ 0 → checkAnswer s t a d (held (r .routes)) ≡ none
 selection-checked s t a d r h n =
-    of-accepted s t a d (held (r .routes)) (select-room s t a d (no-refusal h n)) (selection-accepted s t a d r h n)
+    of-accepted s t a d (held (r .routes)) (no-refusal h n) (selection-accepted s t a d r h n)
 
 -- ---- 16 exactly when there is no route at all
 
@@ -191,45 +172,12 @@ first-none s t a d h = go (h .higher) (h .given) (h .lowers) (h .slot) (h .whole
     go [] (x ∷ given) lowers h e vs v = let z : ⊥ = omega (arith, ap length e) in absurd z
     go (x ∷ higher) given lowers h e vs v = let z : ⊥ = omega (arith, ap length e) in absurd z
 
--- the refusals before 16
-or-else-le : (m p q : ℕ) → p ≤ m → q ≤ m → (p or-else q) ≤ m
-unfolding _or-else_
-or-else-le m zero q h k = k
-or-else-le m (suc p) q h k = h
-
-unless-le : (m r : ℕ) (b : Bool) → r ≤ m → (r unless b) ≤ m
-unless-le m r true h = zero-le
-unless-le m r false h = h
-
-shape-le : (s : Shape) → shapeRefusal s ≤ 6
-unfolding shapeRefusal
-shape-le s =
-    or-else-le 6 (1 unless (leb 2 (s .n) && leb (s .n) 64) or-else 2 unless leb (s .k) 3) (3 unless leb (serversOf s) 4096)
-    (or-else-le 6 (1 unless (leb 2 (s .n) && leb (s .n) 64)) (2 unless leb (s .k) 3) (unless-le 6 1 (leb 2 (s .n) && leb (s .n) 64) (omega arith)) (unless-le 6 2 (leb (s .k) 3) (omega arith)))
-    (unless-le 6 3 (leb (serversOf s) 4096) (omega arith))
-
-server-le : (s : Shape) (a : ℕ) → serverRefusal s a ≤ 6
-unfolding serverRefusal
-server-le s a = or-else-le 6 (shapeRefusal s) (4 unless ltb a (serversOf s)) (shape-le s) (unless-le 6 4 (ltb a (serversOf s)) (omega arith))
-
-ends-le : (s : Shape) (a d : ℕ) → endsRefusal s a d ≤ 6
-unfolding endsRefusal pairRefusal
-ends-le s a d =
-    or-else-le 6 (serverRefusal s a or-else serverRefusal s d) (5 unless not (eqb a d)) (or-else-le 6 (serverRefusal s a) (serverRefusal s d) (server-le s a) (server-le s d))
-    (unless-le 6 5 (not (eqb a d)) (omega arith))
-
-pub select-le : (s : Shape) (t : List ℕ) (a d : ℕ) → roomRefusal s t a d ≤ 6
-unfolding roomRefusal tableRefusal
-select-le s t a d =
-    or-else-le 6 (endsRefusal s a d) (6 unless (eqb (length t) (serversOf s) && bitsFit (s .k) t)) (ends-le s a d)
-    (unless-le 6 6 (eqb (length t) (serversOf s) && bitsFit (s .k) t) (omega arith))
-
 -- 16 only where nothing else is refused
 pub sixteen-only : (s : Shape) (t : List ℕ) (a d : ℕ) (r : Selection) → Selecting s t a d r → r .refusal .number ≡ 16 → roomRefusal s t a d ≡ 0
 sixteen-only s t a d r h n =
     elim (ℕ-discrete (roomRefusal s t a d) 0) [
       | yes e ↦ e
-      | no e ↦ let z : ⊥ = omega (arith, ap (λ (x : Selection). x .refusal .number) (h .refused e), select-le s t a d, n) in absurd z
+      | no e ↦ let z : ⊥ = omega (arith, ap (λ (x : Selection). x .refusal .number) (h .refused e), one-le 6 refl (room-numbers s t a d), n) in absurd z
     ]
 
 none-sixteen : (s : Shape) (routes : List (List ℕ)) → selection s routes .refusal .number ≡ 16 → routes ≡ []
@@ -238,7 +186,7 @@ none-sixteen s (vs ∷ vss) e = let z : ⊥ = omega arith in absurd z
 
 -- where nothing else is refused: 16 exactly when no route at all, of eight hops or fewer, crosses only live links
 pub none-selected-exactly : (s : Shape) (t : List ℕ) (a d : ℕ) (r : Selection) → roomRefusal s t a d ≡ 0 → Selecting s t a d r → (r .refusal .number ≡ 16) ↔ ((vs : List ℕ) → RouteTo s t a d vs → ⊥)
-none-selected-exactly s t a d r e h = (there, back (c .routes) (c .answer) (all-settled t (select-ends s t a d e) (c .slots)))
+none-selected-exactly s t a d r e h = (there, back (c .routes) (c .answer) (all-settled t (room-of s t a d e .0) (c .slots)))
   where
     c : GivesRoutes s t a d r
     c = h .given e
@@ -277,17 +225,13 @@ pub unbroken-built : (s : Shape) (t : List ℕ) (a d : ℕ) (r : Selection) → 
 unfolding buildAnswer builtArrays
 unbroken-built s t a d r e h u =
     let c = h .given e in
-    let ends = select-ends s t a d e in
-    let b : endsRefusal s a d ≡ 0 = or-zero in
-    let n = answer-none (endsRefusal s a d) noBuilding (aBuilding (setOf (builtArrays s a d))) (sym b) in
+    let ends = room-of s t a d e .0 in
+    let n = answer-none (endsRefusal s a d) noBuilding (aBuilding (setOf (builtArrays s a d))) (ends-none ends) in
     let q : c .routes ≡ lower s a d (suc (s .k)) = all-unbroken s t a d (suc (s .k)) [] (c .routes) (λ i p. u i (le-of-suc-le-suc p)) (c .slots) in
     let w : r ≡ selection s (lower s a d (suc (s .k))) = c .answer ∙ ap (selection s) q in (
       ap (λ (x : Selection). x .refusal) w ∙ ap (λ (x : Building). x .refusal) (sym n),
       ap (λ (x : Selection). x .routes) w ∙ ap setOf (encode-lower ends (suc (s .k)) (omega arith)) ∙ ap (λ (x : Building). x .routes) (sym n),
     )
-  where
-    or-zero : endsRefusal s a d ≡ 0
-    or-zero = select-ends-zero s t a d e
 
 -- and so with no failed link
 pub no-failed-built : (s : Shape) (m : ℕ) (a d : ℕ) (r : Selection) → roomRefusal s (replicate m 0) a d ≡ 0 → Selecting s (replicate m 0) a d r → (r .refusal ≡ buildAnswer s a d .refusal) × (r .routes ≡ buildAnswer s a d .routes)

@@ -9,14 +9,13 @@ use lib.ListN.{length, getD, take, drop, set, replicate, length-replicate}
 use lib.Seq.{slice, take-suc, take-suc-set, take-all, length-take-le}
 use Rattle.refusals.specs.declared.Refusal.{Refusal}
 use Rattle.refusals.specs.Refusals.{none}
-use Rattle.refusals.proofs.ChainLaws.{chain-goes}
 use Rattle.refusals.proofs.AnswerLaws.{answer-none}
 use Rattle.room.specs.declared.Shape.{Shape}
 use Rattle.room.specs.Refusals.{endsRefusal}
 use Rattle.room.specs.Shapes.{Ends}
 use Rattle.room.proofs.RefusalLaws.{ends-none}
-use Rattle.links.specs.Table.{tableRefusal, TableOf, roomRefusal}
-use Rattle.links.proofs.TableLaws.{table-of, table-none}
+use Rattle.links.specs.Table.{TableOf, roomRefusal}
+use Rattle.links.proofs.TableLaws.{room-of, room-none}
 use Rattle.path.specs.declared.Walked.{Walked}
 use Rattle.path.specs.Routes.{RouteTo, encode}
 use Rattle.path.specs.Answers.{walkAnswer}
@@ -41,7 +40,6 @@ use Rattle.select.specs.Inside.{Holds, SoFar, Around}
 use Rattle.select.proofs.AvoidedLaws.{lower, lower-from, avoided-laid}
 use Rattle.select.proofs.SlotLaws.{unbroken-route, settled-none, built-to, slot-settled, avoided-routes}
 use Rattle.select.proofs.HeldLaws.{set-count, route-more, holds-count, holds-array}
-use Rattle.select.proofs.SelectLaws.{select-ends, select-table}
 
 -- ---- copying a table
 
@@ -106,7 +104,6 @@ module _ {s : Shape} {t : List ℕ} {a d : ℕ} {routes : List (List ℕ)} {u : 
       record { route = p .0; avoids = p .1; first = λ us r f b. h .first us (laid-exactly laid between us .1 (r, f)) b }
 
   around-of : {r : Found} → Ends s a d → Finding s u a d r → Around s t a d routes r
-  unfolding roomRefusal
   around-of {r} ends f =
       record {
         given = λ p. let g = f .given none p in (g .servers, alternate-around (g .alternate), ap (λ (x : Found). x .bytes) (g .answer));
@@ -114,16 +111,16 @@ module _ {s : Shape} {t : List ℕ} {a d : ℕ} {routes : List (List ℕ)} {u : 
       }
     where
       none : roomRefusal s u a d ≡ 0
-      none = sym (chain-goes 0 (endsRefusal s a d) (tableRefusal s u) 0 (ends-none ends) refl (table-none (laid .table)))
+      none = sym (room-none ends (laid .table))
 
 -- ---- what is known with slots to come
 
 module _ {s : Shape} {t : List ℕ} {a d i : ℕ} {set : RouteSet} (p : SoFar s t a d (suc i) set) where
   so-ends : Ends s a d
-  so-ends = select-ends s t a d (p .refusal)
+  so-ends = room-of s t a d (p .refusal) .0
 
   so-table : TableOf s t
-  so-table = table-of s t (select-table s t a d (p .refusal))
+  so-table = room-of s t a d (p .refusal) .1
 
   so-holds : Holds s a d set (p .routes)
   so-holds = record { written = p .written; each = λ vs m. route-to-plain (p .settled .each vs m) }
@@ -217,8 +214,8 @@ none-written s = gathered-set [] tt zero-le
 
 pub so-starts : (s : Shape) (t : List ℕ) (a d : ℕ) (set : RouteSet) → roomRefusal s t a d ≡ 0 → set ≡ emptySet → SoFar s t a d (s .k + 1) set
 so-starts s t a d set z e =
-    let v = select-ends s t a d z .source .valid in
-    let k = table-of s t (select-table s t a d z) in
+    let room = room-of s t a d z in
+    let v = room .0 .source .valid in
     subst (λ (m : ℕ). SoFar s t a d m set) (sym (add-one (s .k)))
     (record {
       refusal = z;
@@ -228,7 +225,7 @@ so-starts s t a d set z e =
       onward = λ x c. c;
       levels = v .levels;
       count = omega (arith, ap (λ (x : RouteSet). x .count) e);
-      long = omega (arith, v .small, k .long);
+      long = omega (arith, v .small, room .1 .long);
     })
 
 pub so-at : {s : Shape} {t : List ℕ} {a d m : ℕ} {set : RouteSet} → SoFar s t a d m set → 0 < m → SoFar s t a d (suc (m - 1)) set
@@ -242,7 +239,7 @@ so-ends-at {s} {t} {a} {d} {m} {set} p h = let q : m ≡ 0 = omega arith in subs
 pub built-answered : (s : Shape) (t : List ℕ) (a d r : ℕ) (x : Building) → r ≡ roomRefusal s t a d → r ≡ 0 → x ≡ buildAnswer s a d → x .routes ≡ setOf (builtArrays s a d)
 unfolding buildAnswer
 built-answered s t a d r x e z q =
-    ap (λ (y : Building). y .routes) (q ∙ answer-none (endsRefusal s a d) noBuilding (aBuilding (setOf (builtArrays s a d))) (ends-none (select-ends s t a d (sym e ∙ z))))
+    ap (λ (y : Building). y .routes) (q ∙ answer-none (endsRefusal s a d) noBuilding (aBuilding (setOf (builtArrays s a d))) (ends-none (room-of s t a d (sym e ∙ z) .0)))
 
 pub selecting-refused : {s : Shape} {t : List ℕ} {a d : ℕ} (r : ℕ) → r ≡ roomRefusal s t a d → (r ≡ 0 → ⊥) → (x : Selection) → x ≡ noSelection r → Selecting s t a d x
 selecting-refused r e n x q = record { refused = λ m. q ∙ ap noSelection e; given = λ z. absurd (n (e ∙ z)) }

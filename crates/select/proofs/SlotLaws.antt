@@ -5,8 +5,9 @@ use mathlib.Core.Logic.{⊎-elim}
 use mathlib.Core.List.{List, [], _∷_, _++_, append-nil, List·Memᴰ as In, List·Memᴰ·head, List·Memᴰ·tail, List·Memᴰ·not-nil, List·Memᴰ·append-cases, List·Memᴰ·eq-of-singleton}
 use native.Mathlib.Omega.{arith}
 use native.Mathlib.Decide.{ℕ-discrete}
-use lib.ListN.{length, getD, length-append, List·getD-append}
+use lib.ListN.{length, getD, List·getD-append}
 use lib.Seq.{getD-append-seam}
+use Rattle.lists.proofs.ListLaws.{length-snoc}
 use Rattle.room.specs.declared.Shape.{Shape}
 use Rattle.room.specs.Shapes.{Ends}
 use Rattle.path.specs.Routes.{RouteTo, Parallel}
@@ -45,9 +46,6 @@ settled-skip h =
     record { each = h .each; apart = h .apart; clear = λ vs m j q. h .clear vs m j (omega arith); few = omega (arith, h .few) }
 
 module _ {s : Shape} {t : List ℕ} {a d i : ℕ} {routes : List (List ℕ)} (h : Settled s t a d (suc i) routes) (vs : List ℕ) where
-  more-long : length (routes ++ (vs ∷ [])) ≡ suc (length routes)
-  more-long = length-append routes (vs ∷ []) ∙ omega arith
-
   more-in : (j : ℕ) → j < length routes → getD (routes ++ (vs ∷ [])) j [] ≡ getD routes j []
   more-in j p = List·getD-append routes (vs ∷ []) [] j p
 
@@ -64,13 +62,13 @@ module _ {s : Shape} {t : List ℕ} {a d i : ℕ} {routes : List (List ℕ)} (h 
       record {
         each = of-more (RouteTo s t a d) (h .each) r;
         apart = λ j m p q.
-            let w : j < length routes = omega (arith, more-long) in
+            let w : j < length routes = omega (arith, length-snoc routes vs) in
             elim (ℕ-discrete m (length routes)) [
               | yes e ↦ rw (more-in j w, more-end m e) (before (getD routes j []) (member-at routes j w))
-              | no e ↦ let v : m < length routes = omega (arith, more-long) in rw (more-in j w, more-in m v) (h .apart j m p v)
+              | no e ↦ let v : m < length routes = omega (arith, length-snoc routes vs) in rw (more-in j w, more-in m v) (h .apart j m p v)
             ];
         clear = of-more (λ us. (m : ℕ) → m < i → Unbroken s t (builtRoute s m a d) → Parallel s us (builtRoute s m a d)) (λ us n m q. h .clear us n m (omega arith)) after;
-        few = omega (arith, h .few, more-long);
+        few = omega (arith, h .few, length-snoc routes vs);
       }
 
 -- ---- slot after slot

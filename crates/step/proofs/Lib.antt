@@ -1,4 +1,3 @@
 pub mod StepLaws
-pub mod PackLaws
 pub mod DeliveryLaws
 pub mod Unique

@@ -5,6 +5,7 @@ use mathlib.Core.Logic.{_≢_}
 use mathlib.Core.List.{List}
 use mathlib.Core.Bool.{Bool, true, false, not, cond, _&&_}
 use native.Mathlib.Omega.{arith}
+use native.Mathlib.Decide.{decLt}
 use lib.ListN.{length, getD}
 use lib.Dec.{ltb, leb, eqb}
 use borrow.Author.Tests.{lt-ltb, le-ltb, ltb-true, eq-eqb, ne-eqb, eqb-true}
@@ -100,6 +101,31 @@ placed-number i r = go (atHop r)
     go : (t : Bool) → cond t (refusedAt r 1 (i + 1)) (plain r) .number ≡ r
     go true = refl
     go false = refl
+
+-- a step's hop is at most 8: past the eighth byte nothing arises at a hop
+module _ (s : Shape) (a d i : ℕ) (bs e : List ℕ) where
+  far-plain : 8 ≤ i → atHop (stepRefusal s a d i bs e) ≡ false
+  unfolding stepRefusal awayRefusal _or-else_ atHop
+  far-plain h = chain-plain (givenRefusal s a d bs e) _ (given-plain s a d bs e) (go (eqb a d))
+    where
+      go : (t : Bool) → atHop (cond t 0 (awayRefusal s a i bs e)) ≡ false
+      go true = refl
+      go false = rw (le-ltb i 8 h)
+
+  placed-le : (r : ℕ) → placed i r .hop ≤ i + 1
+  unfolding placed
+  placed-le r = go (atHop r)
+    where
+      go : (t : Bool) → cond t (refusedAt r 1 (i + 1)) (plain r) .hop ≤ i + 1
+      go true = omega arith
+      go false = omega arith
+
+  pub hop-le : placed i (stepRefusal s a d i bs e) .hop ≤ 8
+  hop-le =
+      elim (decLt i 8) [
+        | yes y ↦ omega (arith, placed-le (stepRefusal s a d i bs e))
+        | no y ↦ omega (arith, ap (λ (r : Refusal). r .hop) (placed-plain i (stepRefusal s a d i bs e) (far-plain (omega arith))))
+      ]
 
 -- ---- the chain, way by way
 

@@ -14,7 +14,7 @@ use Rattle.step.specs.declared.Step.{Step}
 use Rattle.step.specs.Steps.{flagAt, stepAnswer}
 
 -- the neighbour table e of server a agrees with the failed-link table t: for each neighbour, by its path byte b, the flag is 1
--- exactly if both links of that hop are live
+-- exactly if both links of that hop are live (rule 7.4)
 pub record Agrees (s : Shape) (t : List ℕ) (a : ℕ) (e : List ℕ) : Type 0 where
   pub flags : (b : ℕ) → b < 256 → hopRefusal s a b ≡ 0 → (flagAt e b ≡ 1) ↔ (live t (levelOf b) a (hopTo s a b) ≡ true)
 

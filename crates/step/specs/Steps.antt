@@ -17,7 +17,7 @@ use Rattle.step.specs.declared.Step.{Step}
 unfoldable pub entry : List ℕ → ℕ → ℕ → ℕ
 entry e b j = getD e (8 * b + j) 0
 
--- its six bytes MAC, its OutPort, its StatusFlag
+-- its six bytes MAC, its OutPort, its StatusFlag (rule 7.1)
 unfoldable pub macAt : List ℕ → ℕ → List ℕ
 macAt e b = entry e b 0 ∷ entry e b 1 ∷ entry e b 2 ∷ entry e b 3 ∷ entry e b 4 ∷ entry e b 5 ∷ []
 
@@ -39,7 +39,7 @@ byteRefusal s a e b = hopRefusal s a b or-else 19 unless eqb (flagAt e b) 1
 unfoldable pub awayRefusal : Shape → ℕ → ℕ → List ℕ → List ℕ → ℕ
 awayRefusal s a i bs e = 18 unless ltb i 8 or-else byteRefusal s a e (getD bs i 0)
 
--- the chain: at the destination there is no refusal more, whatever the index
+-- the chain: at the destination there is no refusal more, whatever the index (rule 8.4)
 unfoldable pub stepRefusal : Shape → ℕ → ℕ → ℕ → List ℕ → List ℕ → ℕ
 stepRefusal s a d i bs e = givenRefusal s a d bs e or-else cond (eqb a d) 0 (awayRefusal s a i bs e)
 
@@ -64,7 +64,7 @@ noStep r = standing r false
 abbrev pub delivery : Step
 delivery = standing none true
 
--- the hop by byte b: the next server, i + 1, the MAC and the OutPort as stored
+-- the hop by byte b: the next server, i + 1, the MAC and the OutPort as stored (rule 7.3)
 abbrev pub forwarded : Shape → ℕ → ℕ → List ℕ → ℕ → Step
 forwarded s a i e b = record { refusal = none; delivered = false; next = hopTo s a b; index = i + 1; mac = macAt e b; port = portAt e b }
 

@@ -1,7 +1,5 @@
 // One forwarding step: where a packet goes next, by its path bytes and its server's neighbour table.
 use refusals::Refusal;
-// exports.rt: the step for the driver in C
-mod exports;
 // next.rt: the next server
 mod next;
 // steps.rt: the step
@@ -9,8 +7,6 @@ mod steps;
 // tests.rt: what is tested before a step answers
 mod tests;
 
-pub use exports::bcube_step;
-pub use exports::bcube_step_mac;
 pub use steps::step_once;
 
 // Where a packet goes next: the next server, the next hop index, and the MAC and OutPort as stored;

@@ -22,7 +22,7 @@ fn stand(refusal: Refusal, delivered: bool) -> Step
 }
 
 // The six bytes of the MAC in the entry of a path byte.
-pub(crate) fn mac_at(table: &[u8], byte: u8) -> [u8; 6]
+fn mac_at(table: &[u8], byte: u8) -> [u8; 6]
     requires { ⌜ length (now table) ≡ 2048 ⌝ }
     ensures { λ r. ⌜ r ≡ macAt (now (table .entry)) byte ⌝ }
 {

@@ -1,7 +1,7 @@
 -- What a loop over a list finds: one law for each way through a turn.
 use Prim.Native.Nat.{ℕ, zero, suc, _+_, _-_, _≤_, _<_}
 use mathlib.Core.Path.{_≡_, sym, ap, ap₂, _∙_}
-use mathlib.Core.Bool.{Bool, true, false}
+use mathlib.Core.Bool.{Bool, true, false, cond}
 use mathlib.Core.List.{List, [], _∷_}
 use native.Mathlib.Omega.{arith}
 use lib.ListN.{length, getD, drop, take, length-take, drop-of-length-le}
@@ -13,19 +13,22 @@ use Rattle.refusals.specs.declared.Refusal.{Refusal}
 use Rattle.refusals.specs.Refusals.{none, refusedAt}
 use Rattle.path.specs.declared.Walked.{Walked}
 use Rattle.verdict.specs.Checks.{disjoint, switchesIn, between, parallel, firstMeeting, firstPair, firstOf}
-use Rattle.verdict.specs.Arrived.{nowhere, Arrived}
+use Rattle.verdict.specs.Arrived.{nowhere, Arrived, AllArrived}
 
-pub apart-hit : (xs ys : List ℕ) (j : ℕ) (r : Bool) → j < length xs → r ≡ isIn (getD xs j 0) ys → r ≡ true → disjoint (drop j xs) ys ≡ false
-unfolding disjoint
-apart-hit xs ys j r h e t = rw (left xs j 0 h, ← e, t)
+-- ---- from place j on: what is left there is the whole answer
 
-pub apart-miss : (xs ys : List ℕ) (j : ℕ) (r : Bool) → j < length xs → r ≡ isIn (getD xs j 0) ys → r ≡ false → disjoint (drop j xs) ys ≡ disjoint (drop (j + 1) xs) ys
-unfolding disjoint
-apart-miss xs ys j r h e t = rw (left xs j 0 h, ← e, t)
+module _ (xs ys : List ℕ) (j : ℕ) (e : disjoint (drop j xs) ys ≡ disjoint xs ys) where
+  pub apart-hit : (r : Bool) → r ≡ isIn (getD xs j 0) ys → r ≡ true → j < length xs → false ≡ disjoint xs ys
+  unfolding disjoint
+  apart-hit r f t h = rw (left xs j 0 h, ← f, t) at e
 
-pub apart-end : (xs ys : List ℕ) (j : ℕ) → length xs ≤ j → disjoint (drop j xs) ys ≡ true
-unfolding disjoint
-apart-end xs ys j h = rw (drop-of-length-le xs h)
+  pub apart-miss : (r : Bool) → r ≡ isIn (getD xs j 0) ys → r ≡ false → j < length xs → disjoint (drop (j + 1) xs) ys ≡ disjoint xs ys
+  unfolding disjoint
+  apart-miss r f t h = rw (left xs j 0 h, ← f, t) at e
+
+  pub apart-end : length xs ≤ j → true ≡ disjoint xs ys
+  unfolding disjoint
+  apart-end h = rw (drop-of-length-le xs h) at e
 
 -- ---- two walked arrays
 
@@ -37,6 +40,9 @@ mid (suc c) (x ∷ xs) p h =
     let e : length (take c xs) ≡ c = length-take-le c xs (omega arith) in
     let f : suc c - 1 - 1 ≡ suc (length (take c xs)) - 2 = omega arith in
     rw f (sym (take-take (suc (length (take c xs)) - 2) c xs (omega arith)))
+
+pub switches-long : (w : Walked) → Arrived w → w .count - 1 ≡ length (take (w .count - 1) (w .switches))
+switches-long w h = sym (length-take-le (w .count - 1) (w .switches) (omega (arith, h .few, h .long-switches)))
 
 pub parallel-not : (u v : Walked) (r : Bool) → r ≡ disjoint (take (u .count - 1) (u .switches)) (take (v .count - 1) (v .switches)) → r ≡ false → false ≡ parallel u v
 unfolding parallel switchesIn
@@ -59,17 +65,22 @@ from j m ws h l =
 past : (j m : ℕ) (ws : List Walked) → m ≤ j → drop j (take m ws) ≡ []
 past j m ws h = let e : length (take m ws) ≤ j = omega (arith, length-take m ws) in drop-of-length-le (take m ws) e
 
-pub meeting-on : (w : Walked) (i j m : ℕ) (ws : List Walked) (r : Bool) → j < m → m ≤ length ws → r ≡ parallel w (getD ws j nowhere) → r ≡ true → firstMeeting w i (drop j (take m ws)) ≡ firstMeeting w (i + 1) (drop (j + 1) (take m ws))
-unfolding firstMeeting
-meeting-on w i j m ws r h l e t = rw (from j m ws h l, ← e, t)
+-- the arrays after place i, from place j on
+module _ (w : Walked) (i j m : ℕ) (ws : List Walked) (e : firstMeeting w (j + 1) (drop j (take m ws)) ≡ firstMeeting w (i + 1 + 1) (drop (i + 1) (take m ws))) where
+  module _ (r : Bool) (f : r ≡ parallel w (getD ws j nowhere)) (p : AllArrived m ws) (q : m ≤ 4) (h : j < m) where
+    meets : firstMeeting w (j + 1) (drop j (take m ws)) ≡ cond r (firstMeeting w (j + 1 + 1) (drop (j + 1) (take m ws))) (refusedAt 15 (j + 1) 0)
+    unfolding firstMeeting
+    meets = rw (from j m ws h (omega (arith, p .long)), ← f)
 
-pub meeting-here : (w : Walked) (i j m : ℕ) (ws : List Walked) (r : Bool) → j < m → m ≤ length ws → r ≡ parallel w (getD ws j nowhere) → r ≡ false → firstMeeting w i (drop j (take m ws)) ≡ refusedAt 15 i 0
-unfolding firstMeeting
-meeting-here w i j m ws r h l e t = rw (from j m ws h l, ← e, t)
+    pub meeting-on : r ≡ true → firstMeeting w (j + 1 + 1) (drop (j + 1) (take m ws)) ≡ firstMeeting w (i + 1 + 1) (drop (i + 1) (take m ws))
+    meeting-on t = sym (meets ∙ rw t) ∙ e
 
-pub meeting-end : (w : Walked) (i j m : ℕ) (ws : List Walked) → m ≤ j → firstMeeting w i (drop j (take m ws)) ≡ none
-unfolding firstMeeting
-meeting-end w i j m ws h = rw (past j m ws h)
+    pub meeting-here : {x : Refusal} → r ≡ false → x ≡ refusedAt 15 (j + 1) 0 → x ≡ firstMeeting w (i + 1 + 1) (drop (i + 1) (take m ws))
+    meeting-here t g = g ∙ sym (meets ∙ rw t) ∙ e
+
+  pub meeting-end : {x : Refusal} → m ≤ j → x ≡ none → x ≡ firstMeeting w (i + 1 + 1) (drop (i + 1) (take m ws))
+  unfolding firstMeeting
+  meeting-end h g = g ∙ rw (past j m ws h) at e
 
 pub first-left : (r q : Refusal) → (r .number ≡ 0 → ⊥) → firstOf r q ≡ r
 unfolding firstOf
@@ -81,14 +92,22 @@ first-right r q h = rw (eq-eqb (r .number) 0 h)
 
 -- ---- pairs
 
-pub pair-here : (i j m : ℕ) (ws : List Walked) (r : Refusal) → j < m → m ≤ length ws → r ≡ firstMeeting (getD ws j nowhere) (i + 1) (drop (j + 1) (take m ws)) → (r .number ≡ 0 → ⊥) → firstPair i (drop j (take m ws)) ≡ r
-unfolding firstPair
-pair-here i j m ws r h l e n = rw (from j m ws h l, ← e) (first-left r _ n)
+-- the pairs from place j on
+module _ (j m : ℕ) (ws : List Walked) (e : firstPair (j + 1) (drop j (take m ws)) ≡ firstPair 1 (take m ws)) where
+  module _ (r : Refusal) (f : r ≡ firstMeeting (getD ws j nowhere) (j + 1 + 1) (drop (j + 1) (take m ws))) (p : AllArrived m ws) (q : m ≤ 4) (h : j < m) where
+    pair-at : firstOf r (firstPair (j + 1 + 1) (drop (j + 1) (take m ws))) ≡ firstPair 1 (take m ws)
+    unfolding firstPair
+    pair-at = rw (from j m ws h (omega (arith, p .long)), ← f) at e
 
-pub pair-on : (i j m : ℕ) (ws : List Walked) (r : Refusal) → j < m → m ≤ length ws → r ≡ firstMeeting (getD ws j nowhere) (i + 1) (drop (j + 1) (take m ws)) → r .number ≡ 0 → firstPair i (drop j (take m ws)) ≡ firstPair (i + 1) (drop (j + 1) (take m ws))
-unfolding firstPair
-pair-on i j m ws r h l e n = rw (from j m ws h l, ← e) (first-right r _ n)
+    pub pair-here : (r .number ≡ 0 → ⊥) → r ≡ firstPair 1 (take m ws)
+    pair-here n = sym (first-left r _ n) ∙ pair-at
 
-pub pair-end : (i j m : ℕ) (ws : List Walked) → m ≤ j → firstPair i (drop j (take m ws)) ≡ none
-unfolding firstPair
-pair-end i j m ws h = rw (past j m ws h)
+    pub pair-on : r .number ≡ 0 → firstPair (j + 1 + 1) (drop (j + 1) (take m ws)) ≡ firstPair 1 (take m ws)
+    pair-on n = sym (first-right r _ n) ∙ pair-at
+
+  pub pair-end : {x : Refusal} → m ≤ j → x ≡ none → x ≡ firstPair 1 (take m ws)
+  unfolding firstPair
+  pair-end h g = g ∙ rw (past j m ws h) at e
+
+pub arrived-at : (m i : ℕ) (ws : List Walked) → AllArrived m ws → i < m → Arrived (getD ws i nowhere)
+arrived-at m i ws p h = p .each i h

@@ -11,7 +11,7 @@ unfoldable pub encodeAll : Shape → List (List ℕ) → List ℕ
 encodeAll s [] = []
 encodeAll s (vs ∷ vss) = encode s vs ++ encodeAll s vss
 
--- a list of 1 to k + 1 arrays, each the encoding of a route from server a to server d over the live links of table t, every two of them parallel
+-- a list of 1 to k + 1 arrays, each the encoding of a route from server a to server d over the live links of table t, every two of them parallel (rule 6.1)
 pub record Accepted (s : Shape) (t : List ℕ) (a d : ℕ) (bs : List ℕ) : Type 0 where
   pub routes : List (List ℕ)
   pub some : 1 ≤ length routes

@@ -33,7 +33,7 @@ between w = middle (take (w .count) (w .servers))
 unfoldable pub parallel : Walked → Walked → Bool
 parallel u v = disjoint (switchesIn u) (switchesIn v) && disjoint (between u) (between v)
 
--- the first refusal of walked arrays, the first of which is route i
+-- the first refusal of walked arrays, the first of which is route i (rule 8.4)
 unfoldable pub firstStop : ℕ → List Walked → Refusal
 firstStop i [] = none
 firstStop i (w ∷ ws) =
@@ -48,7 +48,7 @@ firstMeeting w j (v ∷ vs) = cond (parallel w v) (firstMeeting w (j + 1) vs) (r
 unfoldable pub firstOf : Refusal → Refusal → Refusal
 firstOf r q = cond (eqb (r .number) 0) q r
 
--- pairs of walked arrays by first, then second route; the first is route i
+-- pairs of walked arrays by first, then second route; the first is route i (rule 8.4)
 unfoldable pub firstPair : ℕ → List Walked → Refusal
 firstPair i [] = none
 firstPair i (w ∷ ws) = firstOf (firstMeeting w (i + 1) ws) (firstPair (i + 1) ws)
@@ -61,7 +61,7 @@ listRefusal s t a d bs =
 unfoldable pub walksOf : Shape → List ℕ → ℕ → ℕ → List ℕ → List Walked
 walksOf s t a d bs = map (walkAnswer s t a d) (arrays (length bs / 8) bs)
 
--- what checking answers: no refusal where the list is accepted
+-- what checking answers: no refusal where the list is accepted (rule 6.1)
 unfoldable pub checkAnswer : Shape → List ℕ → ℕ → ℕ → List ℕ → Refusal
 checkAnswer s t a d bs =
     answer (listRefusal s t a d bs) plain (firstOf (firstStop 1 (walksOf s t a d bs)) (firstPair 1 (walksOf s t a d bs)))

@@ -49,7 +49,7 @@ fn write_row(n: usize, k: usize, servers: &[usize]) {
     writing(path::write_path(shape, servers));
 }
 
-// The rows of document 01, and an array of zeros that is a route.
+// The rows of the rules, and an array of zeros that is a route.
 pub(crate) fn readings() {
     read_row(8, 3, 1, 521, b"\xc1\x41\0\0\0\0\0\0");
     read_row(8, 3, 1, 521, b"\x81\x41\xc1\x80\0\0\0\0");

@@ -12,7 +12,7 @@ fn servers_row(n: usize, k: usize) {
     print::answer(room::servers_of(shape));
 }
 
-// The shapes of document 01, and the edges of 1, 2 and 3.
+// The shapes of the rules, and the edges of 1, 2 and 3.
 pub(crate) fn shapes() {
     servers_row(8, 3);
     servers_row(16, 2);

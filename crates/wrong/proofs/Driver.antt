@@ -12,15 +12,18 @@ use Rattle.refusals.specs.Refusals.{_or-else_}
 use Rattle.room.specs.declared.Shape.{Shape}
 use Rattle.room.specs.Shapes.{serversOf, bound, fullRoom}
 use Rattle.room.specs.Digits.{digitsOf, addressOf, differFrom}
-use Rattle.room.specs.Addresses.{digits, digit, withDigit, switchOf, differing}
+use Rattle.room.specs.Addresses.{digits, digit, withDigit, switchOf, switchesAt, differing}
 use Rattle.room.specs.Refusals.{shapeRefusal, levelRefusal, serverRefusal, pairRefusal, linkRefusal, valueRefusal, placeBound, placesFit, placesRefusal, endsRefusal}
 use Rattle.room.specs.Answers.{serversAnswer, boundAnswer, digitsAnswer, digitAnswer, addressAnswer, switchAnswer, neighbourAnswer, betweenAnswer}
+use Rattle.room.specs.Wiring.{serverAt, portRefusal, switchesAnswer, serverAtAnswer}
 use Rattle.links.specs.Table as links
 use Rattle.links.specs.Answers.{failedAnswer, linkAnswer, changedTable}
+use Rattle.links.specs.Servers.{tableServerRefusal, allBits, serverAnswer, markedServer, clearedServer}
 use Rattle.links.proofs.TableLaws.{dead-to}
 use Rattle.links.specs.Table.{roomRefusal, changed}
 use Rattle.path.specs.Routes.{byteOf, switchAt, levelTo, switchTo, byteTo, encode, RouteTo}
 use Rattle.path.specs.Walks.{stopped, arrived, hopTo, hopRefusal, fault, ended, walkFrom, walk, writeFault, writeFrom}
+use Rattle.path.specs.Bytes.{madeRefusal, byteAnswer, partsRefusal, partsAnswer}
 use Rattle.path.specs.Answers.{arrayRefusal, walkAnswer, readAnswer, reverseAnswer, serversRefusal, writeRefusal, onTheWay, writeAnswer}
 use Rattle.verdict.specs.Checks.{arrays, disjoint, switchesIn, between, parallel, firstStop, firstMeeting, firstOf, firstPair, listRefusal, walksOf, checkAnswer}
 use Rattle.build.specs.Built.{plusOne, builtHops, bytesOf as builtBytesOf, builtBytes, builtArrays}
@@ -35,8 +38,12 @@ use Rattle.select.proofs.SelectLaws.{none-selected-exactly}
 use Rattle.pick.specs.Picks.{usable, firstUsable, firstIn, found, fits, listsRefusal, pickSource, pickRefusal}
 use Rattle.pick.specs.Places.{placeAnswer}
 use Rattle.step.specs.Steps.{entry, macAt, portAt, flagAt, givenRefusal, byteRefusal, awayRefusal, stepRefusal, atHop, placed, stepAnswer}
-use Rattle.step.specs.Packed.{packed, bytesNumber, macNumber}
+use Rattle.driver.specs.declared.Room.{Room}
+use Rattle.driver.specs.declared.Answer.{Answer}
+use Rattle.driver.specs.declared.Stepped.{Stepped}
+use Rattle.driver.specs.Rooms.{held, roomOf, shapeIn}
 use Rattle.driver.specs.Words.{word, refusalIn, valueIn, betweenWord, askedWord}
+use Rattle.driver.specs.Packed.{bytesNumber, macNumber, stepWord, packed}
 use Rattle.driver.specs.Routes.{FoundWord, SelectedWord}
 use Rattle.driver.proofs.WordLaws.{refusal-back, value-back, left-given, left-lent}
 use Rattle.driver.proofs.RouteSmall.{find-small, select-small}
@@ -48,9 +55,13 @@ use Rattle.wrong.proofs.Routes.{Walks, walks}
 use Rattle.wrong.proofs.Finder.{no-route, beaten, fewest, no-refusal, some-hops}
 use Rattle.wrong.proofs.Select.{straight, one-route, slot-1-first}
 
+-- the whole word of an answer
+abbrev said : Answer → ℕ
+said x = x .word
+
 -- ---- the search, where there is a route vs
 
-module _ {s : Shape} {t : List ℕ} {a d w : ℕ} {lent path vs xs : List ℕ} (taken : roomRefusal s t a d ≡ 0) (k : Walks s t a d vs xs) (x : FoundWord s t a d w lent path) where
+module _ {s : Shape} {t : List ℕ} {a d : ℕ} {w : Answer} {lent path vs xs : List ℕ} (taken : roomRefusal s t a d ≡ 0) (k : Walks s t a d vs xs) (x : FoundWord s t a d w lent path) where
   some : 0 < x .answer .hops
   some = some-hops taken k (x .finding)
 
@@ -76,7 +87,7 @@ module _ {s : Shape} {t : List ℕ} {a d w : ℕ} {lent path vs xs : List ℕ} (
 
 -- ---- selection
 
-module _ {s : Shape} {t : List ℕ} {a d w : ℕ} {lent routes : List ℕ} (x : SelectedWord s t a d w lent routes) where
+module _ {s : Shape} {t : List ℕ} {a d : ℕ} {w : Answer} {lent routes : List ℕ} (x : SelectedWord s t a d w lent routes) where
   number : refusalIn w .number ≡ x .answer .refusal .number
   number = ap (λ (r : Refusal). r .number) (ap refusalIn (x .says) ∙ refusal-back (x .answer .refusal) (x .answer .routes .count) (select-small (x .answer) (x .selecting)))
 
@@ -95,7 +106,7 @@ dead-end {s} {t} {a} {d} h vs r =
     ∙ subst (λ (y : ℕ). links.live t (levelTo s (getD vs i 0) (getD vs (suc i) 0)) (getD vs i 0) y ≡ true) f (r .route .alive i p))
 
 -- the first array of what selection writes, 00 to 13 of (4,1) with server 03 dead
-first-array : {w : ℕ} {lent routes : List ℕ} → SelectedWord (fullRoom 4 1) (failing 3 3) 0 7 w lent routes → take 8 routes ≡ direct
+first-array : {w : Answer} {lent routes : List ℕ} → SelectedWord (fullRoom 4 1) (failing 3 3) 0 7 w lent routes → take 8 routes ≡ direct
 unfolding arrayAt
 first-array {w} {lent} x =
     let k = slot-1-first (x .selecting) in
@@ -123,64 +134,112 @@ refused-16 {r} h z =
 -- ---- all of them
 
 pub wrong-driver : (o q b : Loan) → Driver o q b
-unfolding serversOf bound digitsOf addressOf filled differFrom digits digit withDigit switchOf differing _or-else_ shapeRefusal levelRefusal serverRefusal pairRefusal linkRefusal valueRefusal placeBound placesFit placesRefusal serversAnswer boundAnswer digitsAnswer digitAnswer addressAnswer switchAnswer neighbourAnswer betweenAnswer links.bit links.failed links.live links.withBit links.changed links.bitsFit links.fitsLevels links.tableRefusal links.tableLinkRefusal failedAnswer linkAnswer changedTable isIn inTurn middle byteOf switchAt levelTo switchTo byteTo encode hopTo hopRefusal fault ended walkFrom walk writeFault writeFrom endsRefusal arrayRefusal walkAnswer readAnswer reverseAnswer serversRefusal writeRefusal onTheWay writeAnswer arrays disjoint switchesIn between parallel firstStop firstMeeting firstOf firstPair roomRefusal listRefusal walksOf checkAnswer plusOne builtHops builtBytesOf builtBytes builtArrays joined setOf arrayAt buildAnswer hopBytes usable firstUsable firstIn found fits listsRefusal pickSource pickRefusal placeAnswer entry macAt portAt flagAt givenRefusal byteRefusal awayRefusal stepRefusal atHop placed stepAnswer packed bytesNumber macNumber word refusalIn valueIn betweenWord askedWord
+unfolding serversOf bound digitsOf addressOf filled differFrom digits digit withDigit switchOf differing _or-else_ shapeRefusal levelRefusal serverRefusal pairRefusal linkRefusal valueRefusal placeBound placesFit placesRefusal serversAnswer boundAnswer digitsAnswer digitAnswer addressAnswer switchAnswer neighbourAnswer betweenAnswer links.bit links.failed links.live links.withBit links.changed links.bitsFit links.fitsLevels links.tableRefusal links.tableLinkRefusal failedAnswer linkAnswer changedTable isIn inTurn middle byteOf switchAt levelTo switchTo byteTo encode hopTo hopRefusal fault ended walkFrom walk writeFault writeFrom endsRefusal arrayRefusal walkAnswer readAnswer reverseAnswer serversRefusal writeRefusal onTheWay writeAnswer arrays disjoint switchesIn between parallel firstStop firstMeeting firstOf firstPair roomRefusal listRefusal walksOf checkAnswer plusOne builtHops builtBytesOf builtBytes builtArrays joined setOf arrayAt buildAnswer hopBytes usable firstUsable firstIn found fits listsRefusal pickSource pickRefusal placeAnswer entry macAt portAt flagAt givenRefusal byteRefusal awayRefusal stepRefusal atHop placed stepAnswer switchesAt serverAt portRefusal switchesAnswer serverAtAnswer tableServerRefusal allBits serverAnswer markedServer clearedServer madeRefusal byteAnswer partsRefusal partsAnswer held roomOf shapeIn word refusalIn valueIn betweenWord askedWord bytesNumber macNumber stepWord packed
 wrong-driver o q b =
     record {
-      shape-n-and-k-exchanged = clash (λ y. y) refl;
-      shape-servers-not-bounded = clash (λ y. y) refl;
-      shape-number-as-value = clash (λ y. y) refl;
-      servers-one-level-less = clash (λ y. y) refl;
-      servers-value-low = clash (λ y. y) refl;
-      bound-is-k = clash (λ y. y) refl;
-      bound-above-k = clash (λ y. y) refl;
-      digits-address-wraps = λ κ x p. differ (λ y. y) refl (p .0);
-      digits-counted = λ κ x p. differ (λ y. y) refl (p .0);
+      version-in-bytes = clash (λ y. y) refl;
+      version-before = clash (λ y. y) refl;
+      version-first-alone = clash (λ y. y) refl;
+      room-n-and-k-exchanged = clash (λ (y : Room). y .number) refl;
+      room-n-wraps = clash (λ (y : Room). y .number) refl;
+      room-k-wraps = clash (λ (y : Room). y .number) refl;
+      room-n-not-held = clash (λ (y : Room). y .number) refl;
+      room-k-not-held = clash (λ (y : Room). y .number) refl;
+      room-n-cut = clash (λ (y : Room). y .number) refl;
+      shape-n-and-k-exchanged = clash said refl;
+      shape-servers-not-bounded = clash said refl;
+      shape-above-k-ignored = clash said refl;
+      shape-256-levels = clash said refl;
+      shape-number-as-value = clash said refl;
+      servers-one-level-less = clash said refl;
+      servers-value-low = clash said refl;
+      bound-is-k = clash said refl;
+      bound-above-k = clash said refl;
+      bound-level-cut = clash said refl;
+      switches-ports-counted = clash said refl;
+      switches-one-level-less = clash said refl;
+      switches-servers-counted = clash said refl;
+      switches-all-levels = clash said refl;
+      switches-above-k = clash said refl;
+      digits-address-wraps = λ κ x p. differ said refl (p .0);
+      digits-counted = λ κ x p. differ said refl (p .0);
       digits-reversed = λ κ r x p. clash-left 1 refl (p .1);
       digits-not-written = λ κ r x p. clash-left 0 refl (p .1);
       digits-touched = λ κ r x p. clash-left 0 refl (p .1);
-      digit-from-the-other-end = clash (λ y. y) refl;
-      digit-server-and-level-exchanged = clash (λ y. y) refl;
-      address-reversed = clash (λ y. y) refl;
-      address-place-above-k = clash (λ y. y) refl;
-      switch-not-closed-up = clash (λ y. y) refl;
-      switch-with-level = clash (λ y. y) refl;
-      neighbour-level-and-value-exchanged = clash (λ y. y) refl;
-      neighbour-value-not-bounded = clash (λ y. y) refl;
-      between-from-0 = clash (λ y. y) refl;
-      between-two-digits-apart = clash (λ y. y) refl;
-      failed-told-as-live = clash (λ y. y) refl;
-      failed-another-link = clash (λ y. y) refl;
-      marked-above-k = λ κ x p. differ (λ y. y) refl (p .0);
-      mark-counted = λ κ x p. differ (λ y. y) refl (p .0);
+      digit-from-the-other-end = clash said refl;
+      digit-server-and-level-exchanged = clash said refl;
+      digit-server-cut = clash said refl;
+      address-reversed = clash said refl;
+      address-place-above-k = clash said refl;
+      address-digit-cut = clash said refl;
+      switch-not-closed-up = clash said refl;
+      switch-with-level = clash said refl;
+      server-at-switch-and-port-exchanged = clash said refl;
+      server-at-digit-0 = clash said refl;
+      server-at-not-moved-up = clash said refl;
+      server-at-port-not-bounded = clash said refl;
+      server-at-switch-not-bounded = clash said refl;
+      server-at-port-cut = clash said refl;
+      neighbour-level-and-value-exchanged = clash said refl;
+      neighbour-value-not-bounded = clash said refl;
+      neighbour-value-cut = clash said refl;
+      between-from-0 = clash said refl;
+      between-two-digits-apart = clash said refl;
+      failed-told-as-live = clash said refl;
+      failed-another-link = clash said refl;
+      marked-above-k = λ κ x p. differ said refl (p .0);
+      mark-counted = λ κ x p. differ said refl (p .0);
       marks-nothing = λ κ r x p. clash-left 3 refl (p .1);
       mark-server-and-level-exchanged = λ κ r x p. clash-left 0 refl (p .1);
       mark-touched = λ κ r x p. clash-left 3 refl (p .1);
-      cleared-above-k = λ κ x p. differ (λ y. y) refl (p .0);
-      clear-level-before-address = λ κ x p. differ (λ y. y) refl (p .0);
+      cleared-above-k = λ κ x p. differ said refl (p .0);
+      clear-level-before-address = λ κ x p. differ said refl (p .0);
       clears-all = λ κ r x p. clash-left 3 refl (p .1);
       clears-level-k = λ κ r x p. clash-left 3 refl (p .1);
       clear-touched = λ κ r x p. clash-left 3 refl (p .1);
-      read-hops-for-servers = λ κ x p. differ (λ y. y) refl (p .0);
-      read-route-and-hop-exchanged = λ κ x p. differ (λ y. y) refl (p .0);
+      mark-server-n = λ κ x p. differ said refl (p .0);
+      mark-server-table-before-address = λ κ x p. differ said refl (p .0);
+      mark-server-cut = λ κ x p. differ said refl (p .0);
+      marks-no-server = λ κ r x p. clash-left 3 refl (p .1);
+      marks-one-link = λ κ r x p. clash-left 3 refl (p .1);
+      marks-whole-byte = λ κ r x p. clash-left 3 refl (p .1);
+      mark-server-touched = λ κ r x p. clash-left 3 refl (p .1);
+      clear-server-n = λ κ x p. differ said refl (p .0);
+      clear-server-table-before-address = λ κ x p. differ said refl (p .0);
+      clear-server-counted = λ κ x p. differ said refl (p .0);
+      clears-no-server = λ κ r x p. clash-left 3 refl (p .1);
+      clears-one-link = λ κ r x p. clash-left 3 refl (p .1);
+      clears-whole-table = λ κ r x p. clash-left 7 refl (p .1);
+      clear-server-touched = λ κ r x p. clash-left 3 refl (p .1);
+      path-byte-position-low = clash said refl;
+      path-byte-level-and-value-exchanged = clash said refl;
+      path-byte-value-not-bounded = clash said refl;
+      path-byte-nine-for-21 = clash said refl;
+      parts-level-and-value-exchanged = clash said refl;
+      parts-byte-told = clash said refl;
+      parts-number-cut = clash said refl;
+      parts-no-place = clash said refl;
+      read-hops-for-servers = λ κ x p. differ said refl (p .0);
+      read-route-and-hop-exchanged = λ κ x p. differ said refl (p .0);
       read-not-written = λ κ r x p. clash-left 0 refl (p .1);
       read-zeros-forgotten = λ κ r x p. clash-left 3 refl (p .1);
       read-touched = λ κ r x p. clash-left 0 refl (p .1);
-      write-nine-refused = λ κ x p. differ (λ y. y) refl (p .0);
-      write-place-one-off = λ κ x p. differ (λ y. y) refl (p .0);
+      write-nine-refused = λ κ x p. differ said refl (p .0);
+      write-place-one-off = λ κ x p. differ said refl (p .0);
       write-position-low = λ κ r x p. clash-left 0 refl (p .1);
       write-not-written = λ κ r x p. clash-left 0 refl (p .1);
       write-touched = λ κ r x p. clash-left 0 refl (p .1);
-      reverse-read-from-destination = λ κ x p. differ (λ y. y) refl (p .0);
-      reverse-hops-told = λ κ x p. differ (λ y. y) refl (p .0);
+      reverse-read-from-destination = λ κ x p. differ said refl (p .0);
+      reverse-hops-told = λ κ x p. differ said refl (p .0);
       reverse-is-identity = λ κ r x p. clash-left 0 refl (p .1);
       reverse-bytes-turned-round = λ κ r x p. clash-left 0 refl (p .1);
       reverse-not-written = λ κ r x p. clash-left 0 refl (p .1);
       reverse-touched = λ κ r x p. clash-left 0 refl (p .1);
-      check-middle-servers-only = clash (λ y. y) refl;
-      check-earlier-of-the-pair = clash (λ y. y) refl;
-      check-receiver-forgotten = clash (λ y. y) refl;
-      build-room-counted = λ κ x p. differ (λ y. y) refl (p .0);
-      build-same-ends = λ κ x p. differ (λ y. y) refl (p .0);
+      check-middle-servers-only = clash said refl;
+      check-earlier-of-the-pair = clash said refl;
+      check-receiver-forgotten = clash said refl;
+      build-room-counted = λ κ x p. differ said refl (p .0);
+      build-same-ends = λ κ x p. differ said refl (p .0);
       build-lower-slots-first = λ κ r x p. clash-left 0 refl (p .1);
       build-not-written = λ κ r x p. clash-left 0 refl (p .1);
       build-zeros-forgotten = λ κ r x p. clash-left 16 refl (p .1);
@@ -196,11 +255,17 @@ wrong-driver o q b =
       select-lower-slots-first = λ κ r x p e. differ (λ (y : List ℕ). getD y 0 0) refl (sym (first-array p) ∙ ap (take 8) e);
       select-not-written = λ κ r x p e. differ (λ (y : List ℕ). getD y 0 0) refl (sym (first-array p) ∙ ap (take 8) e);
       select-touched = λ κ r x p. clash-left 0 refl (p .leaves ∙ sym (left-lent (p .answer .refusal .number) (stale 32) (p .answer .routes .bytes) (refused-16 (p .selecting))));
-      pick-kept-before-fresh = clash (λ y. y) refl;
-      pick-list-and-place-exchanged = clash (λ y. y) refl;
-      pick-sixteen-before-seven = clash (λ y. y) refl;
-      step-index-before-arrival = clash (λ y. y) refl;
-      step-index-not-raised = clash (λ y. y) refl;
-      mac-first-byte-lowest = clash (λ y. y) refl;
-      mac-on-refusal = clash (λ y. y) refl;
+      pick-kept-before-fresh = clash said refl;
+      pick-list-and-place-exchanged = clash said refl;
+      pick-sixteen-before-seven = clash said refl;
+      step-index-before-arrival = clash (λ (y : Stepped). y .word) refl;
+      step-delivery-not-told = clash (λ (y : Stepped). y .word) refl;
+      step-index-not-raised = clash (λ (y : Stepped). y .word) refl;
+      step-server-and-port-exchanged = clash (λ (y : Stepped). y .word) refl;
+      step-index-cut = clash (λ (y : Stepped). y .word) refl;
+      step-here-cut = clash (λ (y : Stepped). y .word) refl;
+      step-mac-turned-round = clash (λ (y : Stepped). y .mac) refl;
+      step-mac-halves-exchanged = clash (λ (y : Stepped). y .mac) refl;
+      step-mac-on-refusal = clash (λ (y : Stepped). y .mac) refl;
+      step-mac-at-delivery = clash (λ (y : Stepped). y .mac) refl;
     }

@@ -7,12 +7,13 @@ use Rattle.room.specs.Refusals.{shapeRefusal, levelRefusal, serverRefusal, link
 use Rattle.links.specs.declared.Asked.{Asked}
 use Rattle.links.specs.Table as links
 use Rattle.links.specs.Answers.{failedAnswer, linkAnswer, changedTable}
+use Rattle.links.specs.Servers.{tableServerRefusal, allBits, serverAnswer, markedServer, clearedServer}
 use Rattle.wrong.specs.Never.{Loan}
 use Rattle.wrong.specs.Links.{Links}
 use Rattle.wrong.proofs.Clash.{differ, clash, clash-left, bit}
 
 pub wrong-links : (o : Loan) → Links o
-unfolding serversOf _or-else_ shapeRefusal levelRefusal serverRefusal linkRefusal links.bit links.failed links.live links.withBit links.changed links.bitsFit links.fitsLevels links.tableRefusal links.roomTableRefusal links.tableLinkRefusal failedAnswer linkAnswer changedTable
+unfolding serversOf _or-else_ shapeRefusal levelRefusal serverRefusal linkRefusal links.bit links.failed links.live links.withBit links.changed links.bitsFit links.fitsLevels links.tableRefusal links.roomTableRefusal links.tableLinkRefusal failedAnswer linkAnswer changedTable tableServerRefusal allBits serverAnswer markedServer clearedServer
 wrong-links o =
     record {
       another-link-told = clash (λ (y : Asked). bit (y .failed)) refl;
@@ -30,6 +31,20 @@ wrong-links o =
       clears-all = λ κ r x p. clash-left 3 refl (p .1);
       cleared-twice = λ κ r x p. clash-left 3 refl (p .1);
       cleared-on-refusal = λ κ r x p. clash-left 3 refl (p .1);
+      server-n-marked = λ κ x p. differ (λ (y : Refusal). y .number) refl (p .0);
+      mark-table-before-address = λ κ x p. differ (λ (y : Refusal). y .number) refl (p .0);
+      marks-no-server = λ κ r x p. clash-left 3 refl (p .1);
+      marks-one-link = λ κ r x p. clash-left 3 refl (p .1);
+      marks-whole-byte = λ κ r x p. clash-left 3 refl (p .1);
+      server-marked-twice = λ κ r x p. clash-left 3 refl (p .1);
+      server-marked-on-refusal = λ κ r x p. clash-left 3 refl (p .1);
+      server-n-cleared = λ κ x p. differ (λ (y : Refusal). y .number) refl (p .0);
+      clear-table-before-address = λ κ x p. differ (λ (y : Refusal). y .number) refl (p .0);
+      live-server-refused = λ κ x p. differ (λ (y : Refusal). y .number) refl (p .0);
+      clears-no-server = λ κ r x p. clash-left 3 refl (p .1);
+      clears-one-link = λ κ r x p. clash-left 3 refl (p .1);
+      clears-whole-table = λ κ r x p. clash-left 7 refl (p .1);
+      server-cleared-on-refusal = λ κ r x p. clash-left 3 refl (p .1);
       receiver-forgotten = clash bit refl;
       sender-forgotten = clash bit refl;
       another-level = clash bit refl;

@@ -3,16 +3,19 @@ use mathlib.Core.Path.{refl}
 use lib.ListN.{getD}
 use Rattle.lists.specs.Lists.{isIn, inTurn, filled}
 use Rattle.refusals.specs.Refusals.{_or-else_}
+use Rattle.room.specs.declared.Number.{Number}
 use Rattle.room.specs.Shapes.{serversOf, bound}
 use Rattle.room.specs.Digits.{digitsOf, addressOf, differFrom}
 use Rattle.room.specs.Addresses.{digits, digit, withDigit, switchOf, differing}
-use Rattle.room.specs.Refusals.{shapeRefusal, serverRefusal, pairRefusal, endsRefusal}
+use Rattle.room.specs.Refusals.{shapeRefusal, levelRefusal, serverRefusal, pairRefusal, endsRefusal}
 use Rattle.links.specs.Table as links
+use Rattle.path.specs.declared.Parts.{Parts}
 use Rattle.path.specs.declared.Hop.{Hop}
 use Rattle.path.specs.declared.Walked.{Walked}
 use Rattle.path.specs.declared.Reading.{Reading}
 use Rattle.path.specs.declared.Writing.{Writing}
 use Rattle.path.specs.Routes.{byteOf, switchAt, levelTo, switchTo, byteTo, encode}
+use Rattle.path.specs.Bytes.{madeRefusal, byteAnswer, partsRefusal, partsAnswer}
 use Rattle.path.specs.Walks.{hopTo, hopRefusal, fault, ended, walkFrom, walk, writeFault, writeFrom}
 use Rattle.path.specs.Answers.{hopAnswer, arrayRefusal, walkAnswer, readAnswer, reverseAnswer, serversRefusal, writeRefusal, onTheWay, writeAnswer}
 use Rattle.wrong.specs.Never.{Loan}
@@ -20,9 +23,18 @@ use Rattle.wrong.specs.Path.{Path}
 use Rattle.wrong.proofs.Clash.{clash, bit}
 
 pub wrong-path : (o q : Loan) → Path o q
-unfolding serversOf bound digitsOf addressOf differFrom digits digit withDigit switchOf differing _or-else_ shapeRefusal serverRefusal pairRefusal links.bit links.failed links.live isIn inTurn filled byteOf switchAt levelTo switchTo byteTo encode hopTo hopRefusal fault ended walkFrom walk writeFault writeFrom hopAnswer endsRefusal arrayRefusal walkAnswer readAnswer reverseAnswer serversRefusal writeRefusal onTheWay writeAnswer
+unfolding serversOf bound digitsOf addressOf differFrom digits digit withDigit switchOf differing _or-else_ shapeRefusal serverRefusal pairRefusal links.bit links.failed links.live isIn inTurn filled byteOf switchAt levelTo switchTo byteTo encode hopTo hopRefusal fault ended walkFrom walk writeFault writeFrom hopAnswer endsRefusal arrayRefusal walkAnswer readAnswer reverseAnswer serversRefusal writeRefusal onTheWay writeAnswer levelRefusal madeRefusal byteAnswer partsRefusal partsAnswer
 wrong-path o q =
     record {
+      made-in-low-bits = clash (λ (y : Number). y .value) refl;
+      value-not-bounded = clash (λ (y : Number). y .value) refl;
+      level-above-k = clash (λ (y : Number). y .value) refl;
+      value-before-level = clash (λ (y : Number). y .refusal .number) refl;
+      parts-in-low-bits = clash (λ (y : Parts). y .level) refl;
+      parts-exchanged = clash (λ (y : Parts). y .level) refl;
+      number-cut = clash (λ (y : Parts). y .refusal .number) refl;
+      parts-value-before-position = clash (λ (y : Parts). y .refusal .number) refl;
+      parts-no-place = clash (λ (y : Parts). y .refusal .hop) refl;
       position-in-low-bits = clash (λ (y : Hop). y .next) refl;
       zero-byte-is-no-hop = clash (λ (y : Hop). y .number) refl;
       nine-for-eight = clash (λ (y : Hop). y .number) refl;

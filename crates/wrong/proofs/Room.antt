@@ -12,14 +12,15 @@ use Rattle.room.specs.declared.Switch.{Switch}
 use Rattle.room.specs.declared.Between.{Between}
 use Rattle.room.specs.Shapes.{serversOf, bound}
 use Rattle.room.specs.Digits.{digitsOf, addressOf, differFrom}
-use Rattle.room.specs.Addresses.{digits, digit, withDigit, switchOf, differing}
+use Rattle.room.specs.Addresses.{digits, digit, withDigit, switchOf, switchesAt, differing}
 use Rattle.room.specs.Refusals.{shapeRefusal, levelRefusal, serverRefusal, pairRefusal, linkRefusal, valueRefusal, placeBound, placesFit, placesRefusal}
 use Rattle.room.specs.Answers.{serversAnswer, boundAnswer, digitsAnswer, digitAnswer, addressAnswer, switchAnswer, neighbourAnswer, betweenAnswer}
+use Rattle.room.specs.Wiring.{serverAt, portRefusal, switchesAnswer, serverAtAnswer}
 use Rattle.wrong.specs.Room.{Room}
 use Rattle.wrong.proofs.Clash.{clash, bit}
 
 pub wrong-room : Room
-unfolding serversOf bound digitsOf addressOf filled differFrom digits digit withDigit switchOf differing _or-else_ shapeRefusal levelRefusal serverRefusal pairRefusal linkRefusal valueRefusal placeBound placesFit placesRefusal serversAnswer boundAnswer digitsAnswer digitAnswer addressAnswer switchAnswer neighbourAnswer betweenAnswer
+unfolding serversOf bound digitsOf addressOf filled differFrom digits digit withDigit switchOf differing _or-else_ shapeRefusal levelRefusal serverRefusal pairRefusal linkRefusal valueRefusal placeBound placesFit placesRefusal serversAnswer boundAnswer digitsAnswer digitAnswer addressAnswer switchAnswer neighbourAnswer betweenAnswer switchesAt serverAt portRefusal switchesAnswer serverAtAnswer
 wrong-room =
     record {
       n-and-k-exchanged = λ n k h κ x e. h (sym (ap (λ (y : Shape). y .n) e));
@@ -59,6 +60,16 @@ wrong-room =
       switch-not-closed-up = clash (λ (y : Switch). y .number) refl;
       others-struck-out = clash (λ (y : Switch). y .number) refl;
       switch-level-lost = clash (λ (y : Switch). y .level) refl;
+      ports-for-switches = clash (λ (y : Number). y .value) refl;
+      servers-for-switches = clash (λ (y : Number). y .value) refl;
+      power-of-the-level = clash (λ (y : Number). y .value) refl;
+      switches-above-k = clash (λ (y : Number). y .value) refl;
+      switch-and-port-exchanged = clash (λ (y : Number). y .value) refl;
+      port-at-digit-0 = clash (λ (y : Number). y .value) refl;
+      digits-not-moved-up = clash (λ (y : Number). y .value) refl;
+      port-not-bounded = clash (λ (y : Number). y .value) refl;
+      switch-not-bounded = clash (λ (y : Number). y .value) refl;
+      switch-before-level = clash (λ (y : Number). y .refusal .number) refl;
       level-and-value-exchanged = clash (λ (y : Number). y .value) refl;
       value-added = clash (λ (y : Number). y .value) refl;
       value-not-bounded = clash (λ (y : Number). y .value) refl;

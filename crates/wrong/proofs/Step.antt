@@ -9,13 +9,12 @@ use Rattle.room.specs.Refusals.{shapeRefusal, serverRefusal, pairRefusal}
 use Rattle.path.specs.Walks.{hopTo, hopRefusal}
 use Rattle.step.specs.declared.Step as declared
 use Rattle.step.specs.Steps.{entry, macAt, portAt, flagAt, givenRefusal, byteRefusal, awayRefusal, stepRefusal, atHop, placed, stepAnswer}
-use Rattle.step.specs.Packed.{packed, bytesNumber, macNumber}
 use Rattle.wrong.specs.Never.{Loan}
 use Rattle.wrong.specs.Step.{Step}
 use Rattle.wrong.proofs.Clash.{clash}
 
 pub wrong-step : (q e : Loan) → Step q e
-unfolding serversOf bound digitsOf addressOf digits digit withDigit _or-else_ shapeRefusal serverRefusal pairRefusal filled hopTo hopRefusal entry macAt portAt flagAt givenRefusal byteRefusal awayRefusal stepRefusal atHop placed stepAnswer packed bytesNumber macNumber
+unfolding serversOf bound digitsOf addressOf digits digit withDigit _or-else_ shapeRefusal serverRefusal pairRefusal filled hopTo hopRefusal entry macAt portAt flagAt givenRefusal byteRefusal awayRefusal stepRefusal atHop placed stepAnswer
 wrong-step q e =
     record {
       index-before-arrival = clash (λ (y : declared.Step). y .refusal .number) refl;
@@ -25,10 +24,4 @@ wrong-step q e =
       hop-is-the-index = clash (λ (y : declared.Step). y .refusal .hop) refl;
       index-told-as-hop = clash (λ (y : declared.Step). y .refusal .hop) refl;
       flag-before-no-change = clash (λ (y : declared.Step). y .refusal .number) refl;
-      index-before-arrival-c = clash (λ y. y) refl;
-      delivery-not-told = clash (λ y. y) refl;
-      server-and-port-exchanged = clash (λ y. y) refl;
-      first-byte-lowest = clash (λ y. y) refl;
-      mac-on-refusal = clash (λ y. y) refl;
-      mac-at-delivery = clash (λ y. y) refl;
     }

@@ -1,24 +1,36 @@
 -- Wrong answers of `driver`, what C calls, wherever the buffers lie: o lends a table, q bytes or servers to read, b a buffer to write.
-use mathlib.Core.Bool.{false}
+-- Numbers are those of C, of 64 bits: 4294967297 is 1 where it is cut to 32 bits.
+use Prim.Native.Nat.{_+_, _*_}
+use mathlib.Core.Bool.{true, false}
 use mathlib.Core.List.{[], _∷_, _++_}
-use lib.ListN.{replicate}
+use lib.ListN.{replicate, set}
 use Rattle.lists.specs.Lists.{filled}
 use Rattle.refusals.specs.Refusals.{none, plain, refusedAt}
 use Rattle.build.specs.Sets.{joined}
-use Rattle.step.specs.Packed.{packed, macNumber}
+use Rattle.step.specs.declared.Step.{Step}
+use Rattle.driver.specs.Rooms.{roomOf}
 use Rattle.driver.specs.Words.{word}
+use Rattle.driver.specs.Packed.{packed}
+use Rattle.driver.proofs.bcube_version.Reads as bcube-version
+use Rattle.driver.proofs.bcube_room_of.Reads as bcube-room-of
 use Rattle.driver.proofs.bcube_shape.Reads as bcube-shape
 use Rattle.driver.proofs.bcube_servers.Reads as bcube-servers
 use Rattle.driver.proofs.bcube_bound.Reads as bcube-bound
+use Rattle.driver.proofs.bcube_switches.Reads as bcube-switches
 use Rattle.driver.proofs.bcube_digits.Reads as bcube-digits
 use Rattle.driver.proofs.bcube_digit.Reads as bcube-digit
 use Rattle.driver.proofs.bcube_address.Reads as bcube-address
 use Rattle.driver.proofs.bcube_switch.Reads as bcube-switch
+use Rattle.driver.proofs.bcube_server_at.Reads as bcube-server-at
 use Rattle.driver.proofs.bcube_neighbour.Reads as bcube-neighbour
 use Rattle.driver.proofs.bcube_between.Reads as bcube-between
 use Rattle.driver.proofs.bcube_failed_link.Reads as bcube-failed-link
 use Rattle.driver.proofs.bcube_mark_link.Reads as bcube-mark-link
 use Rattle.driver.proofs.bcube_clear_link.Reads as bcube-clear-link
+use Rattle.driver.proofs.bcube_mark_server.Reads as bcube-mark-server
+use Rattle.driver.proofs.bcube_clear_server.Reads as bcube-clear-server
+use Rattle.driver.proofs.bcube_path_byte.Reads as bcube-path-byte
+use Rattle.driver.proofs.bcube_path_byte_parts.Reads as bcube-path-byte-parts
 use Rattle.driver.proofs.bcube_read.Reads as bcube-read
 use Rattle.driver.proofs.bcube_write.Reads as bcube-write
 use Rattle.driver.proofs.bcube_reverse.Reads as bcube-reverse
@@ -28,186 +40,308 @@ use Rattle.driver.proofs.bcube_find.Reads as bcube-find
 use Rattle.driver.proofs.bcube_select.Reads as bcube-select
 use Rattle.driver.proofs.bcube_pick.Reads as bcube-pick
 use Rattle.driver.proofs.bcube_step.Reads as bcube-step
-use Rattle.driver.proofs.bcube_step_mac.Reads as bcube-step-mac
-use Rattle.wrong.specs.Never.{Never, NeverLeaves, Loan, fourth, fifth, sixth, _&_, _lends_}
+use Rattle.wrong.specs.Never.{Never, NeverLeaves, Loan, third, fourth, fifth, _&_, _lends_}
 use Rattle.wrong.specs.Examples.{array, healthy, failing, direct, other, tied, mac, neighbour, stale}
 
+-- the step from 00 of (4,1) to 10, by byte 41 of the path bytes 41 03
+abbrev pub went : Step
+went = record { refusal = none; delivered = false; next = 4; index = 1; mac = mac; port = 7 }
+
 pub record Driver (o q b : Loan) : Type 0 where
+  -- ---- bcube_version
+  -- the numbers packed in bytes
+  pub version-in-bytes : Never bcube-version.Post tt 0x020000
+  -- the version before
+  pub version-before : Never bcube-version.Post tt 10000
+  -- the first number alone
+  pub version-first-alone : Never bcube-version.Post tt 2
+  -- ---- bcube_room_of
+  -- n and k exchanged
+  pub room-n-and-k-exchanged : Never bcube-room-of.Post (8 & 3 & tt) (record { number = 3 + 256 * 8 })
+  -- n cut to a byte: 264 ports are 8
+  pub room-n-wraps : Never bcube-room-of.Post (264 & 3 & tt) (record { number = 8 + 256 * 3 })
+  -- k cut to a byte: 259 levels are 3
+  pub room-k-wraps : Never bcube-room-of.Post (8 & 259 & tt) (record { number = 8 + 256 * 3 })
+  -- n not held: 264 ports are one level more
+  pub room-n-not-held : Never bcube-room-of.Post (264 & 3 & tt) (record { number = 264 + 256 * 3 })
+  -- k not held, so that it reaches into what is above it
+  pub room-k-not-held : Never bcube-room-of.Post (8 & 259 & tt) (record { number = 8 + 256 * 259 })
+  -- n cut to 32 bits
+  pub room-n-cut : Never bcube-room-of.Post (4294967304 & 3 & tt) (record { number = 8 + 256 * 3 })
   -- ---- bcube_shape
   -- n and k exchanged: (8,3) refused as (3,8) is
-  pub shape-n-and-k-exchanged : Never bcube-shape.Post (8 & 3 & tt) (word (plain 2) 0)
+  pub shape-n-and-k-exchanged : Never bcube-shape.Post (roomOf 8 3 & tt) (word (plain 2) 0)
   -- N not bounded: (9,3) taken
-  pub shape-servers-not-bounded : Never bcube-shape.Post (9 & 3 & tt) (word none 0)
+  pub shape-servers-not-bounded : Never bcube-shape.Post (roomOf 9 3 & tt) (word none 0)
+  -- what is above k ignored: the number of (8,3) with a bit above its two bytes
+  pub shape-above-k-ignored : Never bcube-shape.Post (record { number = 65536 + (8 + 256 * 3) } & tt) (word none 0)
+  -- 256 levels taken for none
+  pub shape-256-levels : Never bcube-shape.Post (roomOf 2 256 & tt) (word none 0)
   -- the refusal's number told as a value
-  pub shape-number-as-value : Never bcube-shape.Post (9 & 3 & tt) (word none 3)
+  pub shape-number-as-value : Never bcube-shape.Post (roomOf 9 3 & tt) (word none 3)
   -- ---- bcube_servers
   -- n to the power k
-  pub servers-one-level-less : Never bcube-servers.Post (8 & 3 & tt) (word none 512)
+  pub servers-one-level-less : Never bcube-servers.Post (roomOf 8 3 & tt) (word none 512)
   -- the value in the low bytes of the word
-  pub servers-value-low : Never bcube-servers.Post (8 & 3 & tt) 4096
+  pub servers-value-low : Never bcube-servers.Post (roomOf 8 3 & tt) (record { word = 4096 })
   -- ---- bcube_bound
   -- k for n
-  pub bound-is-k : Never bcube-bound.Post (8 & 3 & 0 & tt) (word none 3)
+  pub bound-is-k : Never bcube-bound.Post (roomOf 8 3 & 0 & tt) (word none 3)
   -- the bound of a level above k
-  pub bound-above-k : Never bcube-bound.Post (4 & 1 & 2 & tt) (word none 4)
+  pub bound-above-k : Never bcube-bound.Post (roomOf 4 1 & 2 & tt) (word none 4)
+  -- the level cut to 32 bits
+  pub bound-level-cut : Never bcube-bound.Post (roomOf 4 1 & 4294967296 & tt) (word none 4)
+  -- ---- bcube_switches
+  -- the servers of a switch for the switches of a level
+  pub switches-ports-counted : Never bcube-switches.Post (roomOf 8 3 & 0 & tt) (word none 8)
+  -- one level less: n to the power k - 1
+  pub switches-one-level-less : Never bcube-switches.Post (roomOf 8 3 & 0 & tt) (word none 64)
+  -- a switch for each server
+  pub switches-servers-counted : Never bcube-switches.Post (roomOf 8 3 & 0 & tt) (word none 4096)
+  -- the switches of all levels
+  pub switches-all-levels : Never bcube-switches.Post (roomOf 8 3 & 0 & tt) (word none 2048)
+  -- those of a level above k
+  pub switches-above-k : Never bcube-switches.Post (roomOf 4 1 & 2 & tt) (word none 4)
   -- ---- bcube_digits
   -- N not bounded: address 4096 of (8,3) taken
-  pub digits-address-wraps : Never bcube-digits.Post (8 & 3 & 4096 & b lends stale 4 & tt) (word none 0)
+  pub digits-address-wraps : Never bcube-digits.Post (roomOf 8 3 & 4096 & b lends stale 4 & tt) (word none 0)
   -- the digits counted in the value
-  pub digits-counted : Never bcube-digits.Post (8 & 3 & 521 & b lends stale 4 & tt) (word none 4)
+  pub digits-counted : Never bcube-digits.Post (roomOf 8 3 & 521 & b lends stale 4 & tt) (word none 4)
   -- reversed: 521 of (8,3), written 1011
-  pub digits-reversed : NeverLeaves bcube-digits.Post (8 & 3 & 521 & b lends stale 4 & tt) fourth (1 ∷ 0 ∷ 1 ∷ 1 ∷ [])
+  pub digits-reversed : NeverLeaves bcube-digits.Post (roomOf 8 3 & 521 & b lends stale 4 & tt) third (1 ∷ 0 ∷ 1 ∷ 1 ∷ [])
   -- the buffer left as it was lent
-  pub digits-not-written : NeverLeaves bcube-digits.Post (8 & 3 & 521 & b lends stale 4 & tt) fourth (stale 4)
+  pub digits-not-written : NeverLeaves bcube-digits.Post (roomOf 8 3 & 521 & b lends stale 4 & tt) third (stale 4)
   -- the buffer touched on refusal
-  pub digits-touched : NeverLeaves bcube-digits.Post (8 & 3 & 4096 & b lends stale 4 & tt) fourth (replicate 4 0)
+  pub digits-touched : NeverLeaves bcube-digits.Post (roomOf 8 3 & 4096 & b lends stale 4 & tt) third (replicate 4 0)
   -- ---- bcube_digit
   -- from the other end: digit 2 of 1011
-  pub digit-from-the-other-end : Never bcube-digit.Post (8 & 3 & 521 & 2 & tt) (word none 1)
+  pub digit-from-the-other-end : Never bcube-digit.Post (roomOf 8 3 & 521 & 2 & tt) (word none 1)
   -- server and level exchanged
-  pub digit-server-and-level-exchanged : Never bcube-digit.Post (4 & 1 & 1 & 0 & tt) (word none 0)
+  pub digit-server-and-level-exchanged : Never bcube-digit.Post (roomOf 4 1 & 1 & 0 & tt) (word none 0)
+  -- the server cut to 32 bits before it is tested
+  pub digit-server-cut : Never bcube-digit.Post (roomOf 4 1 & 4294967297 & 0 & tt) (word none 1)
   -- ---- bcube_address
   -- reversed: 1011 read as 1101
-  pub address-reversed : Never bcube-address.Post (8 & 3 & 1 & 1 & 0 & 1 & tt) (word none 577)
+  pub address-reversed : Never bcube-address.Post (roomOf 8 3 & 1 & 1 & 0 & 1 & tt) (word none 577)
   -- a place above k ignored
-  pub address-place-above-k : Never bcube-address.Post (4 & 1 & 3 & 1 & 1 & 0 & tt) (word none 7)
+  pub address-place-above-k : Never bcube-address.Post (roomOf 4 1 & 3 & 1 & 1 & 0 & tt) (word none 7)
+  -- a digit cut to 32 bits
+  pub address-digit-cut : Never bcube-address.Post (roomOf 4 1 & 4294967299 & 1 & 0 & 0 & tt) (word none 7)
   -- ---- bcube_switch
   -- not closed up: 13 of (4,1) with digit 0 made 0
-  pub switch-not-closed-up : Never bcube-switch.Post (4 & 1 & 7 & 0 & tt) (word none 4)
+  pub switch-not-closed-up : Never bcube-switch.Post (roomOf 4 1 & 7 & 0 & tt) (word none 4)
   -- the level told with the number
-  pub switch-with-level : Never bcube-switch.Post (4 & 1 & 7 & 1 & tt) (word none 4099)
+  pub switch-with-level : Never bcube-switch.Post (roomOf 4 1 & 7 & 1 & tt) (word none 4099)
+  -- ---- bcube_server_at, of which port 3 of switch 1 of level 0 in (4,1) is server 13
+  -- switch and port exchanged
+  pub server-at-switch-and-port-exchanged : Never bcube-server-at.Post (roomOf 4 1 & 0 & 1 & 3 & tt) (word none 13)
+  -- the port in place of digit 0 at every level
+  pub server-at-digit-0 : Never bcube-server-at.Post (roomOf 4 1 & 1 & 3 & 1 & tt) (word none 13)
+  -- the switch's digits not moved up
+  pub server-at-not-moved-up : Never bcube-server-at.Post (roomOf 4 1 & 0 & 1 & 3 & tt) (word none 3)
+  -- port n carried to the next digit
+  pub server-at-port-not-bounded : Never bcube-server-at.Post (roomOf 4 1 & 0 & 0 & 4 & tt) (word none 4)
+  -- a switch that the level does not have
+  pub server-at-switch-not-bounded : Never bcube-server-at.Post (roomOf 4 1 & 0 & 4 & 0 & tt) (word none 16)
+  -- the port cut to 32 bits
+  pub server-at-port-cut : Never bcube-server-at.Post (roomOf 4 1 & 0 & 1 & 4294967299 & tt) (word none 7)
   -- ---- bcube_neighbour
   -- level and value exchanged: 12 of (4,1) with digit 0 set to 1
-  pub neighbour-level-and-value-exchanged : Never bcube-neighbour.Post (4 & 1 & 6 & 0 & 1 & tt) (word none 2)
+  pub neighbour-level-and-value-exchanged : Never bcube-neighbour.Post (roomOf 4 1 & 6 & 0 & 1 & tt) (word none 2)
   -- a value n carried to the next digit
-  pub neighbour-value-not-bounded : Never bcube-neighbour.Post (4 & 1 & 0 & 0 & 4 & tt) (word none 4)
+  pub neighbour-value-not-bounded : Never bcube-neighbour.Post (roomOf 4 1 & 0 & 0 & 4 & tt) (word none 4)
+  -- the value cut to 32 bits
+  pub neighbour-value-cut : Never bcube-neighbour.Post (roomOf 4 1 & 0 & 0 & 4294967297 & tt) (word none 1)
   -- ---- bcube_between
   -- the level counted from 0: 00 and 01 of (4,1) told as no neighbours
-  pub between-from-0 : Never bcube-between.Post (4 & 1 & 0 & 1 & tt) (word none 0)
+  pub between-from-0 : Never bcube-between.Post (roomOf 4 1 & 0 & 1 & tt) (word none 0)
   -- two that differ in two digits taken for neighbours: 00 and 13
-  pub between-two-digits-apart : Never bcube-between.Post (4 & 1 & 0 & 7 & tt) (word none 1)
+  pub between-two-digits-apart : Never bcube-between.Post (roomOf 4 1 & 0 & 7 & tt) (word none 1)
   -- ---- bcube_failed_link
   -- a failed link told as live
-  pub failed-told-as-live : Never bcube-failed-link.Post (4 & 1 & 3 & 0 & o lends failing 3 1 & tt) (word none 0)
+  pub failed-told-as-live : Never bcube-failed-link.Post (roomOf 4 1 & 3 & 0 & o lends failing 3 1 & tt) (word none 0)
   -- another link of the server told for this one
-  pub failed-another-link : Never bcube-failed-link.Post (4 & 1 & 3 & 0 & o lends failing 3 2 & tt) (word none 1)
+  pub failed-another-link : Never bcube-failed-link.Post (roomOf 4 1 & 3 & 0 & o lends failing 3 2 & tt) (word none 1)
   -- ---- bcube_mark_link
   -- level k + 1 marked
-  pub marked-above-k : Never bcube-mark-link.Post (4 & 1 & 3 & 2 & b lends healthy & tt) (word none 0)
+  pub marked-above-k : Never bcube-mark-link.Post (roomOf 4 1 & 3 & 2 & b lends healthy & tt) (word none 0)
   -- 1 told for a mark made
-  pub mark-counted : Never bcube-mark-link.Post (4 & 1 & 3 & 1 & b lends healthy & tt) (word none 1)
+  pub mark-counted : Never bcube-mark-link.Post (roomOf 4 1 & 3 & 1 & b lends healthy & tt) (word none 1)
   -- nothing marked
-  pub marks-nothing : NeverLeaves bcube-mark-link.Post (4 & 1 & 3 & 1 & b lends healthy & tt) fifth healthy
+  pub marks-nothing : NeverLeaves bcube-mark-link.Post (roomOf 4 1 & 3 & 1 & b lends healthy & tt) fourth healthy
   -- server and level exchanged
-  pub mark-server-and-level-exchanged : NeverLeaves bcube-mark-link.Post (4 & 1 & 1 & 0 & b lends healthy & tt) fifth (failing 0 2)
+  pub mark-server-and-level-exchanged : NeverLeaves bcube-mark-link.Post (roomOf 4 1 & 1 & 0 & b lends healthy & tt) fourth (failing 0 2)
   -- the table touched on refusal 20
-  pub mark-touched : NeverLeaves bcube-mark-link.Post (4 & 1 & 3 & 2 & b lends healthy & tt) fifth (failing 3 4)
+  pub mark-touched : NeverLeaves bcube-mark-link.Post (roomOf 4 1 & 3 & 2 & b lends healthy & tt) fourth (failing 3 4)
   -- ---- bcube_clear_link
   -- level k + 1 cleared
-  pub cleared-above-k : Never bcube-clear-link.Post (4 & 1 & 3 & 2 & b lends healthy & tt) (word none 0)
+  pub cleared-above-k : Never bcube-clear-link.Post (roomOf 4 1 & 3 & 2 & b lends healthy & tt) (word none 0)
   -- 20 tested before 4: level 2 of server 16
-  pub clear-level-before-address : Never bcube-clear-link.Post (4 & 1 & 16 & 2 & b lends healthy & tt) (word (plain 20) 0)
+  pub clear-level-before-address : Never bcube-clear-link.Post (roomOf 4 1 & 16 & 2 & b lends healthy & tt) (word (plain 20) 0)
   -- all links of the server cleared
-  pub clears-all : NeverLeaves bcube-clear-link.Post (4 & 1 & 3 & 0 & b lends failing 3 3 & tt) fifth healthy
+  pub clears-all : NeverLeaves bcube-clear-link.Post (roomOf 4 1 & 3 & 0 & b lends failing 3 3 & tt) fourth healthy
   -- the link of level k cleared
-  pub clears-level-k : NeverLeaves bcube-clear-link.Post (4 & 1 & 3 & 0 & b lends failing 3 3 & tt) fifth (failing 3 1)
+  pub clears-level-k : NeverLeaves bcube-clear-link.Post (roomOf 4 1 & 3 & 0 & b lends failing 3 3 & tt) fourth (failing 3 1)
   -- the table touched on refusal 6, which its bit above k is
-  pub clear-touched : NeverLeaves bcube-clear-link.Post (4 & 1 & 3 & 0 & b lends failing 3 5 & tt) fifth (failing 3 4)
+  pub clear-touched : NeverLeaves bcube-clear-link.Post (roomOf 4 1 & 3 & 0 & b lends failing 3 5 & tt) fourth (failing 3 4)
+  -- ---- bcube_mark_server
+  -- server N marked
+  pub mark-server-n : Never bcube-mark-server.Post (roomOf 4 1 & 16 & b lends healthy & tt) (word none 0)
+  -- 6 tested before 4: server 16, a table of 15 bytes
+  pub mark-server-table-before-address : Never bcube-mark-server.Post (roomOf 4 1 & 16 & b lends replicate 15 0 & tt) (word (plain 6) 0)
+  -- the server cut to 32 bits
+  pub mark-server-cut : Never bcube-mark-server.Post (roomOf 4 1 & 4294967299 & b lends healthy & tt) (word none 0)
+  -- nothing marked
+  pub marks-no-server : NeverLeaves bcube-mark-server.Post (roomOf 4 1 & 3 & b lends healthy & tt) third healthy
+  -- one link marked, that of level 0
+  pub marks-one-link : NeverLeaves bcube-mark-server.Post (roomOf 4 1 & 3 & b lends healthy & tt) third (failing 3 1)
+  -- the whole byte set, bits above k with it
+  pub marks-whole-byte : NeverLeaves bcube-mark-server.Post (roomOf 4 1 & 3 & b lends healthy & tt) third (failing 3 0xff)
+  -- the table touched on refusal 6, which its bit above k is
+  pub mark-server-touched : NeverLeaves bcube-mark-server.Post (roomOf 4 1 & 3 & b lends failing 3 4 & tt) third (failing 3 3)
+  -- ---- bcube_clear_server
+  -- server N cleared
+  pub clear-server-n : Never bcube-clear-server.Post (roomOf 4 1 & 16 & b lends healthy & tt) (word none 0)
+  -- 6 tested before 4: server 16, and a bit above k
+  pub clear-server-table-before-address : Never bcube-clear-server.Post (roomOf 4 1 & 16 & b lends failing 3 4 & tt) (word (plain 6) 0)
+  -- the links that were cleared counted
+  pub clear-server-counted : Never bcube-clear-server.Post (roomOf 4 1 & 3 & b lends failing 3 3 & tt) (word none 2)
+  -- nothing cleared
+  pub clears-no-server : NeverLeaves bcube-clear-server.Post (roomOf 4 1 & 3 & b lends failing 3 3 & tt) third (failing 3 3)
+  -- one link cleared, that of level 0
+  pub clears-one-link : NeverLeaves bcube-clear-server.Post (roomOf 4 1 & 3 & b lends failing 3 3 & tt) third (failing 3 2)
+  -- the whole table cleared: the mark of server 7 lost
+  pub clears-whole-table : NeverLeaves bcube-clear-server.Post (roomOf 4 1 & 3 & b lends set (failing 3 3) 7 1 & tt) third healthy
+  -- the table touched on refusal 6, which its bit above k is
+  pub clear-server-touched : NeverLeaves bcube-clear-server.Post (roomOf 4 1 & 3 & b lends failing 3 4 & tt) third healthy
+  -- ---- bcube_path_byte
+  -- the position in the low bits of the byte
+  pub path-byte-position-low : Never bcube-path-byte.Post (roomOf 4 1 & 1 & 2 & tt) (word none 0x09)
+  -- level and value exchanged
+  pub path-byte-level-and-value-exchanged : Never bcube-path-byte.Post (roomOf 4 1 & 1 & 0 & tt) (word none 0x01)
+  -- the value not bounded
+  pub path-byte-value-not-bounded : Never bcube-path-byte.Post (roomOf 4 1 & 1 & 4 & tt) (word none 0x44)
+  -- 9 for 21: a value of a call, and not of a byte
+  pub path-byte-nine-for-21 : Never bcube-path-byte.Post (roomOf 4 1 & 1 & 4 & tt) (word (refusedAt 9 1 1) 0)
+  -- ---- bcube_path_byte_parts
+  -- level and value exchanged: byte 42
+  pub parts-level-and-value-exchanged : Never bcube-path-byte-parts.Post (roomOf 4 1 & 0x42 & tt) (word none 513)
+  -- the byte itself told
+  pub parts-byte-told : Never bcube-path-byte-parts.Post (roomOf 4 1 & 0x42 & tt) (word none 0x42)
+  -- a number above 255 cut to a byte
+  pub parts-number-cut : Never bcube-path-byte-parts.Post (roomOf 4 1 & 0x142 & tt) (word none 258)
+  -- 9 with no place
+  pub parts-no-place : Never bcube-path-byte-parts.Post (roomOf 4 1 & 0x44 & tt) (word (plain 9) 0)
   -- ---- bcube_read
   -- the hops for the servers: 1 to 521 of (8,3) by c1 41
-  pub read-hops-for-servers : Never bcube-read.Post (8 & 3 & 1 & 521 & q lends array (0xc1 ∷ 0x41 ∷ []) & b lends stale 9 & tt) (word none 2)
+  pub read-hops-for-servers : Never bcube-read.Post (roomOf 8 3 & 1 & 521 & q lends array (0xc1 ∷ 0x41 ∷ []) & b lends stale 9 & tt) (word none 2)
   -- route and hop exchanged: 14 at the third byte of 03 00 01, 00 to 03 of (4,1)
-  pub read-route-and-hop-exchanged : Never bcube-read.Post (4 & 1 & 0 & 3 & q lends array (0x03 ∷ 0x00 ∷ 0x01 ∷ []) & b lends stale 9 & tt) (word (refusedAt 14 3 1) 0)
+  pub read-route-and-hop-exchanged : Never bcube-read.Post (roomOf 4 1 & 0 & 3 & q lends array (0x03 ∷ 0x00 ∷ 0x01 ∷ []) & b lends stale 9 & tt) (word (refusedAt 14 3 1) 0)
   -- the buffer left as it was lent
-  pub read-not-written : NeverLeaves bcube-read.Post (8 & 3 & 1 & 521 & q lends array (0xc1 ∷ 0x41 ∷ []) & b lends stale 9 & tt) sixth (stale 9)
+  pub read-not-written : NeverLeaves bcube-read.Post (roomOf 8 3 & 1 & 521 & q lends array (0xc1 ∷ 0x41 ∷ []) & b lends stale 9 & tt) fifth (stale 9)
   -- places past the servers left as they were lent
-  pub read-zeros-forgotten : NeverLeaves bcube-read.Post (8 & 3 & 1 & 521 & q lends array (0xc1 ∷ 0x41 ∷ []) & b lends stale 9 & tt) sixth (1 ∷ 513 ∷ 521 ∷ stale 6)
+  pub read-zeros-forgotten : NeverLeaves bcube-read.Post (roomOf 8 3 & 1 & 521 & q lends array (0xc1 ∷ 0x41 ∷ []) & b lends stale 9 & tt) fifth (1 ∷ 513 ∷ 521 ∷ stale 6)
   -- the buffer touched on refusal
-  pub read-touched : NeverLeaves bcube-read.Post (4 & 1 & 0 & 3 & q lends array (0x03 ∷ 0x00 ∷ 0x01 ∷ []) & b lends stale 9 & tt) sixth (filled 9 (0 ∷ 3 ∷ []))
+  pub read-touched : NeverLeaves bcube-read.Post (roomOf 4 1 & 0 & 3 & q lends array (0x03 ∷ 0x00 ∷ 0x01 ∷ []) & b lends stale 9 & tt) fifth (filled 9 (0 ∷ 3 ∷ []))
   -- ---- bcube_write
   -- nine servers refused
-  pub write-nine-refused : Never bcube-write.Post (4 & 1 & q lends 0 ∷ 1 ∷ 5 ∷ 6 ∷ 10 ∷ 11 ∷ 15 ∷ 12 ∷ 8 ∷ [] & b lends stale 8 & tt) (word (plain 22) 0)
+  pub write-nine-refused : Never bcube-write.Post (roomOf 4 1 & q lends 0 ∷ 1 ∷ 5 ∷ 6 ∷ 10 ∷ 11 ∷ 15 ∷ 12 ∷ 8 ∷ [] & b lends stale 8 & tt) (word (plain 22) 0)
   -- the place one off: 23 at the third hop of 00, 01, 11, 00, 13
-  pub write-place-one-off : Never bcube-write.Post (4 & 1 & q lends 0 ∷ 1 ∷ 5 ∷ 0 ∷ 7 ∷ [] & b lends stale 8 & tt) (word (refusedAt 23 1 2) 0)
+  pub write-place-one-off : Never bcube-write.Post (roomOf 4 1 & q lends 0 ∷ 1 ∷ 5 ∷ 0 ∷ 7 ∷ [] & b lends stale 8 & tt) (word (refusedAt 23 1 2) 0)
   -- the position in the low bits of a byte: 00, 10, 13
-  pub write-position-low : NeverLeaves bcube-write.Post (4 & 1 & q lends 0 ∷ 4 ∷ 7 ∷ [] & b lends stale 8 & tt) fourth (array (0x05 ∷ 0x0c ∷ []))
+  pub write-position-low : NeverLeaves bcube-write.Post (roomOf 4 1 & q lends 0 ∷ 4 ∷ 7 ∷ [] & b lends stale 8 & tt) third (array (0x05 ∷ 0x0c ∷ []))
   -- the buffer left as it was lent
-  pub write-not-written : NeverLeaves bcube-write.Post (4 & 1 & q lends 0 ∷ 4 ∷ 7 ∷ [] & b lends stale 8 & tt) fourth (stale 8)
+  pub write-not-written : NeverLeaves bcube-write.Post (roomOf 4 1 & q lends 0 ∷ 4 ∷ 7 ∷ [] & b lends stale 8 & tt) third (stale 8)
   -- the buffer touched on refusal: the hops before the one that is refused
-  pub write-touched : NeverLeaves bcube-write.Post (4 & 1 & q lends 0 ∷ 1 ∷ 5 ∷ 0 ∷ 7 ∷ [] & b lends stale 8 & tt) fourth (0x01 ∷ 0x41 ∷ stale 6)
+  pub write-touched : NeverLeaves bcube-write.Post (roomOf 4 1 & q lends 0 ∷ 1 ∷ 5 ∷ 0 ∷ 7 ∷ [] & b lends stale 8 & tt) third (0x01 ∷ 0x41 ∷ stale 6)
   -- ---- bcube_reverse
   -- read from the destination: c1, from 1011 of (8,3), changes nothing
-  pub reverse-read-from-destination : Never bcube-reverse.Post (8 & 3 & 1 & 521 & q lends array (0xc1 ∷ 0x41 ∷ []) & b lends stale 8 & tt) (word (refusedAt 10 1 1) 0)
+  pub reverse-read-from-destination : Never bcube-reverse.Post (roomOf 8 3 & 1 & 521 & q lends array (0xc1 ∷ 0x41 ∷ []) & b lends stale 8 & tt) (word (refusedAt 10 1 1) 0)
   -- the hops told in the value
-  pub reverse-hops-told : Never bcube-reverse.Post (8 & 3 & 1 & 521 & q lends array (0xc1 ∷ 0x41 ∷ []) & b lends stale 8 & tt) (word none 2)
+  pub reverse-hops-told : Never bcube-reverse.Post (roomOf 8 3 & 1 & 521 & q lends array (0xc1 ∷ 0x41 ∷ []) & b lends stale 8 & tt) (word none 2)
   -- the identity
-  pub reverse-is-identity : NeverLeaves bcube-reverse.Post (8 & 3 & 1 & 521 & q lends array (0xc1 ∷ 0x41 ∷ []) & b lends stale 8 & tt) sixth (array (0xc1 ∷ 0x41 ∷ []))
+  pub reverse-is-identity : NeverLeaves bcube-reverse.Post (roomOf 8 3 & 1 & 521 & q lends array (0xc1 ∷ 0x41 ∷ []) & b lends stale 8 & tt) fifth (array (0xc1 ∷ 0x41 ∷ []))
   -- the bytes turned round, and not the servers
-  pub reverse-bytes-turned-round : NeverLeaves bcube-reverse.Post (8 & 3 & 1 & 521 & q lends array (0xc1 ∷ 0x41 ∷ []) & b lends stale 8 & tt) sixth (array (0x41 ∷ 0xc1 ∷ []))
+  pub reverse-bytes-turned-round : NeverLeaves bcube-reverse.Post (roomOf 8 3 & 1 & 521 & q lends array (0xc1 ∷ 0x41 ∷ []) & b lends stale 8 & tt) fifth (array (0x41 ∷ 0xc1 ∷ []))
   -- the buffer left as it was lent
-  pub reverse-not-written : NeverLeaves bcube-reverse.Post (8 & 3 & 1 & 521 & q lends array (0xc1 ∷ 0x41 ∷ []) & b lends stale 8 & tt) sixth (stale 8)
+  pub reverse-not-written : NeverLeaves bcube-reverse.Post (roomOf 8 3 & 1 & 521 & q lends array (0xc1 ∷ 0x41 ∷ []) & b lends stale 8 & tt) fifth (stale 8)
   -- the buffer touched on refusal 5
-  pub reverse-touched : NeverLeaves bcube-reverse.Post (8 & 3 & 1 & 1 & q lends array (0xc1 ∷ 0x41 ∷ []) & b lends stale 8 & tt) sixth (replicate 8 0)
+  pub reverse-touched : NeverLeaves bcube-reverse.Post (roomOf 8 3 & 1 & 1 & q lends array (0xc1 ∷ 0x41 ∷ []) & b lends stale 8 & tt) fifth (replicate 8 0)
   -- ---- bcube_check
   -- middle servers compared only: 00 to 03 of (4,1), the route 03 twice
-  pub check-middle-servers-only : Never bcube-check.Post (4 & 1 & 0 & 3 & o lends healthy & q lends array (0x03 ∷ []) ++ array (0x03 ∷ []) & tt) (word none 0)
+  pub check-middle-servers-only : Never bcube-check.Post (roomOf 4 1 & 0 & 3 & o lends healthy & q lends array (0x03 ∷ []) ++ array (0x03 ∷ []) & tt) (word none 0)
   -- 15 at the earlier of the pair
-  pub check-earlier-of-the-pair : Never bcube-check.Post (4 & 1 & 0 & 3 & o lends healthy & q lends array (0x03 ∷ []) ++ array (0x03 ∷ []) & tt) (word (refusedAt 15 1 0) 0)
+  pub check-earlier-of-the-pair : Never bcube-check.Post (roomOf 4 1 & 0 & 3 & o lends healthy & q lends array (0x03 ∷ []) ++ array (0x03 ∷ []) & tt) (word (refusedAt 15 1 0) 0)
   -- the receiver's link forgotten
-  pub check-receiver-forgotten : Never bcube-check.Post (4 & 1 & 0 & 3 & o lends failing 3 1 & q lends array (0x03 ∷ []) & tt) (word none 0)
+  pub check-receiver-forgotten : Never bcube-check.Post (roomOf 4 1 & 0 & 3 & o lends failing 3 1 & q lends array (0x03 ∷ []) & tt) (word none 0)
   -- ---- bcube_build
   -- its room counted for routes: 00 to 13 of (4,1)
-  pub build-room-counted : Never bcube-build.Post (4 & 1 & 0 & 7 & b lends stale 32 & tt) (word none 4)
+  pub build-room-counted : Never bcube-build.Post (roomOf 4 1 & 0 & 7 & b lends stale 32 & tt) (word none 4)
   -- no routes from a server to itself, and no refusal
-  pub build-same-ends : Never bcube-build.Post (4 & 1 & 7 & 7 & b lends stale 32 & tt) (word none 0)
+  pub build-same-ends : Never bcube-build.Post (roomOf 4 1 & 7 & 7 & b lends stale 32 & tt) (word none 0)
   -- lower slots first
-  pub build-lower-slots-first : NeverLeaves bcube-build.Post (4 & 1 & 0 & 7 & b lends stale 32 & tt) fifth (filled 32 (joined (other ∷ direct ∷ [])))
+  pub build-lower-slots-first : NeverLeaves bcube-build.Post (roomOf 4 1 & 0 & 7 & b lends stale 32 & tt) fourth (filled 32 (joined (other ∷ direct ∷ [])))
   -- the buffer left as it was lent
-  pub build-not-written : NeverLeaves bcube-build.Post (4 & 1 & 0 & 7 & b lends stale 32 & tt) fifth (stale 32)
+  pub build-not-written : NeverLeaves bcube-build.Post (roomOf 4 1 & 0 & 7 & b lends stale 32 & tt) fourth (stale 32)
   -- bytes past the routes left as they were lent
-  pub build-zeros-forgotten : NeverLeaves bcube-build.Post (4 & 1 & 0 & 7 & b lends stale 32 & tt) fifth (joined (direct ∷ other ∷ stale 16 ∷ []))
+  pub build-zeros-forgotten : NeverLeaves bcube-build.Post (roomOf 4 1 & 0 & 7 & b lends stale 32 & tt) fourth (joined (direct ∷ other ∷ stale 16 ∷ []))
   -- the buffer touched on refusal 5
-  pub build-touched : NeverLeaves bcube-build.Post (4 & 1 & 7 & 7 & b lends stale 32 & tt) fifth (replicate 32 0)
+  pub build-touched : NeverLeaves bcube-build.Post (roomOf 4 1 & 7 & 7 & b lends stale 32 & tt) fourth (replicate 32 0)
   -- ---- bcube_find
   -- the hops made up: the servers of 41 03 counted, 00 to 13 of (4,1)
-  pub find-servers-for-hops : Never bcube-find.Post (4 & 1 & 0 & 7 & o lends healthy & b lends stale 8 & tt) (word none 3)
+  pub find-servers-for-hops : Never bcube-find.Post (roomOf 4 1 & 0 & 7 & o lends healthy & b lends stale 8 & tt) (word none 3)
   -- an alternate that exists denied: 00 to 01 of (4,1), where the level-0 link of 00 is failed
-  pub find-denied : Never bcube-find.Post (4 & 1 & 0 & 1 & o lends failing 0 1 & b lends stale 8 & tt) (word none 0)
+  pub find-denied : Never bcube-find.Post (roomOf 4 1 & 0 & 1 & o lends failing 0 1 & b lends stale 8 & tt) (word none 0)
   -- the tie rule with the lower level first: 000 to 111 of (2,2)
-  pub find-lower-level-first : NeverLeaves bcube-find.Post (2 & 2 & 0 & 7 & o lends tied & b lends stale 8 & tt) sixth (array (0x01 ∷ 0x81 ∷ 0x41 ∷ []))
+  pub find-lower-level-first : NeverLeaves bcube-find.Post (roomOf 2 2 & 0 & 7 & o lends tied & b lends stale 8 & tt) fifth (array (0x01 ∷ 0x81 ∷ 0x41 ∷ []))
   -- the tie rule from the other end
-  pub find-tie-from-the-other-end : NeverLeaves bcube-find.Post (2 & 2 & 0 & 7 & o lends tied & b lends stale 8 & tt) sixth (array (0x41 ∷ 0x01 ∷ 0x81 ∷ []))
+  pub find-tie-from-the-other-end : NeverLeaves bcube-find.Post (roomOf 2 2 & 0 & 7 & o lends tied & b lends stale 8 & tt) fifth (array (0x41 ∷ 0x01 ∷ 0x81 ∷ []))
   -- the buffer left as it was lent
-  pub find-not-written : NeverLeaves bcube-find.Post (2 & 2 & 0 & 7 & o lends tied & b lends stale 8 & tt) sixth (stale 8)
+  pub find-not-written : NeverLeaves bcube-find.Post (roomOf 2 2 & 0 & 7 & o lends tied & b lends stale 8 & tt) fifth (stale 8)
   -- the buffer touched on refusal 5
-  pub find-touched : NeverLeaves bcube-find.Post (2 & 2 & 7 & 7 & o lends tied & b lends stale 8 & tt) sixth (replicate 8 0)
+  pub find-touched : NeverLeaves bcube-find.Post (roomOf 2 2 & 7 & 7 & o lends tied & b lends stale 8 & tt) fifth (replicate 8 0)
   -- ---- bcube_select, 00 to 13 of (4,1) with server 03 dead, where not said otherwise: 41 03, then 01 42 03 41
   -- 16 since one route is broken
-  pub select-sixteen-with-a-route : Never bcube-select.Post (4 & 1 & 0 & 7 & o lends failing 3 3 & b lends stale 32 & tt) (word (plain 16) 0)
+  pub select-sixteen-with-a-route : Never bcube-select.Post (roomOf 4 1 & 0 & 7 & o lends failing 3 3 & b lends stale 32 & tt) (word (plain 16) 0)
   -- an alternate that exists denied
-  pub select-denied : Never bcube-select.Post (4 & 1 & 0 & 7 & o lends failing 3 3 & b lends stale 32 & tt) (word none 1)
+  pub select-denied : Never bcube-select.Post (roomOf 4 1 & 0 & 7 & o lends failing 3 3 & b lends stale 32 & tt) (word none 1)
   -- lower slots first
-  pub select-lower-slots-first : NeverLeaves bcube-select.Post (4 & 1 & 0 & 7 & o lends failing 3 3 & b lends stale 32 & tt) sixth (filled 32 (joined (array (0x01 ∷ 0x42 ∷ 0x03 ∷ 0x41 ∷ []) ∷ direct ∷ [])))
+  pub select-lower-slots-first : NeverLeaves bcube-select.Post (roomOf 4 1 & 0 & 7 & o lends failing 3 3 & b lends stale 32 & tt) fifth (filled 32 (joined (array (0x01 ∷ 0x42 ∷ 0x03 ∷ 0x41 ∷ []) ∷ direct ∷ [])))
   -- the buffer left as it was lent
-  pub select-not-written : NeverLeaves bcube-select.Post (4 & 1 & 0 & 7 & o lends failing 3 3 & b lends stale 32 & tt) sixth (stale 32)
+  pub select-not-written : NeverLeaves bcube-select.Post (roomOf 4 1 & 0 & 7 & o lends failing 3 3 & b lends stale 32 & tt) fifth (stale 32)
   -- the buffer touched on refusal 16: 13 is dead
-  pub select-touched : NeverLeaves bcube-select.Post (4 & 1 & 0 & 7 & o lends failing 7 3 & b lends stale 32 & tt) sixth (replicate 32 0)
+  pub select-touched : NeverLeaves bcube-select.Post (roomOf 4 1 & 0 & 7 & o lends failing 7 3 & b lends stale 32 & tt) fifth (replicate 32 0)
   -- ---- bcube_pick, 00 to 13 of (4,1)
   -- kept before fresh
-  pub pick-kept-before-fresh : Never bcube-pick.Post (4 & 1 & 0 & 7 & o lends healthy & q lends direct & b lends other & tt) (word none 513)
+  pub pick-kept-before-fresh : Never bcube-pick.Post (roomOf 4 1 & 0 & 7 & o lends healthy & q lends direct & b lends other & tt) (word none 513)
   -- list and place exchanged: the first of the kept list
-  pub pick-list-and-place-exchanged : Never bcube-pick.Post (4 & 1 & 0 & 7 & o lends failing 3 3 & q lends other & b lends direct & tt) (word none 258)
+  pub pick-list-and-place-exchanged : Never bcube-pick.Post (roomOf 4 1 & 0 & 7 & o lends failing 3 3 & q lends other & b lends direct & tt) (word none 258)
   -- 16 tested before 7
-  pub pick-sixteen-before-seven : Never bcube-pick.Post (4 & 1 & 0 & 7 & o lends healthy & q lends replicate 9 0 & b lends [] & tt) (word (plain 16) 0)
-  -- ---- bcube_step, a packet for 13 of (4,1) with the path bytes 41 03
+  pub pick-sixteen-before-seven : Never bcube-pick.Post (roomOf 4 1 & 0 & 7 & o lends healthy & q lends replicate 9 0 & b lends [] & tt) (word (plain 16) 0)
+  -- ---- bcube_step, a packet for 13 of (4,1) with the path bytes 41 03: from 00 it goes on to 10, by OutPort 7
   -- the index tested before arrival
-  pub step-index-before-arrival : Never bcube-step.Post (4 & 1 & 7 & 7 & 8 & q lends direct & o lends neighbour 0x41 1 & tt) 18
+  pub step-index-before-arrival : Never bcube-step.Post (roomOf 4 1 & 7 & 7 & 8 & q lends direct & o lends neighbour 0x41 1 & tt) (record { word = 18; mac = 0 })
+  -- a delivery told as nothing at all
+  pub step-delivery-not-told : Never bcube-step.Post (roomOf 4 1 & 7 & 7 & 0 & q lends direct & o lends neighbour 0x41 1 & tt) (record { word = 0; mac = 0 })
   -- the index not raised
-  pub step-index-not-raised : Never bcube-step.Post (4 & 1 & 0 & 7 & 0 & q lends direct & o lends neighbour 0x41 1 & tt)
+  pub step-index-not-raised : Never bcube-step.Post (roomOf 4 1 & 0 & 7 & 0 & q lends direct & o lends neighbour 0x41 1 & tt)
       (packed (record { refusal = none; delivered = false; next = 4; index = 0; mac = mac; port = 7 }))
-  -- ---- bcube_step_mac
-  -- the first byte lowest
-  pub mac-first-byte-lowest : Never bcube-step-mac.Post (4 & 1 & 0 & 7 & 0 & q lends direct & o lends neighbour 0x41 1 & tt)
-      (macNumber (0x04 ∷ 0x00 ∷ 0x10 ∷ 0x5e ∷ 0x00 ∷ 0x02 ∷ []))
-  -- the MAC of a neighbour that is not available
-  pub mac-on-refusal : Never bcube-step-mac.Post (4 & 1 & 0 & 7 & 0 & q lends direct & o lends neighbour 0x41 0 & tt) (macNumber mac)
+  -- next server and OutPort exchanged
+  pub step-server-and-port-exchanged : Never bcube-step.Post (roomOf 4 1 & 0 & 7 & 0 & q lends direct & o lends neighbour 0x41 1 & tt)
+      (packed (record { refusal = none; delivered = false; next = 7; index = 1; mac = mac; port = 4 }))
+  -- the index cut to 32 bits
+  pub step-index-cut : Never bcube-step.Post (roomOf 4 1 & 0 & 7 & 4294967296 & q lends direct & o lends neighbour 0x41 1 & tt) (packed went)
+  -- here cut to 32 bits
+  pub step-here-cut : Never bcube-step.Post (roomOf 4 1 & 4294967296 & 7 & 0 & q lends direct & o lends neighbour 0x41 1 & tt) (packed went)
+  -- the MAC's bytes the other way round
+  pub step-mac-turned-round : Never bcube-step.Post (roomOf 4 1 & 0 & 7 & 0 & q lends direct & o lends neighbour 0x41 1 & tt)
+      (packed (record { refusal = none; delivered = false; next = 4; index = 1; mac = 0x04 ∷ 0x00 ∷ 0x10 ∷ 0x5e ∷ 0x00 ∷ 0x02 ∷ []; port = 7 }))
+  -- the MAC's two halves exchanged: the last two bytes above the first four
+  pub step-mac-halves-exchanged : Never bcube-step.Post (roomOf 4 1 & 0 & 7 & 0 & q lends direct & o lends neighbour 0x41 1 & tt)
+      (packed (record { refusal = none; delivered = false; next = 4; index = 1; mac = 0x00 ∷ 0x04 ∷ 0x02 ∷ 0x00 ∷ 0x5e ∷ 0x10 ∷ []; port = 7 }))
+  -- the MAC of a neighbour that is not available, beside the refusal
+  pub step-mac-on-refusal : Never bcube-step.Post (roomOf 4 1 & 0 & 7 & 0 & q lends direct & o lends neighbour 0x41 0 & tt)
+      (packed (record { refusal = refusedAt 19 1 1; delivered = false; next = 0; index = 0; mac = mac; port = 0 }))
+  -- the MAC of the byte that the index names, at a delivery
+  pub step-mac-at-delivery : Never bcube-step.Post (roomOf 4 1 & 7 & 7 & 0 & q lends direct & o lends neighbour 0x41 1 & tt)
+      (packed (record { refusal = none; delivered = true; next = 0; index = 0; mac = mac; port = 0 }))

@@ -54,3 +54,8 @@ stale m = replicate m 0xee
 -- 02 43 03 41
 abbrev pub bothBroken : List ℕ
 bothBroken = 0 ∷ 2 ∷ 0 ∷ 2 ∷ 1 ∷ 0 ∷ 1 ∷ 0 ∷ 0 ∷ 0 ∷ 0 ∷ 1 ∷ 1 ∷ 0 ∷ 0 ∷ 0 ∷ []
+
+-- the (4,1) room's table into which the route `direct` is laid: all links of server 10, the level-1 links of 00, 10, 20 and 30, and the
+-- level-0 links of 10, 11, 12 and 13
+abbrev pub laid : List ℕ
+laid = 2 ∷ 0 ∷ 0 ∷ 0 ∷ 3 ∷ 1 ∷ 1 ∷ 1 ∷ 2 ∷ 0 ∷ 0 ∷ 0 ∷ 2 ∷ 0 ∷ 0 ∷ 0 ∷ []

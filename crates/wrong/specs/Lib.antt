@@ -6,6 +6,7 @@ pub mod Links
 pub mod Path
 pub mod Verdict
 pub mod Build
+pub mod Laying
 pub mod Finder
 pub mod Select
 pub mod Pick

@@ -1,13 +1,15 @@
 -- Wrong answers of `links`, wherever the table lies.
 use mathlib.Core.Bool.{true, false}
 use mathlib.Core.List.{[]}
-use lib.ListN.{replicate}
+use lib.ListN.{replicate, set}
 use Rattle.refusals.specs.Refusals.{none, plain}
 use Rattle.room.specs.Shapes.{fullRoom}
 use Rattle.links.specs.Answers.{asked}
 use Rattle.links.proofs.failed_link.Reads as failed-link
 use Rattle.links.proofs.mark_link.Reads as mark-link
 use Rattle.links.proofs.clear_link.Reads as clear-link
+use Rattle.links.proofs.mark_server.Reads as mark-server
+use Rattle.links.proofs.clear_server.Reads as clear-server
 use Rattle.links.proofs.is_live.Reads as is-live
 use Rattle.links.proofs.table_refusal.Reads as table-refusal
 use Rattle.wrong.specs.Never.{Never, NeverLeaves, Loan, second, _&_, _lends_}
@@ -47,6 +49,36 @@ pub record Links (o : Loan) : Type 0 where
   pub cleared-twice : NeverLeaves clear-link.Post (fullRoom 4 1 & o lends failing 3 2 & 3 & 0 & tt) second (failing 3 1)
   -- the table touched on refusal 6, which its bit above k is
   pub cleared-on-refusal : NeverLeaves clear-link.Post (fullRoom 4 1 & o lends failing 3 5 & 3 & 0 & tt) second (failing 3 4)
+  -- ---- mark_server
+  -- server N marked
+  pub server-n-marked : Never mark-server.Post (fullRoom 4 1 & o lends healthy & 16 & tt) none
+  -- 6 tested before 4: server 16, a table of 15 bytes
+  pub mark-table-before-address : Never mark-server.Post (fullRoom 4 1 & o lends replicate 15 0 & 16 & tt) (plain 6)
+  -- nothing marked
+  pub marks-no-server : NeverLeaves mark-server.Post (fullRoom 4 1 & o lends failing 3 1 & 3 & tt) second (failing 3 1)
+  -- one link marked, that of level k
+  pub marks-one-link : NeverLeaves mark-server.Post (fullRoom 4 1 & o lends healthy & 3 & tt) second (failing 3 2)
+  -- the whole byte set, bits above k with it
+  pub marks-whole-byte : NeverLeaves mark-server.Post (fullRoom 4 1 & o lends healthy & 3 & tt) second (failing 3 0xff)
+  -- marked again, the bits added again
+  pub server-marked-twice : NeverLeaves mark-server.Post (fullRoom 4 1 & o lends failing 3 3 & 3 & tt) second (failing 3 6)
+  -- the table touched on refusal 6, which its bit above k is
+  pub server-marked-on-refusal : NeverLeaves mark-server.Post (fullRoom 4 1 & o lends failing 3 4 & 3 & tt) second (failing 3 3)
+  -- ---- clear_server
+  -- server N cleared
+  pub server-n-cleared : Never clear-server.Post (fullRoom 4 1 & o lends healthy & 16 & tt) none
+  -- 6 tested before 4: server 16, and a bit above k
+  pub clear-table-before-address : Never clear-server.Post (fullRoom 4 1 & o lends failing 3 4 & 16 & tt) (plain 6)
+  -- a server that is live refused
+  pub live-server-refused : Never clear-server.Post (fullRoom 4 1 & o lends healthy & 3 & tt) (plain 6)
+  -- nothing cleared
+  pub clears-no-server : NeverLeaves clear-server.Post (fullRoom 4 1 & o lends failing 3 3 & 3 & tt) second (failing 3 3)
+  -- one link cleared, that of level 0
+  pub clears-one-link : NeverLeaves clear-server.Post (fullRoom 4 1 & o lends failing 3 3 & 3 & tt) second (failing 3 2)
+  -- the whole table cleared: the mark of server 7 lost
+  pub clears-whole-table : NeverLeaves clear-server.Post (fullRoom 4 1 & o lends set (failing 3 3) 7 1 & 3 & tt) second healthy
+  -- the table touched on refusal 6, which its bit above k is
+  pub server-cleared-on-refusal : NeverLeaves clear-server.Post (fullRoom 4 1 & o lends failing 3 4 & 3 & tt) second healthy
   -- ---- is_live
   -- the receiver's link forgotten
   pub receiver-forgotten : Never is-live.Post (o lends failing 3 1 & 0 & 0 & 3 & tt) true

@@ -35,11 +35,11 @@ o lends bs = record { ptr = o .place; name = o .name; now = bs }
 abbrev pub second : {A B : Type 0} → A × (RefT (List ℕ) × B) → List ℕ
 second x = now (x .1 .0)
 
+abbrev pub third : {A B C : Type 0} → A × (B × (RefT (List ℕ) × C)) → List ℕ
+third x = now (x .1 .1 .0)
+
 abbrev pub fourth : {A B C D : Type 0} → A × (B × (C × (RefT (List ℕ) × D))) → List ℕ
 fourth x = now (x .1 .1 .1 .0)
 
 abbrev pub fifth : {A B C D E : Type 0} → A × (B × (C × (D × (RefT (List ℕ) × E)))) → List ℕ
 fifth x = now (x .1 .1 .1 .1 .0)
-
-abbrev pub sixth : {A B C D E F : Type 0} → A × (B × (C × (D × (E × (RefT (List ℕ) × F))))) → List ℕ
-sixth x = now (x .1 .1 .1 .1 .1 .0)

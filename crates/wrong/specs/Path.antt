@@ -3,9 +3,13 @@ use mathlib.Core.Bool.{true, false}
 use mathlib.Core.List.{[], _∷_}
 use Rattle.refusals.specs.Refusals.{plain, refusedAt}
 use Rattle.room.specs.Shapes.{fullRoom}
+use Rattle.room.specs.Answers.{noNumber, aNumber}
 use Rattle.room.proofs.ends_refusal.Reads as ends-refusal
+use Rattle.path.specs.Bytes.{noParts, someParts}
 use Rattle.path.specs.Walks.{arrived}
 use Rattle.path.specs.Answers.{noHop, aHop, noWalk, walked, reading, noWriting, aWriting}
+use Rattle.path.proofs.byte_of.Reads as byte-of
+use Rattle.path.proofs.parts_of.Reads as parts-of
 use Rattle.path.proofs.hop_of.Reads as hop-of
 use Rattle.path.proofs.is_among.Reads as is-among
 use Rattle.path.proofs.walk.Reads as walk
@@ -16,6 +20,26 @@ use Rattle.wrong.specs.Never.{Never, Loan, _&_, _lends_}
 use Rattle.wrong.specs.Examples.{array, healthy, failing, eightHops}
 
 pub record Path (o q : Loan) : Type 0 where
+  -- ---- byte_of
+  -- the position in the low bits of the byte: value 2 at level 1
+  pub made-in-low-bits : Never byte-of.Post (fullRoom 4 1 & 1 & 2 & tt) (aNumber 0x09)
+  -- the value not bounded, so that it reaches into the position: value 64 at level 0
+  pub value-not-bounded : Never byte-of.Post (fullRoom 64 1 & 0 & 64 & tt) (aNumber 0x40)
+  -- level k + 1 taken
+  pub level-above-k : Never byte-of.Post (fullRoom 4 1 & 2 & 0 & tt) (aNumber 0x80)
+  -- 21 tested before 20: value 4 at level 2
+  pub value-before-level : Never byte-of.Post (fullRoom 4 1 & 2 & 4 & tt) (noNumber 21)
+  -- ---- parts_of
+  -- the position in the low bits of the byte: byte 42
+  pub parts-in-low-bits : Never parts-of.Post (fullRoom 4 3 & 0x42 & tt) (someParts 2 16)
+  -- level and value exchanged
+  pub parts-exchanged : Never parts-of.Post (fullRoom 4 3 & 0x42 & tt) (someParts 2 1)
+  -- a number above 255 cut to a byte
+  pub number-cut : Never parts-of.Post (fullRoom 4 1 & 0x142 & tt) (someParts 1 2)
+  -- 9 tested before 8: byte 84 in (4,1), whose level and value are both too high
+  pub parts-value-before-position : Never parts-of.Post (fullRoom 4 1 & 0x84 & tt) (noParts (refusedAt 9 1 1))
+  -- 8 with no place
+  pub parts-no-place : Never parts-of.Post (fullRoom 4 1 & 0x80 & tt) (noParts (plain 8))
   -- ---- hop_of
   -- the position in the low bits of the byte, the value in the high ones: byte 01 from 10 of (4,1)
   pub position-in-low-bits : Never hop-of.Post (fullRoom 4 1 & 4 & 0x01 & tt) (aHop 0)

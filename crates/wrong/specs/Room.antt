@@ -7,7 +7,7 @@ use Rattle.refusals.proofs.Refusal.none.Reads as refusal-none
 use Rattle.refusals.proofs.Refusal.plain.Reads as refusal-plain
 use Rattle.refusals.proofs.Refusal.at.Reads as refusal-at
 use Rattle.room.specs.Shapes.{fullRoom}
-use Rattle.room.specs.Answers.{aNumber, someDigits, aSwitch, onlyLevel}
+use Rattle.room.specs.Answers.{noNumber, aNumber, someDigits, aSwitch, onlyLevel}
 use Rattle.room.proofs.Shape.full.Reads as shape-full
 use Rattle.room.proofs.shape_refusal.Reads as shape-refusal
 use Rattle.room.proofs.server_refusal.Reads as server-refusal
@@ -18,6 +18,8 @@ use Rattle.room.proofs.digits_of.Reads as digits-of
 use Rattle.room.proofs.digit_of.Reads as digit-of
 use Rattle.room.proofs.address_of.Reads as address-of
 use Rattle.room.proofs.switch_of.Reads as switch-of
+use Rattle.room.proofs.switches_of.Reads as switches-of
+use Rattle.room.proofs.server_at.Reads as server-at
 use Rattle.room.proofs.neighbour_of.Reads as neighbour-of
 use Rattle.room.proofs.level_between.Reads as level-between
 use Rattle.wrong.specs.Never.{Never, _&_}
@@ -110,6 +112,28 @@ pub record Room : Type 0 where
   pub others-struck-out : Never switch-of.Post (fullRoom 4 1 & 7 & 0 & tt) (aSwitch 0 3)
   -- the level lost
   pub switch-level-lost : Never switch-of.Post (fullRoom 4 1 & 7 & 1 & tt) (aSwitch 0 3)
+  -- ---- switches_of
+  -- the servers of a switch for the switches of a level
+  pub ports-for-switches : Never switches-of.Post (fullRoom 8 3 & 0 & tt) (aNumber 8)
+  -- a switch for each server
+  pub servers-for-switches : Never switches-of.Post (fullRoom 8 3 & 0 & tt) (aNumber 4096)
+  -- n to the power of the level
+  pub power-of-the-level : Never switches-of.Post (fullRoom 4 1 & 0 & tt) (aNumber 1)
+  -- the switches of a level above k
+  pub switches-above-k : Never switches-of.Post (fullRoom 4 1 & 2 & tt) (aNumber 4)
+  -- ---- server_at
+  -- switch and port exchanged: port 3 of switch 1 of level 0 in (4,1), server 13
+  pub switch-and-port-exchanged : Never server-at.Post (fullRoom 4 1 & 0 & 1 & 3 & tt) (aNumber 13)
+  -- the port in place of digit 0 at every level: port 1 of switch 3 of level 1
+  pub port-at-digit-0 : Never server-at.Post (fullRoom 4 1 & 1 & 3 & 1 & tt) (aNumber 13)
+  -- the switch's digits not moved up
+  pub digits-not-moved-up : Never server-at.Post (fullRoom 4 1 & 0 & 1 & 3 & tt) (aNumber 3)
+  -- a port n carried to the next digit
+  pub port-not-bounded : Never server-at.Post (fullRoom 4 1 & 0 & 0 & 4 & tt) (aNumber 4)
+  -- a switch that the level does not have
+  pub switch-not-bounded : Never server-at.Post (fullRoom 4 1 & 0 & 4 & 0 & tt) (aNumber 16)
+  -- 21 tested before 20: switch 4 of level 2
+  pub switch-before-level : Never server-at.Post (fullRoom 4 1 & 2 & 4 & 0 & tt) (noNumber 21)
   -- ---- neighbour_of
   -- level and value exchanged: 12 of (4,1) with digit 0 set to 1
   pub level-and-value-exchanged : Never neighbour-of.Post (fullRoom 4 1 & 6 & 0 & 1 & tt) (aNumber 2)

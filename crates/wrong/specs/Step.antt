@@ -5,10 +5,7 @@ use lib.ListN.{replicate}
 use Rattle.refusals.specs.Refusals.{none, plain, refusedAt}
 use Rattle.room.specs.Shapes.{fullRoom}
 use Rattle.step.specs.Steps.{noStep}
-use Rattle.step.specs.Packed.{packed, macNumber}
 use Rattle.step.proofs.step_once.Reads as step-once
-use Rattle.step.proofs.bcube_step.Reads as bcube-step
-use Rattle.step.proofs.bcube_step_mac.Reads as bcube-step-mac
 use Rattle.wrong.specs.Never.{Never, Loan, _&_, _lends_}
 use Rattle.wrong.specs.Examples.{array, direct, mac, neighbour}
 
@@ -32,19 +29,3 @@ pub record Step (q e : Loan) : Type 0 where
   pub index-told-as-hop : Never step-once.Post (fullRoom 4 1 & 0 & 7 & 8 & q lends direct & e lends neighbour 0x41 1 & tt) (noStep (refusedAt 18 1 9))
   -- 19 tested before 10: byte 40 from 00 changes nothing, and has no flag
   pub flag-before-no-change : Never step-once.Post (fullRoom 4 1 & 0 & 7 & 0 & q lends array (0x40 ∷ []) & e lends neighbour 0x41 1 & tt) (noStep (refusedAt 19 1 1))
-  -- ---- bcube_step
-  -- the index tested before arrival
-  pub index-before-arrival-c : Never bcube-step.Post (4 & 1 & 7 & 7 & 8 & q lends direct & e lends neighbour 0x41 1 & tt) 18
-  -- a delivery told as nothing at all
-  pub delivery-not-told : Never bcube-step.Post (4 & 1 & 7 & 7 & 0 & q lends direct & e lends neighbour 0x41 1 & tt) 0
-  -- next server and OutPort exchanged
-  pub server-and-port-exchanged : Never bcube-step.Post (4 & 1 & 0 & 7 & 0 & q lends direct & e lends neighbour 0x41 1 & tt)
-      (packed (record { refusal = none; delivered = false; next = 7; index = 1; mac = mac; port = 4 }))
-  -- ---- bcube_step_mac
-  -- the first byte lowest
-  pub first-byte-lowest : Never bcube-step-mac.Post (4 & 1 & 0 & 7 & 0 & q lends direct & e lends neighbour 0x41 1 & tt)
-      (macNumber (0x04 ∷ 0x00 ∷ 0x10 ∷ 0x5e ∷ 0x00 ∷ 0x02 ∷ []))
-  -- the MAC of a neighbour that is not available
-  pub mac-on-refusal : Never bcube-step-mac.Post (4 & 1 & 0 & 7 & 0 & q lends direct & e lends neighbour 0x41 0 & tt) (macNumber mac)
-  -- the MAC of the byte that the index names, at a delivery
-  pub mac-at-delivery : Never bcube-step-mac.Post (4 & 1 & 7 & 7 & 0 & q lends direct & e lends neighbour 0x41 1 & tt) (macNumber mac)

@@ -8,11 +8,13 @@ pub main-spec : {M : Type 1} → statement M
 main-spec =
     tie.close
     (tie.spec
+    -- read-line-requires, array-share-prefix-read, slice-aggregate-answer-line, answer-line-requires: the line
     (λ c κs. search needs)
     (λ c. search needs)
     (λ c. search needs)
     (λ c κs. search needs)
-    (λ c. text-within _ _ (c .before .answer-line .ensures))
-    (λ c. text-long _ _ (c .before .before .answer-line .ensures))
+    -- array-share-prefix-bytes, slice-aggregate-write-all, write-all-requires, returns: its answer
+    (λ c. search text-within)
+    (λ c. search text-long)
     (λ c κs. search needs)
     (λ c. search needs))

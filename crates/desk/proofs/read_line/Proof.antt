@@ -20,15 +20,22 @@ read-line-spec =
     (tie.spec
     Inv-loop
     μ-loop
+    -- loop-holds
     (λ c. search needs)
+    -- slice-aggregate-read-full, read-full-requires: one byte
     (λ c. search needs)
     (λ c κs. search needs)
-    (λ c. let g = c .before .before .before .before .before .loop in counts (g .count) (g .bytes) (omega arith))
+    -- returns: the input ends
+    (λ c. counts _ _ (omega arith))
+    -- array-read-bytes, array-write-bytes, add-count: the byte is kept
     (λ c. search needs)
     (λ c. search needs)
     (λ c. search needs)
+    -- array-read-if2, returns-2: it ends the line
     (λ c. search needs)
-    (λ c. let g = c .before .before .before .before .before .before .loop in counts _ _ (simp length-set (omega arith)))
+    (λ c. counts _ _ (simp length-set (omega arith)))
+    -- loop-less, loop-again
     (λ c. search needs)
     (λ c. search needs)
-    (λ c. let g = c .before .loop in counts (g .count) (g .bytes) (omega arith)))
+    -- returns-3: 65 bytes
+    (λ c. counts _ _ (omega arith)))

@@ -7,4 +7,5 @@ pub new-spec : {M : Type 1} → statement M
 new-spec =
     tie.close
     (tie.spec
+    -- returns
     (λ c. refl))

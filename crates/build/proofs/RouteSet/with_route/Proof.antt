@@ -8,8 +8,10 @@ pub with-route-spec : {M : Type 1} → statement M
 with-route-spec =
     tie.close
     (tie.spec
-    (λ c. added-full (c .before .args .self) _ (c .if1 .taken))
+    -- returns: the set is full
+    (λ c. search added-full)
+    -- mul-placed-at, placed-at-requires, add-self, returns-2: it is not
     (λ c. search needs)
     (λ c κs. search needs)
     (λ c. search needs)
-    (λ c. added-more (c .before .before .before .args .self) _ _ (c .before .before .if1 .left) (c .placed-at .ensures)))
+    (λ c. search added-more))

@@ -9,6 +9,7 @@ unfolding byteOf
 byte-of-spec =
     tie.close
     (tie.spec
+    -- mul-result, add-result, cast-result, returns
     (λ c. search needs)
     (λ c. search needs)
     (λ c. search needs)

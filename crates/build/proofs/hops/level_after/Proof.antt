@@ -8,6 +8,8 @@ pub level-after-spec : {M : Type 1} → statement M
 level-after-spec =
     tie.close
     (tie.spec
-    (λ c. next-round _ _ (c .if1 .taken))
+    -- returns: from 0 round to k
+    (λ c. search next-round)
+    -- sub-result, returns-2: one down
     (λ c. search needs)
-    (λ c. next-down _ _ (c .if1 .left)))
+    (λ c. search next-down))

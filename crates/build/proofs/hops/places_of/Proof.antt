@@ -10,5 +10,6 @@ pub places-of-spec : {M : Type 1} → statement M
 places-of-spec =
     tie.close
     (tie.spec
+    -- digits-of-requires, returns
     (λ c κs. search needs)
     (λ c. ap (λ (x : Digits). x .places) (digits-answered (c .before .before .pre) _ (c .before .digits-of .ensures))))

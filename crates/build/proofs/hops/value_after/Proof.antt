@@ -15,7 +15,15 @@ unfolding plusOne
 value-after-spec =
     tie.close
     (tie.spec
+    -- bound-of-requires, add-result
     (λ c κs. search needs)
     (λ c. let h = c .before .pre in omega arith)
-    (λ c. let h = c .before .pre in let b = ap (λ (x : Number). x .value) (bound-answered (h .0) (h .1) _ (c .bound-of .ensures)) in omega (arith, bound-two (h .0) (c .before .args .level)))
-    (λ c. let h = c .before .pre in let b = ap (λ (x : Number). x .value) (bound-answered (h .0) (h .1) _ (c .bound-of .ensures)) in ap (λ (y : ℕ). (c .before .args .value + 1) % y) b))
+    -- rem-result, returns: the bound of the level
+    (λ c.
+    let p = c .before .pre in
+    let b = ap (λ (x : Number). x .value) (bound-answered (p .0) (p .1) _ (c .bound-of .ensures)) in
+    omega (arith, bound-two (p .0) (c .before .args .level)))
+    (λ c.
+    let p = c .before .pre in
+    let b = ap (λ (x : Number). x .value) (bound-answered (p .0) (p .1) _ (c .bound-of .ensures)) in
+    ap (λ (y : ℕ). (c .before .args .value + 1) % y) b))

@@ -22,12 +22,15 @@ placed-at-spec =
     (tie.spec
     Inv-loop
     μ-loop
+    -- loop-holds
     (λ c. (omega arith, paste-zero (c .args .bytes) (c .args .place) (c .args .t3)))
+    -- array-read-all, add-all, array-write-all, add-j, loop-less: one byte
     (λ c. search needs)
     (λ c. search needs)
     (λ c. search needs)
     (λ c. search needs)
     (λ c. search needs)
+    -- loop-again
     (λ c.
     let a = c .before .before .args in
     let g = c .before .loop in
@@ -37,6 +40,7 @@ placed-at-spec =
       ap (λ (x : List ℕ). set x (a .place + g .j) (getD (a .t3) (g .j) 0)) (g .inv .1)
           ∙ placed-next (a .place) (a .t3) (a .bytes) (g .j) (omega arith) (omega arith),
     ))
+    -- returns
     (λ c.
     let a = c .before .before .args in
     let g = c .before .loop in

@@ -13,9 +13,14 @@ unfolding buildAnswer
 build-routes-spec =
     tie.close
     (tie.spec
+    -- ends-refusal-requires, no-building-requires, returns: 1 to 5
     (λ c κs. search needs)
     (λ c κs. search needs)
-    (λ c. answer-refused _ _ noBuilding _ _ (c .no-building .ensures) (c .before .before .ends-refusal .ensures) (c .before .if1 .taken))
+    (λ c. search answer-refused)
+    -- none-requires, all-routes-requires, returns-2: the routes
     (λ c κs. search needs)
     (λ c κs. sym (c .before .before .ends-refusal .ensures) ∙ c .before .if1 .left)
-    (λ c. answer-given _ _ noBuilding _ _ (c .before .before .before .ends-refusal .ensures) (c .before .before .if1 .left) (ap₂ (λ (x : Refusal) (y : RouteSet). record { refusal = x; routes = y }) (c .before .none .ensures) (c .all-routes .ensures))))
+    (λ c.
+    let made = ap₂ (λ (x : Refusal) (y : RouteSet). record { refusal = x; routes = y }) (c .before .none .ensures) (c .all-routes .ensures) in
+    let test = c .before .before in
+    answer-given _ _ noBuilding _ _ (test .before .ends-refusal .ensures) (test .if1 .left) made))

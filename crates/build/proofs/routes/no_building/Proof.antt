@@ -10,6 +10,7 @@ pub no-building-spec : {M : Type 1} → statement M
 no-building-spec =
     tie.close
     (tie.spec
+    -- plain-requires, new-requires, returns
     (λ c κs. search needs)
     (λ c κs. search needs)
     (λ c. ap₂ (λ (x : Refusal) (y : RouteSet). record { refusal = x; routes = y }) (c .before .plain .ensures) (c .new .ensures)))

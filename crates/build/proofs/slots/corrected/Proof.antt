@@ -24,6 +24,7 @@ corrected-spec =
     (tie.spec
     Inv-loop
     μ-loop
+    -- add-left, loop-holds
     (λ c. let p = c .pre in omega arith)
     (λ c.
     let a = c .args in
@@ -35,10 +36,12 @@ corrected-spec =
       blank = p .4;
       same = ap (λ (m : ℕ). take (a .count) (a .made) ++ fixing (a .k) (a .t3) (a .t4) m (a .first)) (add-one (a .k));
     })
-    (λ c. let p = c .before .before .pre in let g = c .before .loop .inv in omega (arith, p .0, g .level))
-    (λ c. let p = c .before .before .pre in let g = c .before .loop .inv in omega (arith, p .0, g .level))
-    (λ c. let p = c .before .before .pre in let g = c .before .loop .inv in omega (arith, p .0, g .level))
-    (λ c. let p = c .before .before .pre in let g = c .before .loop .inv in omega (arith, p .0, g .level))
+    -- mul-value, array-read-value, mul-if1, array-read-if1: the level's digit of both ends
+    (λ c. let g = c .before .loop .inv in omega (arith, c .before .before .pre .0, g .level))
+    (λ c. let g = c .before .loop .inv in omega (arith, c .before .before .pre .0, g .level))
+    (λ c. let g = c .before .loop .inv in omega (arith, c .before .before .pre .0, g .level))
+    (λ c. let g = c .before .loop .inv in omega (arith, c .before .before .pre .0, g .level))
+    -- byte-of-requires, array-write-bytes, add-hops: they differ, and a hop corrects it
     (λ c κs.
     let p = c .before .before .before .pre in
     let a = c .before .before .before .args in
@@ -48,19 +51,17 @@ corrected-spec =
     (omega (arith, p .0, g .level), p .2 .at (o .level) (omega (arith, m, p .0, g .level))))
     (λ c. let g = c .before .before .before .loop .inv in omega arith)
     (λ c. let g = c .before .before .before .loop .inv in omega arith)
+    -- level-after-requires, sub-left, loop-less, loop-again: the next level
     (λ c κs. search needs)
     (λ c. search needs)
     (λ c. search needs)
     (λ c.
-    let a = c .before .before .before .before .args in
-    let o = c .before .before .before .loop in
+    let g = c .before .before .before .loop .inv in
     let some = c .before .before .loop-test .taken in
-    let after = c .level-after in
+    let next = c .level-after .ensures in
     ⊎-elim
-    (λ w. rw (w .2, w .3) (hopped (a .k) (a .t3) (a .t4) _ (o .bytes) (o .hops) (o .level) (o .left) (o .inv) some (w .0 .taken) (w .1 .result) (w .1 .ensures) (after .result) (after .ensures)))
-    (λ w. rw (w .1, w .2) (skipped (a .k) (a .t3) (a .t4) _ (o .bytes) (o .hops) (o .level) (o .left) (o .inv) some (w .0 .left) (after .result) (after .ensures)))
+    (λ w. rw (w .2, w .3) (hopped _ _ _ _ _ _ _ _ g some (w .0 .taken) _ (w .1 .ensures) _ next))
+    (λ w. rw (w .1, w .2) (skipped _ _ _ _ _ _ _ _ g some (w .0 .left) _ next))
     (c .before .if1 .came))
-    (λ c.
-    let a = c .before .before .args in
-    let o = c .before .loop in
-    ended (a .k) (a .t3) (a .t4) _ (o .bytes) (o .hops) (o .level) (o .left) (o .inv) (c .loop-test .left)))
+    -- returns
+    (λ c. search ended))

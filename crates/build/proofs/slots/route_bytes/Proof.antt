@@ -13,14 +13,15 @@ pub route-bytes-spec : {M : Type 1} → statement M
 route-bytes-spec =
     tie.close
     (tie.spec
+    -- mul-own, array-read-own, mul-if1, array-read-if1: the slot's digit of both ends
     (λ c. search needs)
     (λ c. search needs)
     (λ c. search needs)
     (λ c. search needs)
+    -- corrected-requires, returns: they differ
     (λ c κs. search needs)
-    (λ c.
-    let a = c .before .before .args in
-    direct-bytes (a .shape) (a .slot) (a .t3) (a .t4) (c .before .if1 .taken) _ (c .corrected .ensures))
+    (λ c. search direct-bytes)
+    -- value-after-requires, mul-beside, array-write-beside: they do not, and the route goes to the digit after
     (λ c κs.
     let a = c .before .args in
     let p = c .before .pre in
@@ -28,11 +29,13 @@ route-bytes-spec =
     (p .0, p .1, p .2 .at (a .slot) (omega (arith, m, p .0 .levels, p .1))))
     (λ c. search needs)
     (λ c. search needs)
+    -- byte-of-requires, array-write-made: the byte of that hop
     (λ c κs.
     let a = c .before .before .args in
     let v = c .before .before .pre .0 in
     omega (arith, c .value-after .ensures, plus-lt v (a .slot) (getD (a .t3) (a .slot) 0), bound-le v (a .slot)))
     (λ c. search needs)
+    -- level-after-requires, corrected-requires-2, returns-2: and on from the level after
     (λ c κs. search needs)
     (λ c κs.
     let a = c .before .before .before .before .args in
@@ -43,7 +46,4 @@ route-bytes-spec =
       omega arith,
       refl,
     ))
-    (λ c.
-    let a = c .before .before .before .before .before .args in
-    detour-bytes (a .shape) (a .slot) (a .t3) (a .t4) (c .before .before .before .before .if1 .left)
-    _ (c .before .before .before .value-after .ensures) _ (c .before .before .byte-of .ensures) _ (c .before .level-after .ensures) _ (c .corrected2 .ensures)))
+    (λ c. search detour-bytes))

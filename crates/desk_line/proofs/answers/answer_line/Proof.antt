@@ -8,9 +8,11 @@ pub answer-line-spec : {M : Type 1} → statement M
 answer-line-spec =
     tie.close
     (tie.spec
+    -- question-of-requires, full-requires, built-text-requires, returns: a question
     (λ c κs. search needs)
     (λ c κs. search needs)
     (λ c κs. search needs)
-    (λ c. desk-asked (c .before .before .before .before .before .args .input .now) _ _ _ (c .before .before .before .question-of .ensures) (c .before .before .if1 .taken) (c .before .full .ensures) (c .built-text .ensures))
+    (λ c. search desk-asked)
+    -- input-text-requires, returns-2: anything else
     (λ c κs. search needs)
-    (λ c. desk-other (c .before .before .before .before .args .input .now) _ _ (c .before .before .question-of .ensures) (c .before .if1 .left) (c .input-text .ensures)))
+    (λ c. search desk-other))

@@ -2,7 +2,6 @@
 use native.Mathlib.Omega.{arith}
 use borrow.Author.Needs.{needs}
 use Prim.Native.Nat.{suc, _-_}
-use Rattle.room.proofs.RefusalLaws.{ends-of}
 use Rattle.desk_line.proofs.AnswerLaws.{Printed, print-start, print-room, print-next, print-end}
 use Rattle.desk_line.proofs.answers.routes_text.Statement.{statement}
 use Rattle.desk_line.proofs.answers.routes_text.Tie as tie
@@ -19,10 +18,13 @@ routes-text-spec =
     (tie.spec
     Inv-loop
     μ-loop
+    -- no-text-requires, loop-holds
     (λ c κs. search needs)
-    (λ c. let a = c .before .args in print-start (a .shape) (a .source) (a .destination) _ (c .before .pre .0) (c .no-text .ensures))
-    (λ c κs. let p = c .before .before .before .before .pre in let g = c .before .before .loop in (print-room (g .inv) (omega arith), p .0, p .1, omega arith))
-    (λ c. let a = c .before .before .before .before .before .args in let v = ends-of (a .shape) (a .source) (a .destination) (c .before .before .before .before .before .pre .0) .source .valid .levels in omega arith)
+    (λ c. search print-start)
+    -- with-place-requires, add-place, loop-less, loop-again: the line of one place
+    (λ c κs. search (print-room, arith))
     (λ c. omega arith)
-    (λ c. let p = c .before .before .before .before .before .pre in let g = c .before .before .before .loop in print-next (p .0) (g .inv) (omega arith) _ (c .with-place .ensures))
-    (λ c. let g = c .before .before .loop in print-end (g .inv) (omega arith)))
+    (λ c. omega arith)
+    (λ c. search (print-next, arith))
+    -- returns
+    (λ c. search (print-end, arith)))

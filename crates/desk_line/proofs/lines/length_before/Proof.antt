@@ -20,10 +20,14 @@ length-before-spec =
     (tie.spec
     Inv-loop
     μ-loop
+    -- loop-holds, shared-slice-read-if1
     (λ c. omega arith)
     (λ c. omega arith)
-    (λ c. let a = c .before .before .before .before .args in let g = c .before .before .before .loop in omega (arith, before-here (a .stop) (a .text .now) (g .i) (omega arith) (omega arith)))
+    -- returns: the byte is here
+    (λ c. search (before-here, arith))
+    -- add-i, loop-less, loop-again
     (λ c. omega arith)
     (λ c. omega arith)
-    (λ c. let a = c .before .before .before .before .args in let g = c .before .before .before .loop in (omega arith, omega (arith, before-on (a .stop) (a .text .now) (g .i) (omega arith) (omega arith))))
-    (λ c. let a = c .before .before .args in let g = c .before .loop in omega (arith, before-end (a .stop) (a .text .now) (g .i) (omega arith))))
+    (λ c. (omega arith, search (before-on, arith)))
+    -- returns-2: it is nowhere
+    (λ c. search (before-end, arith)))

@@ -9,7 +9,10 @@ pub line-fits-spec : {M : Type 1} → statement M
 line-fits-spec =
     tie.close
     (tie.spec
+    -- length-before-requires
     (λ c κs. search needs)
+    -- add-result, returns: a newline ends the line
     (λ c. search needs)
-    (λ c. fits-with _ _ (c .before .length-before .ensures) (omega arith))
-    (λ c. fits-without _ _ (c .before .length-before .ensures) (omega arith)))
+    (λ c. search (fits-with, arith))
+    -- returns-2: none does
+    (λ c. search (fits-without, arith)))

@@ -8,6 +8,7 @@ pub part-before-spec : {M : Type 1} → statement M
 part-before-spec =
     tie.close
     (tie.spec
+    -- length-before-requires, slice-aggregate-result, returns
     (λ c κs. search needs)
-    (λ c. let a = c .before .before .before .args in found-long (a .stop) (a .text .now) _ (c .before .length-before .ensures))
-    (λ c. let a = c .before .before .before .args in found-before (a .stop) (a .text .now) _ (c .before .length-before .ensures)))
+    (λ c. search found-long)
+    (λ c. search found-before))

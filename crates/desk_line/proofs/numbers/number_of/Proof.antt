@@ -1,7 +1,7 @@
 -- `desk_line::numbers::number_of` meets its contract. Assumes nothing.
 use native.Mathlib.Omega.{arith}
 use borrow.Author.Needs.{needs}
-use mathlib.Core.Path.{_≡_, sym, _∙_}
+use mathlib.Core.Path.{_≡_}
 use Prim.Native.Nat.{_≤_, _-_}
 use lib.ListN.{length, drop}
 use Rattle.desk_line.specs.Numbers.{wordOf}
@@ -21,20 +21,28 @@ number-of-spec =
     (tie.spec
     Inv-loop
     μ-loop
+    -- no-word-requires, returns: no byte
     (λ c κs. search needs)
-    (λ c. c .no-word .ensures ∙ sym (word-empty (c .before .before .before .args .word .now) (omega arith)))
-    (λ c. (omega arith, omega arith, word-some (c .before .before .args .word .now) (omega arith)))
+    (λ c. search (word-empty, arith))
+    -- loop-holds, shared-slice-read-byte
+    (λ c. (omega arith, omega arith, search (word-some, arith)))
     (λ c. omega arith)
+    -- no-word-requires-2, returns-2: a byte below the digits
     (λ c κs. search needs)
-    (λ c. let a = c .before .before .before .before .before .before .before .args in let g = c .before .before .before .before .loop in c .no-word2 .ensures ∙ sym (read-low (g .value) (a .word .now) (g .i) (omega arith) (omega arith)) ∙ g .inv .2)
+    (λ c. search (read-low, arith))
+    -- no-word-requires-3, returns-3: a byte above them
     (λ c κs. search needs)
-    (λ c. let a = c .before .before .before .before .before .before .before .before .args in let g = c .before .before .before .before .before .loop in c .no-word3 .ensures ∙ sym (read-high (g .value) (a .word .now) (g .i) (omega arith) (omega arith) (omega arith)) ∙ g .inv .2)
+    (λ c. search (read-high, arith))
+    -- mul-value, cast-value, add-value: one digit more
     (λ c. omega arith)
     (λ c. omega arith)
     (λ c. omega arith)
+    -- no-word-requires-4, returns-4: above 65,535
     (λ c κs. search needs)
-    (λ c. let a = c .before .before .before .before .before .before .before .before .before .args in let g = c .before .before .before .before .before .before .loop in c .no-word4 .ensures ∙ sym (read-large (g .value) (a .word .now) (g .i) (omega arith) (omega arith)) ∙ g .inv .2)
+    (λ c. search (read-large, arith))
+    -- add-i, loop-less, loop-again
     (λ c. omega arith)
     (λ c. omega arith)
-    (λ c. let a = c .before .before .before .before .before .before .before .before .args in let g = c .before .before .before .before .before .loop in (omega arith, omega arith, sym (read-more (g .value) (a .word .now) (g .i) (omega arith) (omega arith) (omega arith)) ∙ g .inv .2))
-    (λ c. let a = c .before .before .before .before .args in let g = c .before .loop in sym (read-end (g .value) (a .word .now) (g .i) (omega arith) (omega arith)) ∙ g .inv .2))
+    (λ c. (omega arith, omega arith, search (read-more, arith)))
+    -- returns-5
+    (λ c. search (read-end, arith)))

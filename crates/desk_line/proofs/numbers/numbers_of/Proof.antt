@@ -8,15 +8,18 @@ pub numbers-of-spec : {M : Type 1} → statement M
 numbers-of-spec =
     tie.close
     (tie.spec
+    -- part-after-requires, -2, -3: the parts after the spaces
+    (λ c κs. search needs)
+    (λ c κs. search needs)
+    (λ c κs. search needs)
+    -- part-before-requires, number-of-requires, and again -2, -3: the first three words
     (λ c κs. search needs)
     (λ c κs. search needs)
     (λ c κs. search needs)
     (λ c κs. search needs)
     (λ c κs. search needs)
     (λ c κs. search needs)
+    -- number-of-requires-4, question-requires, returns: the last word, and the question
     (λ c κs. search needs)
     (λ c κs. search needs)
-    (λ c κs. search needs)
-    (λ c κs. search needs)
-    (λ c κs. search needs)
-    (λ c. parsed (c .before .before .before .before .before .before .before .before .before .before .before .before .args .line .now) (c .before .before .before .before .before .before .before .before .before .before .part-after .ensures) (c .before .before .before .before .before .before .before .before .before .part-after2 .ensures) (c .before .before .before .before .before .before .before .before .part-after3 .ensures) (c .before .before .before .before .before .before .before .part-before .ensures) (c .before .before .before .before .before .before .number-of .ensures) (c .before .before .before .before .before .part-before2 .ensures) (c .before .before .before .before .number-of2 .ensures) (c .before .before .before .part-before3 .ensures) (c .before .before .number-of3 .ensures) (c .before .number-of4 .ensures) (c .question .ensures)))
+    (λ c. search parsed))

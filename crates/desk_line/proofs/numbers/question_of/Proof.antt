@@ -8,9 +8,12 @@ pub question-of-spec : {M : Type 1} → statement M
 question-of-spec =
     tie.close
     (tie.spec
+    -- line-fits-requires
     (λ c κs. search needs)
+    -- part-before-requires, numbers-of-requires, returns: the line is short enough
     (λ c κs. search needs)
     (λ c κs. search needs)
     (λ c. search question-fits)
+    -- no-question-requires, returns-2: it is not
     (λ c κs. search needs)
     (λ c. search question-long))

@@ -7,4 +7,5 @@ pub no-text-spec : {M : Type 1} → statement M
 no-text-spec =
     tie.close
     (tie.spec
+    -- returns
     (λ c. none-yet))

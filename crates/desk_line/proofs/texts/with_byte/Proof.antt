@@ -8,6 +8,7 @@ pub with-byte-spec : {M : Type 1} → statement M
 with-byte-spec =
     tie.close
     (tie.spec
+    -- array-write-bytes, add-t8 (the length), returns
     (λ c. let h = room-length (c .before .pre) in omega arith)
     (λ c. let h = room-length (c .before .pre) in omega arith)
     (λ c. put-byte _ _ (c .before .pre)))

@@ -8,8 +8,10 @@ pub with-count-spec : {M : Type 1} → statement M
 with-count-spec =
     tie.close
     (tie.spec
+    -- cast-with-byte, add-with-byte, with-byte-requires: the digit
     (λ c. omega arith)
     (λ c. omega arith)
-    (λ c κs. room-less 1 (c .pre .0) (omega arith))
-    (λ c κs. count-room _ (c .before .pre .0) (c .with-byte .ensures))
-    (λ c. counted (c .before .before .args .text) (c .before .before .args .count) (omega arith) (c .before .with-byte .ensures) (c .with-byte2 .ensures)))
+    (λ c κs. search (room-less, arith))
+    -- with-byte-requires-2, returns: the newline
+    (λ c κs. search count-room)
+    (λ c. search (counted, arith)))

@@ -21,13 +21,18 @@ with-hex-spec =
     (tie.spec
     Inv-loop
     μ-loop
+    -- loop-holds
     (λ c. (omega arith, hex-start (c .before .pre)))
+    -- shared-slice-read-byte, hex-digit-requires, with-byte-requires: the high digit
     (λ c. omega arith)
-    (λ c κs. let a = c .before .before .before .before .args in let g = c .before .before .loop in omega (arith, c .shared-slice-known2 .given (g .i)))
-    (λ c κs. let a = c .before .before .before .before .before .args in let g = c .before .before .before .loop in hex-room (a .bytes .now) (g .i) (omega arith) (c .before .before .before .before .before .pre) (g .inv .1))
-    (λ c κs. let a = c .before .before .before .before .before .before .args in let g = c .before .before .before .before .loop in omega (arith, c .before .before .shared-slice-known2 .given (g .i)))
-    (λ c κs. let a = c .before .before .before .before .before .before .before .args in let g = c .before .before .before .before .before .loop in half-room (a .bytes .now) (g .i) (omega arith) (c .before .before .before .before .before .before .before .pre) (g .inv .1) _ (c .before .with-byte .ensures))
+    (λ c κs. omega (arith, c .shared-slice-known2 .given (c .before .before .loop .i)))
+    (λ c κs. search (hex-room, arith))
+    -- hex-digit-requires-2, with-byte-requires-2: the low digit
+    (λ c κs. omega arith)
+    (λ c κs. search (half-room, arith))
+    -- add-i, loop-less, loop-again
     (λ c. omega arith)
     (λ c. omega arith)
-    (λ c. let a = c .before .before .before .before .before .before .before .before .args in let g = c .before .before .before .before .before .before .loop in (omega arith, hex-step (a .bytes .now) (g .i) (omega arith) (c .before .before .before .before .before .before .before .before .pre) (g .inv .1) _ (c .before .before .with-byte .ensures) _ (c .before .before .before .hex-digit .ensures) (c .before .hex-digit2 .ensures) (c .with-byte2 .ensures)))
-    (λ c. let a = c .before .before .before .args in let g = c .before .loop in hex-end (shown (a .text)) (a .bytes .now) (g .i) (omega arith) (g .inv .1)))
+    (λ c. (omega arith, search (hex-step, arith)))
+    -- returns
+    (λ c. search (hex-end, arith)))

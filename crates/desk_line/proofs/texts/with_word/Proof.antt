@@ -21,10 +21,14 @@ with-word-spec =
     (tie.spec
     Inv-loop
     μ-loop
+    -- loop-holds
     (λ c. (omega arith, word-start (c .before .pre)))
+    -- shared-slice-read-with-byte, with-byte-requires: one byte
     (λ c. omega arith)
-    (λ c κs. let a = c .before .before .before .before .args in let g = c .before .before .loop in word-room (a .word .now) (g .i) (omega arith) (c .before .before .before .before .pre) (g .inv .1))
+    (λ c κs. search (word-room, arith))
+    -- add-i, loop-less, loop-again
     (λ c. omega arith)
     (λ c. omega arith)
-    (λ c. let a = c .before .before .before .before .before .args in let g = c .before .before .before .loop in (omega arith, word-step (shown (a .text)) (a .word .now) (g .i) (omega arith) (g .inv .1) (c .with-byte .ensures)))
-    (λ c. let a = c .before .before .before .args in let g = c .before .loop in word-end (shown (a .text)) (a .word .now) (g .i) (omega arith) (g .inv .1)))
+    (λ c. (omega arith, search (word-step, arith)))
+    -- returns
+    (λ c. search (word-end, arith)))

@@ -14,6 +14,6 @@ bcube-failed-link-spec =
     (λ c κs. search needs)
     (λ c κs. search needs)
     (λ c κs. asked-fits _ _ _ _ _ (omega arith) (c .before .failed-link .ensures))
-    (λ c. let a = c .before .before .before .before .before .args in failed-said (λ s. failedAnswer s (now (a .table)) (a .server) (a .level)) (c .result-word .ensures) (c .before .if1 .taken) (c .before .before .failed-link .ensures) (c .before .before .before .full .ensures))
+    (λ c. let a = c .before .before .before .before .before .args in failed-said (λ s. failedAnswer s (now (a .table)) (a .server) (a .level)) (c .result-word .ensures) (c .before .if1 .taken) (c .before .before .failed-link .ensures) (c .before .before .before .shape-in .ensures))
     (λ c κs. asked-fits _ _ _ _ _ (omega arith) (c .before .failed-link .ensures))
-    (λ c. let a = c .before .before .before .before .before .args in live-said (λ s. failedAnswer s (now (a .table)) (a .server) (a .level)) (c .result-word2 .ensures) (c .before .if1 .left) (c .before .before .failed-link .ensures) (c .before .before .before .full .ensures)))
+    (λ c. let a = c .before .before .before .before .before .args in live-said (λ s. failedAnswer s (now (a .table)) (a .server) (a .level)) (c .result-word2 .ensures) (c .before .if1 .left) (c .before .before .failed-link .ensures) (c .before .before .before .shape-in .ensures)))

@@ -18,4 +18,4 @@ bcube-check-spec =
     (λ c κs. told-fits (λ (x : Refusal). x) (λ (x : Refusal). 0) (check-small _ _ _ _ _) (c .check-list .ensures))
     (λ c.
     let a = c .before .before .before .before .before .args in
-    told-word (λ (x : Refusal). x) (λ (x : Refusal). 0) (λ (s : Shape). checkAnswer s (now (a .table)) (a .source) (a .destination) (now (a .list))) (c .before .check-list .ensures) (c .before .before .full .ensures) (c .result-word .ensures)))
+    told-word (λ (x : Refusal). x) (λ (x : Refusal). 0) (λ (s : Shape). checkAnswer s (now (a .table)) (a .source) (a .destination) (now (a .list))) (c .before .check-list .ensures) (c .before .before .shape-in .ensures) (c .result-word .ensures)))

@@ -1,11 +1,12 @@
 -- `driver::paths::bcube_read` meets its contract. Assumes nothing.
 use borrow.Author.Needs.{needs}
+use mathlib.Core.Path.{refl}
 use denote.Ref.{now}
 use Rattle.room.specs.declared.Shape.{Shape}
 use Rattle.path.specs.declared.Reading.{Reading}
 use Rattle.path.specs.Answers.{readAnswer}
 use Rattle.driver.proofs.WordLaws.{told-fits, told-refused, told-given}
-use Rattle.driver.proofs.PathSmall.{read-small, read-found}
+use Rattle.driver.proofs.PathSmall.{read-small}
 use Rattle.driver.proofs.paths.bcube_read.Statement.{statement}
 use Rattle.driver.proofs.paths.bcube_read.Tie as tie
 
@@ -18,8 +19,7 @@ bcube-read-spec =
     (λ c κs. told-fits (λ (x : Reading). x .refusal) (λ (x : Reading). x .count) (read-small _ _ _ _) (c .read-path .ensures))
     (λ c.
     let a = c .before .before .before .before .before .before .args in
-    told-refused (λ (x : Reading). x .refusal) (λ (x : Reading). x .count) (λ (s : Shape). readAnswer s (a .source) (a .destination) (now (a .path))) (c .before .before .before .read-path .ensures) (c .before .before .before .before .full .ensures) (c .before .before .result-word .ensures) (λ (x : Reading). x .servers) _ (c .if1 .taken))
-    (λ c κs. read-found _ _ _ _ (c .before .before .before .before .read-path .ensures) (c .before .if1 .left))
+    told-refused (λ (x : Reading). x .refusal) (λ (x : Reading). x .count) (λ (s : Shape). readAnswer s (a .source) (a .destination) (now (a .path))) (c .before .before .before .read-path .ensures) (c .before .before .before .before .shape-in .ensures) (c .before .before .result-word .ensures) (λ (x : Reading). x .servers) _ (c .if1 .taken))
     (λ c.
-    let a = c .before .before .before .before .before .before .before .before .args in
-    told-given (λ (x : Reading). x .refusal) (λ (x : Reading). x .count) (λ (s : Shape). readAnswer s (a .source) (a .destination) (now (a .path))) (c .before .before .before .before .before .read-path .ensures) (c .before .before .before .before .before .before .full .ensures) (c .before .before .before .before .result-word .ensures) (λ (x : Reading). x .servers) _ (c .before .before .if1 .left) (c .four-bytes-each .ensures)))
+    let a = c .before .before .before .before .before .before .before .args in
+    told-given (λ (x : Reading). x .refusal) (λ (x : Reading). x .count) (λ (s : Shape). readAnswer s (a .source) (a .destination) (now (a .path))) (c .before .before .before .before .read-path .ensures) (c .before .before .before .before .before .shape-in .ensures) (c .before .before .before .result-word .ensures) (λ (x : Reading). x .servers) _ (c .before .if1 .left) refl))

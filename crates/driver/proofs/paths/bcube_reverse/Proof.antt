@@ -19,7 +19,7 @@ bcube-reverse-spec =
     (λ c κs. told-fits (λ (x : Writing). x .refusal) (λ (x : Writing). 0) (reverse-small _ _ _ _) (c .reverse-path .ensures))
     (λ c.
     let a = c .before .before .before .before .before .before .args in
-    told-refused (λ (x : Writing). x .refusal) (λ (x : Writing). 0) (λ (s : Shape). reverseAnswer s (a .source) (a .destination) (now (a .path))) (c .before .before .before .reverse-path .ensures) (c .before .before .before .before .full .ensures) (c .before .before .result-word .ensures) (λ (x : Writing). x .bytes) _ (c .if1 .taken))
+    told-refused (λ (x : Writing). x .refusal) (λ (x : Writing). 0) (λ (s : Shape). reverseAnswer s (a .source) (a .destination) (now (a .path))) (c .before .before .before .reverse-path .ensures) (c .before .before .before .before .shape-in .ensures) (c .before .before .result-word .ensures) (λ (x : Writing). x .bytes) _ (c .if1 .taken))
     (λ c.
     let a = c .before .before .before .before .before .before .before .args in
-    told-given (λ (x : Writing). x .refusal) (λ (x : Writing). 0) (λ (s : Shape). reverseAnswer s (a .source) (a .destination) (now (a .path))) (c .before .before .before .before .reverse-path .ensures) (c .before .before .before .before .before .full .ensures) (c .before .before .before .result-word .ensures) (λ (x : Writing). x .bytes) _ (c .before .if1 .left) refl))
+    told-given (λ (x : Writing). x .refusal) (λ (x : Writing). 0) (λ (s : Shape). reverseAnswer s (a .source) (a .destination) (now (a .path))) (c .before .before .before .before .reverse-path .ensures) (c .before .before .before .before .before .shape-in .ensures) (c .before .before .before .result-word .ensures) (λ (x : Writing). x .bytes) _ (c .before .if1 .left) refl))

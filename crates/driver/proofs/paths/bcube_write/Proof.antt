@@ -16,10 +16,10 @@ bcube-write-spec =
     (tie.spec
     (λ c κs. search needs)
     (λ c κs. search needs)
-    (λ c κs. told-fits (λ (x : Writing). x .refusal) (λ (x : Writing). 0) (write-small _ _) (c .written-of .ensures))
+    (λ c κs. told-fits (λ (x : Writing). x .refusal) (λ (x : Writing). 0) (write-small _ _) (c .write-path .ensures))
     (λ c.
     let a = c .before .before .before .before .before .before .args in
-    told-refused (λ (x : Writing). x .refusal) (λ (x : Writing). 0) (λ (s : Shape). writeAnswer s (now (a .servers))) (c .before .before .before .written-of .ensures) (c .before .before .before .before .full .ensures) (c .before .before .result-word .ensures) (λ (x : Writing). x .bytes) _ (c .if1 .taken))
+    told-refused (λ (x : Writing). x .refusal) (λ (x : Writing). 0) (λ (s : Shape). writeAnswer s (now (a .servers))) (c .before .before .before .write-path .ensures) (c .before .before .before .before .shape-in .ensures) (c .before .before .result-word .ensures) (λ (x : Writing). x .bytes) _ (c .if1 .taken))
     (λ c.
     let a = c .before .before .before .before .before .before .before .args in
-    told-given (λ (x : Writing). x .refusal) (λ (x : Writing). 0) (λ (s : Shape). writeAnswer s (now (a .servers))) (c .before .before .before .before .written-of .ensures) (c .before .before .before .before .before .full .ensures) (c .before .before .before .result-word .ensures) (λ (x : Writing). x .bytes) _ (c .before .if1 .left) refl))
+    told-given (λ (x : Writing). x .refusal) (λ (x : Writing). 0) (λ (s : Shape). writeAnswer s (now (a .servers))) (c .before .before .before .before .write-path .ensures) (c .before .before .before .before .before .shape-in .ensures) (c .before .before .before .result-word .ensures) (λ (x : Writing). x .bytes) _ (c .before .if1 .left) refl))

@@ -21,4 +21,4 @@ bcube-pick-spec =
     (λ c κs. pick-small _ _ _ _ _ _ _ (c .before .before .pick-place .ensures))
     (λ c.
     let a = c .before .before .before .before .before .before .before .before .args in
-    said placeWord (λ (s : Shape). placeAnswer s (now (a .table)) (a .source) (a .destination) (now (a .fresh)) (now (a .kept))) (c .result-word .ensures) (c .before .before .before .pick-place .ensures) (c .before .before .before .before .full .ensures)))
+    said placeWord (λ (s : Shape). placeAnswer s (now (a .table)) (a .source) (a .destination) (now (a .fresh)) (now (a .kept))) (c .result-word .ensures) (c .before .before .before .pick-place .ensures) (c .before .before .before .before .shape-in .ensures)))

@@ -16,4 +16,4 @@ bcube-address-spec =
     (λ c κs. search needs)
     (λ c κs. search needs)
     (λ c κs. number-fits _ _ (address-small _ _ refl) (c .address-of .ensures))
-    (λ c. let a = c .before .before .before .args in said numberWord (λ s. addressAnswer s (a .d0 ∷ a .d1 ∷ a .d2 ∷ a .d3 ∷ [])) (c .result-word .ensures) (c .before .address-of .ensures) (c .before .before .full .ensures)))
+    (λ c. let a = c .before .before .before .args in said numberWord (λ s. addressAnswer s (a .d0 ∷ a .d1 ∷ a .d2 ∷ a .d3 ∷ [])) (c .result-word .ensures) (c .before .address-of .ensures) (c .before .before .shape-in .ensures)))

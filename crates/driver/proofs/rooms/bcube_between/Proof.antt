@@ -14,6 +14,6 @@ bcube-between-spec =
     (λ c κs. search needs)
     (λ c. let h = between-level _ _ _ (c .before .before .level-between .ensures) in omega arith)
     (λ c κs. let h = between-level _ _ _ (c .before .before .level-between .ensures) in between-fits _ _ _ _ (omega arith) (c .before .before .level-between .ensures))
-    (λ c. let a = c .before .before .before .before .before .args in between-said (λ s. betweenAnswer s (a .one) (a .other)) (c .result-word .ensures) (c .before .before .if1 .taken) (c .before .before .before .level-between .ensures) (c .before .before .before .before .full .ensures))
+    (λ c. let a = c .before .before .before .before .before .args in between-said (λ s. betweenAnswer s (a .one) (a .other)) (c .result-word .ensures) (c .before .before .if1 .taken) (c .before .before .before .level-between .ensures) (c .before .before .before .before .shape-in .ensures))
     (λ c κs. between-fits _ _ _ _ (omega arith) (c .before .level-between .ensures))
-    (λ c. let a = c .before .before .before .before .args in apart-said (λ s. betweenAnswer s (a .one) (a .other)) (c .result-word2 .ensures) (c .before .if1 .left) (c .before .before .level-between .ensures) (c .before .before .before .full .ensures)))
+    (λ c. let a = c .before .before .before .before .args in apart-said (λ s. betweenAnswer s (a .one) (a .other)) (c .result-word2 .ensures) (c .before .if1 .left) (c .before .before .level-between .ensures) (c .before .before .before .shape-in .ensures)))

@@ -14,4 +14,4 @@ bcube-bound-spec =
     (λ c κs. search needs)
     (λ c κs. search needs)
     (λ c κs. number-fits _ _ (bound-small _ _) (c .bound-of .ensures))
-    (λ c. let a = c .before .before .before .args in said numberWord (λ s. boundAnswer s (a .level)) (c .result-word .ensures) (c .before .bound-of .ensures) (c .before .before .full .ensures)))
+    (λ c. let a = c .before .before .before .args in said numberWord (λ s. boundAnswer s (a .level)) (c .result-word .ensures) (c .before .bound-of .ensures) (c .before .before .shape-in .ensures)))

@@ -14,4 +14,4 @@ bcube-digit-spec =
     (λ c κs. search needs)
     (λ c κs. search needs)
     (λ c κs. number-fits _ _ (digit-small _ _ _) (c .digit-of .ensures))
-    (λ c. let a = c .before .before .before .args in said numberWord (λ s. digitAnswer s (a .server) (a .level)) (c .result-word .ensures) (c .before .digit-of .ensures) (c .before .before .full .ensures)))
+    (λ c. let a = c .before .before .before .args in said numberWord (λ s. digitAnswer s (a .server) (a .level)) (c .result-word .ensures) (c .before .digit-of .ensures) (c .before .before .shape-in .ensures)))

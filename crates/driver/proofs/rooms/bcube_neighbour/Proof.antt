@@ -14,4 +14,4 @@ bcube-neighbour-spec =
     (λ c κs. search needs)
     (λ c κs. search needs)
     (λ c κs. number-fits _ _ (neighbour-small _ _ _ _) (c .neighbour-of .ensures))
-    (λ c. let a = c .before .before .before .args in said numberWord (λ s. neighbourAnswer s (a .server) (a .level) (a .value)) (c .result-word .ensures) (c .before .neighbour-of .ensures) (c .before .before .full .ensures)))
+    (λ c. let a = c .before .before .before .args in said numberWord (λ s. neighbourAnswer s (a .server) (a .level) (a .value)) (c .result-word .ensures) (c .before .neighbour-of .ensures) (c .before .before .shape-in .ensures)))

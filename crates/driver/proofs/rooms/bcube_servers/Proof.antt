@@ -14,4 +14,4 @@ bcube-servers-spec =
     (λ c κs. search needs)
     (λ c κs. search needs)
     (λ c κs. number-fits _ _ (servers-small _) (c .servers-of .ensures))
-    (λ c. said numberWord serversAnswer (c .result-word .ensures) (c .before .servers-of .ensures) (c .before .before .full .ensures)))
+    (λ c. said numberWord serversAnswer (c .result-word .ensures) (c .before .servers-of .ensures) (c .before .before .shape-in .ensures)))

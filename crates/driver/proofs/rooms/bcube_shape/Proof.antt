@@ -15,4 +15,4 @@ bcube-shape-spec =
     (λ c κs. search needs)
     (λ c κs. search needs)
     (λ c κs. plain-fits _ (shape-le _) (omega arith) (c .before .shape-refusal .ensures) (c .plain .ensures))
-    (λ c. plain-said shapeRefusal (c .result-word .ensures) (c .before .plain .ensures) (c .before .before .shape-refusal .ensures) (c .before .before .before .full .ensures)))
+    (λ c. plain-said shapeRefusal (c .result-word .ensures) (c .before .plain .ensures) (c .before .before .shape-refusal .ensures) (c .before .before .before .shape-in .ensures)))

@@ -15,4 +15,4 @@ bcube-switch-spec =
     (λ c κs. search needs)
     (λ c κs. search needs)
     (λ c κs. told-fits (λ (x : Switch). x .refusal) (λ (x : Switch). x .number) (switch-small _ _ _) (c .switch-of .ensures))
-    (λ c. let a = c .before .before .before .args in said switchWord (λ s. switchAnswer s (a .server) (a .level)) (c .result-word .ensures) (c .before .switch-of .ensures) (c .before .before .full .ensures)))
+    (λ c. let a = c .before .before .before .args in said switchWord (λ s. switchAnswer s (a .server) (a .level)) (c .result-word .ensures) (c .before .switch-of .ensures) (c .before .before .shape-in .ensures)))

@@ -14,4 +14,4 @@ bcube-build-spec =
     (λ c κs. search needs)
     (λ c κs. search needs)
     (λ c κs. build-small _ _ _ _ (c .before .before .before .build-routes .ensures))
-    (λ c. build-said _ _ _ (c .before .before .before .before .build-routes .ensures) (c .before .before .before .before .before .full .ensures) (c .result-word .ensures) (⊎-elim (λ w. w .2 ∙ left-given _ _ _ (w .0 .taken)) (λ w. w .1 ∙ left-lent _ _ _ (w .0 .left)) (c .before .if1 .came))))
+    (λ c. build-said _ _ _ (c .before .before .before .before .build-routes .ensures) (c .before .before .before .before .before .shape-in .ensures) (c .result-word .ensures) (⊎-elim (λ w. w .2 ∙ left-given _ _ _ (w .0 .taken)) (λ w. w .1 ∙ left-lent _ _ _ (w .0 .left)) (c .before .if1 .came))))

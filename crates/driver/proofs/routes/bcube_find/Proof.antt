@@ -14,4 +14,4 @@ bcube-find-spec =
     (λ c κs. search needs)
     (λ c κs. search needs)
     (λ c κs. find-small _ (c .before .before .find-route .ensures))
-    (λ c. find-said (c .before .before .before .find-route .ensures) (c .before .before .before .before .full .ensures) (c .result-word .ensures) (⊎-elim (λ w. w .2 ∙ left-given _ _ _ (w .0 .taken)) (λ w. w .1 ∙ left-lent _ _ _ (w .0 .left)) (c .before .if1 .came))))
+    (λ c. find-said (c .before .before .before .find-route .ensures) (c .before .before .before .before .shape-in .ensures) (c .result-word .ensures) (⊎-elim (λ w. w .2 ∙ left-given _ _ _ (w .0 .taken)) (λ w. w .1 ∙ left-lent _ _ _ (w .0 .left)) (c .before .if1 .came))))

@@ -14,4 +14,4 @@ bcube-select-spec =
     (λ c κs. search needs)
     (λ c κs. search needs)
     (λ c κs. select-small _ (c .before .before .before .select-routes .ensures))
-    (λ c. select-said (c .before .before .before .before .select-routes .ensures) (c .before .before .before .before .before .full .ensures) (c .result-word .ensures) (⊎-elim (λ w. w .2 ∙ left-given _ _ _ (w .0 .taken)) (λ w. w .1 ∙ left-lent _ _ _ (w .0 .left)) (c .before .if1 .came))))
+    (λ c. select-said (c .before .before .before .before .select-routes .ensures) (c .before .before .before .before .before .shape-in .ensures) (c .result-word .ensures) (⊎-elim (λ w. w .2 ∙ left-given _ _ _ (w .0 .taken)) (λ w. w .1 ∙ left-lent _ _ _ (w .0 .left)) (c .before .if1 .came))))

@@ -5,36 +5,37 @@ use borrow.Author.Needs.{needs}
 use mathlib.Core.Path.{refl}
 use mathlib.Core.Logic.{⊎-elim}
 use denote.Ref.{now}
+use Rattle.links.proofs.TableLaws.{room-of}
 use Rattle.finder.proofs.Tables.{blank}
-use Rattle.finder.proofs.Scanning.{AtServer, AtLevel, AtValue, scan-starts, here-small, levels-start, side-needs, values-start, near, to-try, value-tried, value-seen, ended-found, level-ends, levels-end, ended-all}
-use Rattle.finder.proofs.Finish.{ready, Ended, none-found, reached, found-answer}
+use Rattle.finder.proofs.Scanning.{AtServer, AtLevel, AtValue, scan-starts, here-small, levels-start, here-link, values-start, near, to-try, value-tried, value-seen, ended-found, level-ends, levels-end, ended-all}
+use Rattle.finder.proofs.Finish.{Ended, none-found, reached, found-answer}
 use Rattle.finder.proofs.scan.search.Statement.{statement}
 use Rattle.finder.proofs.scan.search.Tie as tie
 
 abbrev Inv-loop2 : tie.InvT-loop2
-Inv-loop2 shape table source destination back₀ queue₀ marks₀ weight head tail₀ here level side w₀ v₀ v-end back queue marks tail w v =
+Inv-loop2 shape table source destination back₀ queue₀ marks₀ head tail₀ here level side w₀ v₀ v-end back queue marks tail w v =
     AtValue shape table source destination here side marks₀ back queue marks head tail level v w
 
 abbrev μ-loop2 : tie.MeasureT-loop2
-μ-loop2 shape table source destination back₀ queue₀ marks₀ weight head tail₀ here level side w₀ v₀ v-end back queue marks tail w v = side .count - v
+μ-loop2 shape table source destination back₀ queue₀ marks₀ head tail₀ here level side w₀ v₀ v-end back queue marks tail w v = side .count - v
 
 abbrev Inv-loop : tie.InvT-loop
-Inv-loop shape table source destination back₀ queue₀ marks₀ weight head tail₀ here level₀ back queue marks tail level =
+Inv-loop shape table source destination back₀ queue₀ marks₀ head tail₀ here level₀ back queue marks tail level =
     AtLevel shape table source destination here back queue marks head tail level
 
 abbrev μ-loop : tie.MeasureT-loop
-μ-loop shape table source destination back₀ queue₀ marks₀ weight head tail₀ here level₀ back queue marks tail level = level
+μ-loop shape table source destination back₀ queue₀ marks₀ head tail₀ here level₀ back queue marks tail level = level
 
 abbrev Inv-scan : tie.InvT-scan
-Inv-scan shape table source destination back₀ queue₀ marks₀ weight head₀ tail₀ back queue marks head tail =
+Inv-scan shape table source destination back₀ queue₀ marks₀ head₀ tail₀ back queue marks head tail =
     AtServer shape table source destination back queue marks head tail
 
 abbrev μ-scan : tie.MeasureT-scan
-μ-scan shape table source destination back₀ queue₀ marks₀ weight head₀ tail₀ back queue marks head tail = 4096 - head
+μ-scan shape table source destination back₀ queue₀ marks₀ head₀ tail₀ back queue marks head tail = 4096 - head
 
 -- how the scan ends
 ended : (c : tie.Left-scan Inv-loop2 μ-loop2 Inv-loop μ-loop Inv-scan μ-scan)
-    → (let a = c .before .before .before .before .before .before .before .args in let z = c .scan-test in Ended (a .shape) (now (a .table)) (a .source) (z .back) (z .queue) (z .tail) (a .destination))
+    → (let a = c .before .before .before .before .before .before .args in let z = c .scan-test in Ended (a .shape) (now (a .table)) (a .source) (z .back) (z .queue) (z .tail) (a .destination))
 ended c =
     ⊎-elim
     (λ w. rw (w .1, w .2, w .3) (ended-all (c .before .scan .inv) (omega arith)))
@@ -51,9 +52,8 @@ search-spec =
     μ-loop
     Inv-scan
     μ-scan
-    -- begin-requires, weights-requires, scan-holds: the tables with the source alone in them
-    (λ c κs. let r = ready _ _ _ _ (c .before .before .before .pre) in (omega (arith, r .source .below, r .source .valid .small), blank 4096 refl, refl))
-    (λ c κs. ready _ _ _ _ (c .before .before .before .before .pre) .source .valid .ports)
+    -- begin-requires, scan-holds: the tables with the source alone in them
+    (λ c κs. let r = room-of _ _ _ _ (c .before .before .before .pre) .0 in (omega (arith, r .source .below, r .source .valid .small), blank 4096 refl, refl))
     (λ c. search scan-starts)
     -- mul-here, array-read-here, cast-here: the next server of the queue
     (λ c. omega arith)
@@ -63,10 +63,8 @@ search-spec =
     (λ c. omega arith)
     (λ c. search levels-start)
     (λ c. omega arith)
-    -- mul-side-of, array-read-side-of, side-of-requires, loop2-holds: the servers at its switch of a level
-    (λ c. omega arith)
-    (λ c. omega arith)
-    (λ c κs. let ws = c .before .before .before .before .before .before .weights in side-needs (c .before .before .loop .inv) (c .before .loop-test .taken) (ws .result) (ws .ensures))
+    -- to-scan-requires, loop2-holds: the servers at its switch of a level
+    (λ c κs. let h = c .before .before .loop .inv in (here-link h (c .before .loop-test .taken), h .swept .long))
     (λ c. search values-start)
     -- loop-less, loop-again: the level is done
     (λ c. omega arith)

@@ -1,4 +1,5 @@
 -- `laying::marks::mark_server` meets its contract. Assumes nothing.
+use borrow.Author.Needs.{needs}
 use native.Mathlib.Omega.{arith}
 use Prim.Native.Nat.{suc, _≤_, _-_}
 use Rattle.laying.specs.Laid.{Marks}
@@ -19,7 +20,7 @@ mark-server-spec =
     Inv-loop
     μ-loop
     (λ c. (omega arith, up-start _ (c .before .pre .1)))
-    (λ c κs. (omega arith, omega arith))
+    (λ c κs. search needs)
     (λ c. omega arith)
     (λ c. omega arith)
     (λ c. (omega arith, search up-step))

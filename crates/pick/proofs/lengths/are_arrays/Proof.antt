@@ -8,7 +8,9 @@ pub are-arrays-spec : {M : Type 1} → statement M
 are-arrays-spec =
     tie.close
     (tie.spec
+    -- returns: no whole arrays
     (λ c. search fits-not)
+    -- add-result, mul-result, returns-2: at most k + 1 of them, or more
     (λ c. search needs)
     (λ c. search needs)
     (λ c. search fits-by))

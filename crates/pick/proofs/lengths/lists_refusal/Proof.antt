@@ -12,10 +12,13 @@ unfolding listsRefusal
 lists-refusal-spec =
     tie.close
     (tie.spec
+    -- room-refusal-requires, returns: 1 to 6
     (λ c κs. search needs)
     (λ c. search chain-stops)
+    -- are-arrays-requires, are-arrays-requires-2: the two lists
     (λ c κs. search room-levels)
     (λ c κs. search room-levels)
+    -- returns-2: both fit; returns-3, returns-4: the kept list does not, or the fresh one, 7
     (λ c. search (chain-goes, both-fit))
     (λ c. search (chain-goes, second-unfit))
     (λ c. search (chain-goes, first-unfit)))

@@ -9,5 +9,6 @@ pub a-place-spec : {M : Type 1} → statement M
 a-place-spec =
     tie.close
     (tie.spec
+    -- none-requires, returns
     (λ c κs. search needs)
     (λ c. ap (λ (x : Refusal). record { refusal = x; list = c .before .args .list; route = c .before .args .route }) (c .none .ensures)))

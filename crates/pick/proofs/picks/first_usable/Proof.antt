@@ -19,15 +19,20 @@ first-usable-spec =
     (tie.spec
     Inv-loop
     μ-loop
-    (λ c. seeking-all _ _ _ _ _)
+    -- loop-holds
+    (λ c. search seeking-all)
+    -- mul-at, add-end, sub-walk, part-walk-start, part-walk-end, walk-requires: the eight bytes of an array
     (λ c. omega arith)
     (λ c. omega arith)
     (λ c. omega arith)
     (λ c. omega arith)
     (λ c. omega arith)
     (λ c κs. search needs)
-    (λ c. let g = c .before .before .before .before .before .before .loop in seeking-found _ _ _ _ _ (g .i) (g .inv) (c .before .before .before .before .before .before .before .before .before .pre) (omega arith) _ (c .before .before .before .walk .ensures) (c .if1 .taken))
+    -- returns: it is usable
+    (λ c. search (seeking-found, arith))
+    -- add-i, loop-less, loop-again: it is not
     (λ c. omega arith)
     (λ c. omega arith)
-    (λ c. let g = c .before .before .before .before .before .before .loop in seeking-goes _ _ _ _ _ (g .i) (g .inv) (c .before .before .before .before .before .before .before .before .before .pre) (omega arith) _ (c .before .before .before .walk .ensures) (c .if1 .left))
-    (λ c. let g = c .before .loop in seeking-ends _ _ _ _ _ (g .i) (g .inv) (omega arith)))
+    (λ c. search (seeking-goes, arith))
+    -- returns-2: none is
+    (λ c. search (seeking-ends, arith)))

@@ -9,5 +9,6 @@ pub no-place-spec : {M : Type 1} → statement M
 no-place-spec =
     tie.close
     (tie.spec
+    -- plain-requires, returns
     (λ c κs. search needs)
     (λ c. ap (λ (x : Refusal). record { refusal = x; list = 0; route = 0 }) (c .plain .ensures)))

@@ -10,16 +10,21 @@ pub pick-place-spec : {M : Type 1} → statement M
 pick-place-spec =
     tie.close
     (tie.spec
+    -- lists-refusal-requires
     (λ c κs. search needs)
+    -- no-place-requires, returns: 1 to 7
     (λ c κs. search needs)
     (λ c. search stands-refused)
+    -- first-usable-requires, add-a-place, a-place-requires, returns-2: in the fresh list
     (λ c κs. search lists-room)
     (λ c. omega arith)
     (λ c κs. search needs)
     (λ c. search stands-fresh)
+    -- first-usable-requires-2, add-a-place-2, a-place-requires-2, returns-3: in the kept list
     (λ c κs. search lists-room)
     (λ c. omega arith)
     (λ c κs. search needs)
     (λ c. search stands-kept)
+    -- no-place-requires-2, returns-4: 16
     (λ c κs. search needs)
     (λ c. search stands-nowhere))

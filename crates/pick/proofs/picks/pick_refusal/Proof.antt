@@ -8,5 +8,6 @@ pub pick-refusal-spec : {M : Type 1} → statement M
 pick-refusal-spec =
     tie.close
     (tie.spec
+    -- pick-place-requires, returns
     (λ c κs. search needs)
     (λ c. search place-says))

@@ -2,7 +2,7 @@
 use borrow.Author.Needs.{needs}
 use native.Mathlib.Omega.{arith}
 use Rattle.select.specs.Inside.{SoFar}
-use Rattle.select.proofs.SelectLaws.{select-ends}
+use Rattle.links.proofs.TableLaws.{room-of}
 use Rattle.select.proofs.SlotCode.{so-starts, so-at, so-ends-at}
 use Rattle.select.proofs.slots.settle_slots.Statement.{statement}
 use Rattle.select.proofs.slots.settle_slots.Tie as tie
@@ -21,7 +21,7 @@ settle-slots-spec =
     μ-loop
     -- new-requires, add-left, loop-holds
     (λ c κs. search needs)
-    (λ c. let h = select-ends _ _ _ _ (c .before .before .before .pre .1) in omega arith)
+    (λ c. let h = room-of _ _ _ _ (c .before .before .before .pre .1) .0 in omega arith)
     (λ c. search so-starts)
     -- sub-left, settle-slot-requires, loop-less, loop-again: one slot
     (λ c. omega arith)

@@ -18,26 +18,26 @@ check-arrays-spec =
     (tie.spec
     Inv-loop
     μ-loop
-    -- before the loop
+    -- none-requires, loop-holds: before the loop
     (λ c κs. search needs)
     (λ c. search walking-none)
-    -- the eight bytes of an array
+    -- mul-at, add-end, sub-walk, part-walk-start, part-walk-end, walk-requires: the eight bytes of an array
     (λ c. search needs)
     (λ c. search needs)
     (λ c. search needs)
     (λ c. search needs)
     (λ c. search needs)
     (λ c κs. search needs)
-    -- refused
+    -- add-of-route, of-route-requires, returns: it is refused
     (λ c. search needs)
     (λ c κs. search needs)
     (λ c. search walking-stops)
-    -- kept, and on to the next
+    -- mul-walks, array-set-from-walks, add-i, loop-less, loop-again: kept, and on to the next
     (λ c. search needs)
     (λ c. search needs)
     (λ c. search needs)
     (λ c. search needs)
     (λ c. search walking-goes)
-    -- every two
+    -- first-pair-requires, returns-2: every two
     (λ c κs. (search needs, search walking-all))
     (λ c. search walking-ends))

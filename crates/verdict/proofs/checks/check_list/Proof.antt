@@ -1,7 +1,6 @@
 -- `verdict::checks::check_list` meets its contract. Assumes nothing.
 use borrow.Author.Needs.{needs}
 use Rattle.refusals.proofs.AnswerLaws.{answer-refused, answer-given}
-use Rattle.refusals.specs.Refusals.{plain}
 use Rattle.verdict.specs.Checks.{checkAnswer}
 use Rattle.verdict.proofs.checks.check_list.Statement.{statement}
 use Rattle.verdict.proofs.checks.check_list.Tie as tie
@@ -11,8 +10,10 @@ unfolding checkAnswer
 check-list-spec =
     tie.close
     (tie.spec
+    -- list-refusal-requires, plain-requires, returns: 1 to 7
     (λ c κs. search needs)
     (λ c κs. search needs)
-    (λ c. answer-refused _ _ plain _ _ (c .plain .ensures) (c .before .before .list-refusal .ensures) (c .before .if1 .taken))
+    (λ c. search answer-refused)
+    -- check-arrays-requires, returns-2: what the arrays are refused for
     (λ c κs. search needs)
-    (λ c. answer-given _ _ plain _ _ (c .before .before .list-refusal .ensures) (c .before .if1 .left) (c .check-arrays .ensures)))
+    (λ c. search answer-given))

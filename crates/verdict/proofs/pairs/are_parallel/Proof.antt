@@ -1,10 +1,6 @@
 -- `verdict::pairs::are_parallel` meets its contract. Assumes nothing.
-use native.Mathlib.Omega.{arith}
 use borrow.Author.Needs.{needs}
-use mathlib.Core.Path.{sym}
-use Prim.Native.Nat.{_-_}
-use lib.Seq.{length-take-le}
-use Rattle.verdict.proofs.ScanLaws.{parallel-not, parallel-by}
+use Rattle.verdict.proofs.ScanLaws.{switches-long, parallel-not, parallel-by}
 use Rattle.verdict.proofs.pairs.are_parallel.Statement.{statement}
 use Rattle.verdict.proofs.pairs.are_parallel.Tie as tie
 
@@ -12,19 +8,27 @@ pub are-parallel-spec : {M : Type 1} → statement M
 are-parallel-spec =
     tie.close
     (tie.spec
+    -- sub-hops, sub-other-hops
     (λ c. search needs)
     (λ c. search needs)
+    -- array-share-prefix-used, slice-aggregate-are-disjoint: the switches of one
     (λ c. search needs)
-    (λ c. let a = c .before .before .before .before .before .args in sym (length-take-le (a .one .count - 1) (a .one .switches) (omega arith)))
+    (λ c. search switches-long)
+    -- array-share-prefix-other-used, slice-aggregate-are-disjoint-2: those of the other
     (λ c. search needs)
-    (λ c. let a = c .before .before .before .before .before .before .args in sym (length-take-le (a .other .count - 1) (a .other .switches) (omega arith)))
+    (λ c. search switches-long)
+    -- are-disjoint-requires
     (λ c κs. search needs)
+    -- sub-are-disjoint, part-are-disjoint-start, part-are-disjoint-end: the servers between the ends of one
     (λ c. search needs)
     (λ c. search needs)
     (λ c. search needs)
+    -- the same -2: those of the other
     (λ c. search needs)
     (λ c. search needs)
     (λ c. search needs)
+    -- are-disjoint-requires-2, returns: no switch is shared
     (λ c κs. search needs)
-    (λ c. parallel-by _ _ (c .before .before .before .before .before .before .before .before .before .before .before .before .before .before .before .pre .0) (c .before .before .before .before .before .before .before .before .before .before .before .before .before .before .before .pre .1) _ _ (c .before .before .before .before .before .before .before .before .are-disjoint .ensures) (c .before .before .before .before .before .before .before .if1 .taken) (c .are-disjoint2 .ensures))
-    (λ c. parallel-not _ _ _ (c .before .are-disjoint .ensures) (c .if1 .left)))
+    (λ c. search parallel-by)
+    -- returns-2: a switch is
+    (λ c. search parallel-not))

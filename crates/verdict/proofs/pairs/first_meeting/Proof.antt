@@ -1,11 +1,11 @@
 -- `verdict::pairs::first_meeting` meets its contract. Assumes nothing.
 use native.Mathlib.Omega.{arith}
 use borrow.Author.Needs.{needs}
-use mathlib.Core.Path.{_≡_, refl, sym, _∙_}
+use mathlib.Core.Path.{_≡_, refl}
 use Prim.Native.Nat.{_≤_, _-_, _+_}
 use lib.ListN.{drop, take}
 use Rattle.verdict.specs.Checks.{firstMeeting}
-use Rattle.verdict.proofs.ScanLaws.{meeting-on, meeting-here, meeting-end}
+use Rattle.verdict.proofs.ScanLaws.{arrived-at, meeting-on, meeting-here, meeting-end}
 use Rattle.verdict.proofs.pairs.first_meeting.Statement.{statement}
 use Rattle.verdict.proofs.pairs.first_meeting.Tie as tie
 
@@ -22,18 +22,23 @@ first-meeting-spec =
     (tie.spec
     Inv-loop
     μ-loop
+    -- mul-one, array-copy-out-one, add-j, loop-holds: the array at i, and those after it
     (λ c. omega arith)
     (λ c. omega arith)
     (λ c. omega arith)
     (λ c. (omega arith, omega arith, refl))
+    -- mul-other, array-copy-out-other, are-parallel-requires: the one at j
     (λ c. omega arith)
     (λ c. omega arith)
-    (λ c κs. let p = c .before .before .before .before .pre .2 in (p .each (c .before .before .before .before .args .i) (omega arith), p .each (c .before .before .loop .j) (omega arith)))
+    (λ c κs. search (arrived-at, arith))
+    -- add-j-2, loop-less, loop-again: it is parallel
     (λ c. omega arith)
     (λ c. omega arith)
-    (λ c. let g = c .before .before .before .before .loop in let p = c .before .before .before .before .before .before .pre in let a = c .before .before .before .before .before .before .args in let l = p .2 .long in (omega arith, omega arith, sym (meeting-on _ (g .j + 1) (g .j) (a .count) (a .t1) _ (omega arith) (omega arith) (c .before .are-parallel .ensures) (c .if1 .taken)) ∙ g .inv .2))
+    (λ c. (omega arith, omega arith, search (meeting-on, arith)))
+    -- add-at, at-requires, returns: it is not, 15
     (λ c. omega arith)
     (λ c κs. search needs)
-    (λ c. let g = c .before .before .before .before .before .loop in let p = c .before .before .before .before .before .before .before .pre in let a = c .before .before .before .before .before .before .before .args in let l = p .2 .long in c .at .ensures ∙ sym (meeting-here _ (g .j + 1) (g .j) (a .count) (a .t1) _ (omega arith) (omega arith) (c .before .before .are-parallel .ensures) (c .before .if1 .left)) ∙ g .inv .2)
+    (λ c. search (meeting-here, arith))
+    -- none-requires, returns-2: all are
     (λ c κs. search needs)
-    (λ c. let g = c .before .before .loop in let a = c .before .before .before .before .args in c .none .ensures ∙ sym (meeting-end _ (g .j + 1) (g .j) (a .count) (a .t1) (omega arith)) ∙ g .inv .2))
+    (λ c. search (meeting-end, arith)))

@@ -1,7 +1,7 @@
 -- `verdict::pairs::first_pair` meets its contract. Assumes nothing.
 use native.Mathlib.Omega.{arith}
 use borrow.Author.Needs.{needs}
-use mathlib.Core.Path.{_≡_, refl, sym, _∙_}
+use mathlib.Core.Path.{_≡_, refl}
 use Prim.Native.Nat.{_≤_, _-_, _+_}
 use lib.ListN.{drop, take}
 use Rattle.verdict.specs.Checks.{firstPair}
@@ -21,11 +21,15 @@ first-pair-spec =
     (tie.spec
     Inv-loop
     μ-loop
+    -- loop-holds, first-meeting-requires
     (λ c. (omega arith, refl))
-    (λ c κs. let p = c .before .before .pre in (omega arith, omega arith, p .1))
-    (λ c. let g = c .before .before .before .before .loop in let a = c .before .before .before .before .before .args in let l = c .before .before .before .before .before .pre .1 .long in sym (pair-here (g .i + 1) (g .i) (a .count) (a .walks) _ (omega arith) (omega arith) (c .before .before .first-meeting .ensures) (c .if1 .taken)) ∙ g .inv .1)
-    (λ c. omega arith)
-    (λ c. omega arith)
-    (λ c. let g = c .before .before .before .before .loop in let a = c .before .before .before .before .before .args in let l = c .before .before .before .before .before .pre .1 .long in (omega arith, sym (pair-on (g .i + 1) (g .i) (a .count) (a .walks) _ (omega arith) (omega arith) (c .before .before .first-meeting .ensures) (c .if1 .left)) ∙ g .inv .1))
     (λ c κs. search needs)
-    (λ c. let g = c .before .before .loop in let a = c .before .before .before .args in c .none .ensures ∙ sym (pair-end (g .i + 1) (g .i) (a .count) (a .walks) (omega arith)) ∙ g .inv .1))
+    -- returns: a pair that meets
+    (λ c. search (pair-here, arith))
+    -- add-i, loop-less, loop-again
+    (λ c. omega arith)
+    (λ c. omega arith)
+    (λ c. (omega arith, search (pair-on, arith)))
+    -- none-requires, returns-2: no pair
+    (λ c κs. search needs)
+    (λ c. search (pair-end, arith)))

@@ -1,7 +1,7 @@
 -- `verdict::shares::are_disjoint` meets its contract. Assumes nothing.
 use native.Mathlib.Omega.{arith}
 use borrow.Author.Needs.{needs}
-use mathlib.Core.Path.{_≡_, refl, sym, _∙_}
+use mathlib.Core.Path.{_≡_, refl}
 use Prim.Native.Nat.{_≤_, _-_}
 use lib.ListN.{length, drop}
 use Rattle.verdict.specs.Checks.{disjoint}
@@ -21,12 +21,17 @@ are-disjoint-spec =
     (tie.spec
     Inv-loop
     μ-loop
+    -- loop-holds
     (λ c. (omega arith, refl))
+    -- mul-is-among, shared-slice-read-is-among, is-among-requires: one element
     (λ c. omega arith)
     (λ c. omega arith)
     (λ c κs. search needs)
-    (λ c. let g = c .before .before .before .before .loop in sym (apart-hit _ _ (g .i) _ (omega arith) (c .before .is-among .ensures) (c .if1 .taken)) ∙ g .inv .1)
+    -- returns: it is among them
+    (λ c. search (apart-hit, arith))
+    -- add-i, loop-less, loop-again
     (λ c. omega arith)
     (λ c. omega arith)
-    (λ c. let g = c .before .before .before .before .loop in (omega arith, sym (apart-miss _ _ (g .i) _ (omega arith) (c .before .is-among .ensures) (c .if1 .left)) ∙ g .inv .1))
-    (λ c. let g = c .before .loop in sym (apart-end _ _ (g .i) (omega arith)) ∙ g .inv .1))
+    (λ c. (omega arith, search (apart-miss, arith)))
+    -- returns-2: none is
+    (λ c. search (apart-end, arith)))

@@ -1,0 +1,77 @@
+-- Demand 2, proved: the functions that serve the layers above them.
+use Prim.Native.Nat.{ℕ, _+_, _*_, _^_, _≤_, _<_}
+use mathlib.Core.Path.{_≡_, refl, sym, ap, _∙_, subst}
+use mathlib.Core.Logic.{_⊎_, inl, inr}
+use mathlib.Core.Bool.{Bool}
+use mathlib.Core.List.{List}
+use native.Mathlib.Omega.{arith}
+use native.Mathlib.Numerals.{add-one}
+use native.Mathlib.Decide.{decLe}
+use native.Mathlib.Nat.{pow-succ', mul-zero}
+use lib.ListN.{length}
+use Rattle.room.specs.declared.Shape.{Shape}
+use Rattle.room.specs.Shapes.{bound, powerOf, serverCount, Link, Value}
+use Rattle.room.specs.Sides.{sideOf}
+use Rattle.room.proofs.PowerLaws.{no-ports, past-ports, past-levels, power-within}
+use Rattle.room.proofs.RoomLaws.{with-server, with-same, with-beside}
+use Rattle.room.proofs.SideLaws.{side-none, side-count, side-reach}
+use Rattle.links.specs.Table.{changedIn}
+use Rattle.links.proofs.TableLaws.{changed-in, changed-long, changed-own, changed-other}
+use Rattle.links.proofs.LinkLaws.{change-past, change-above}
+use Rattle.demands.specs.Demand2.{Sets}
+use Rattle.demands.specs.Helpers.{NoPower, OneLink, ServersAt, EveryHelper}
+
+no-power : (n l : ℕ) → NoPower n l → 0 ≡ powerOf n l
+no-power n l (inl h) = no-ports n l h
+no-power n l (inr (inl h)) = past-ports n l (omega arith) h
+no-power n l (inr (inr h)) =
+    elim (decLe 1 n) [
+      | yes a ↦ elim (decLe n 64) [ yes b ↦ past-levels n l a b h | no b ↦ past-ports n l a (omega arith) ]
+      | no a ↦ no-ports n l (omega arith)
+    ]
+
+server-count : (s : Shape) → 1 ≤ s .n → s .n ≤ 64 → s .k ≤ 3 → serverCount s ≡ s .n ^ (s .k + 1)
+unfolding serverCount
+server-count s a b d =
+    ap (λ (x : ℕ). s .n * x) (power-within (s .n) (s .k) a b d) ∙ sym (pow-succ' (s .n) (s .k)) ∙ ap (λ (x : ℕ). s .n ^ x) (sym (add-one (s .k)))
+
+no-server-count : (s : Shape) → NoPower (s .n) (s .k) → serverCount s ≡ 0
+unfolding serverCount
+no-server-count s h = ap (λ (x : ℕ). s .n * x) (sym (no-power (s .n) (s .k) h)) ∙ mul-zero (s .n)
+
+servers-at : (s : Shape) (a l : ℕ) → Link s a l → ServersAt s a l (sideOf s a l)
+unfolding bound
+servers-at s a l h =
+    record {
+      count = side-count h;
+      each = λ v p.
+          let k : Value s a l v = record { link = h; value = p } in
+          subst (Sets s a l v) (sym (side-reach h v p)) (record { server = with-server k; own = with-same k; others = with-beside k });
+    }
+
+one-link : (b : Bool) (a l : ℕ) (t : List ℕ) → a < length t → l < 8 → OneLink b a l t (changedIn b a l t)
+one-link b a l t p q =
+    subst (OneLink b a l t) (sym (changed-in b a l t q))
+    (record { long = changed-long b a l t; own = changed-own b a l t p; others = λ c m. changed-other b a l c m t })
+
+no-link : (b : Bool) (a l : ℕ) (t : List ℕ) → (length t ≤ a) ⊎ (8 ≤ l) → changedIn b a l t ≡ t
+no-link b a l t (inl h) = sym (change-past b a l t h)
+no-link b a l t (inr h) = sym (change-above b a l t h)
+
+pub every-helper : EveryHelper
+unfolding bound
+every-helper =
+    record {
+      of-route = λ r i. record { number = refl; route = refl; hop = refl };
+      power = power-within;
+      no-power = λ n l h. sym (no-power n l h);
+      server-count = server-count;
+      no-server-count = no-server-count;
+      digit-bound = λ s l. refl;
+      side-of = servers-at;
+      no-side = λ s a l h. sym (side-none s a l 0 (no-power (s .n) l h) refl);
+      one-link = one-link;
+      no-link = no-link;
+      level-of = λ b. refl;
+      value-of = λ b. refl;
+    }

@@ -1,0 +1,53 @@
+-- Demand 2, of the functions that serve the layers above them: a refusal moved to a route, the numbers of a shape, the servers at a switch, one
+-- link changed with no test, and what a path byte names.
+use Prim.Native.Nat.{ℕ, _+_, _*_, _/_, _%_, _^_, _≤_, _<_}
+use mathlib.Core.Path.{_≡_}
+use mathlib.Core.Logic.{_⊎_}
+use mathlib.Core.Bool.{Bool}
+use mathlib.Core.List.{List}
+use lib.ListN.{length}
+use Rattle.refusals.specs.declared.Refusal.{Refusal}
+use Rattle.refusals.specs.Refusals.{ofRoute}
+use Rattle.room.specs.declared.Shape.{Shape}
+use Rattle.room.specs.declared.Side.{Side}
+use Rattle.room.specs.Shapes.{bound, powerOf, serverCount, Link}
+use Rattle.room.specs.Sides.{sideOf}
+use Rattle.links.specs.Table.{failed, changedIn}
+use Rattle.path.specs.Routes.{levelOf, valueOf}
+use Rattle.demands.specs.Demand2.{Sets}
+
+-- n ports and level l have no power: n is not among 1 to 64, or l is above 3
+abbrev pub NoPower : ℕ → ℕ → Type 0
+NoPower n l = (n < 1) ⊎ (64 < n) ⊎ (3 < l)
+
+-- the refusal q is r at route i
+pub record OfRoute (r : Refusal) (i : ℕ) (q : Refusal) : Type 0 where
+  pub number : q .number ≡ r .number
+  pub route : q .route ≡ i
+  pub hop : q .hop ≡ r .hop
+
+-- the n servers at the switch of server a at level l, by the value that they have there
+pub record ServersAt (s : Shape) (a l : ℕ) (x : Side) : Type 0 where
+  pub count : x .count ≡ s .n
+  pub each : (v : ℕ) → v < s .n → Sets s a l v (x .first + v * x .stride)
+
+-- table u is table t with the link of server a at level l failed, or not, and no other link changed
+pub record OneLink (b : Bool) (a l : ℕ) (t u : List ℕ) : Type 0 where
+  pub long : length u ≡ length t
+  pub own : failed u a l ≡ b
+  pub others : (c m : ℕ) → (c ≡ a → m ≡ l → ⊥) → failed u c m ≡ failed t c m
+
+pub record EveryHelper : Type 0 where
+  pub of-route : (r : Refusal) (i : ℕ) → OfRoute r i (ofRoute i r)
+  pub power : (n l : ℕ) → 1 ≤ n → n ≤ 64 → l ≤ 3 → powerOf n l ≡ n ^ l
+  pub no-power : (n l : ℕ) → NoPower n l → powerOf n l ≡ 0
+  pub server-count : (s : Shape) → 1 ≤ s .n → s .n ≤ 64 → s .k ≤ 3 → serverCount s ≡ s .n ^ (s .k + 1)
+  pub no-server-count : (s : Shape) → NoPower (s .n) (s .k) → serverCount s ≡ 0
+  pub digit-bound : (s : Shape) (l : ℕ) → bound s l ≡ s .n
+  pub side-of : (s : Shape) (a l : ℕ) → Link s a l → ServersAt s a l (sideOf s a l)
+  pub no-side : (s : Shape) (a l : ℕ) → NoPower (s .n) l → sideOf s a l ≡ record { first = 0; stride = 0; count = 0 }
+  -- marking, and clearing; past the table's end and above level 7 nothing changes
+  pub one-link : (b : Bool) (a l : ℕ) (t : List ℕ) → a < length t → l < 8 → OneLink b a l t (changedIn b a l t)
+  pub no-link : (b : Bool) (a l : ℕ) (t : List ℕ) → (length t ≤ a) ⊎ (8 ≤ l) → changedIn b a l t ≡ t
+  pub level-of : (b : ℕ) → levelOf b ≡ b / 64
+  pub value-of : (b : ℕ) → valueOf b ≡ b % 64

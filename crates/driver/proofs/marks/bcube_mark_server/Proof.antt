@@ -1,0 +1,24 @@
+-- `driver::marks::bcube_mark_server` meets its contract. Assumes nothing.
+use borrow.Author.Needs.{needs}
+use mathlib.Core.Path.{ap, _∙_}
+use denote.Ref.{now}
+use Rattle.refusals.specs.declared.Refusal.{Refusal}
+use Rattle.room.specs.declared.Shape.{Shape}
+use Rattle.links.specs.Servers.{serverAnswer, markedServer}
+use Rattle.driver.specs.Words.{word}
+use Rattle.driver.proofs.WordLaws.{said}
+use Rattle.driver.proofs.RoomSmall.{server-fits}
+use Rattle.driver.proofs.marks.bcube_mark_server.Statement.{statement}
+use Rattle.driver.proofs.marks.bcube_mark_server.Tie as tie
+
+pub bcube-mark-server-spec : {M : Type 1} → statement M
+bcube-mark-server-spec =
+    tie.close
+    (tie.spec
+    -- shape-in-requires, mark-server-requires
+    (λ c κs. search needs)
+    (λ c κs. search needs)
+    -- result-word-requires, same-length, returns
+    (λ c κs. server-fits _ _ _ (c .before .before .mark-server .ensures .0))
+    (λ c. search needs)
+    (λ c. let a = c .before .before .before .before .before .before .before .args in let e = c .before .before .before .mark-server .ensures in let g = c .before .before .before .before .before .shape-in .ensures in (said (λ (x : Refusal). word x 0) (λ s. serverAnswer s (now (a .table)) (a .server)) (c .result-word .ensures) (e .0) g, e .1 ∙ ap (λ (s : Shape). markedServer s (now (a .table)) (a .server)) g)))

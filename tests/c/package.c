@@ -1,0 +1,103 @@
+/* A program of a user, as C99 and as C++17: every call and every accessor of the header once, over the library as
+ * it is installed. Prints the version; status 1 if an answer is not the one worked by hand. */
+#include "bcube.h"
+
+#include <stdio.h>
+#include <string.h>
+
+static int wrong;
+
+static void holds(int so, const char *what) {
+    if (so) return;
+    printf("wrong: %s\n", what);
+    wrong = 1;
+}
+
+static void rooms(bcube_room room) {
+    uint64_t digits[4];
+    holds(bcube_refusal(bcube_shape(room)) == BCUBE_NOT_REFUSED, "shape");
+    holds(bcube_value(bcube_servers(room)) == BCUBE_MOST_SERVERS, "servers");
+    holds(bcube_value(bcube_bound(room, 1)) == 8, "bound");
+    holds(bcube_value(bcube_switches(room, 1)) == 512, "switches");
+    holds(bcube_refusal(bcube_digits(room, 521, digits)) == BCUBE_NOT_REFUSED && digits[3] == 1, "digits");
+    holds(bcube_value(bcube_digit(room, 521, 1)) == 1, "digit");
+    holds(bcube_value(bcube_address(room, 1, 1, 0, 1)) == 521, "address");
+    holds(bcube_value(bcube_switch(room, 521, 1)) == 65, "switch");
+    holds(bcube_value(bcube_server_at(room, 1, 65, 1)) == 521, "server_at");
+    holds(bcube_value(bcube_neighbour(room, 521, 1, 0)) == 513, "neighbour");
+    holds(bcube_value(bcube_between(room, 521, 513)) == 2, "between");
+    holds(bcube_refusal(bcube_digit(room, (UINT64_C(1) << 32) + 1, 0)) == BCUBE_REFUSED_ADDRESS, "a number is cut");
+    holds(bcube_refusal(bcube_shape(bcube_room_of(UINT64_C(1) << 32 | 8, 3))) == BCUBE_REFUSED_PORTS, "n is cut");
+    holds(bcube_refusal(bcube_shape(bcube_room_of(8, 256))) == BCUBE_REFUSED_LEVELS, "k is cut");
+}
+
+static void links(bcube_room room) {
+    static uint8_t table[BCUBE_MOST_SERVERS];
+    holds(bcube_refusal(bcube_mark_link(room, 521, 1, table, sizeof table)) == BCUBE_NOT_REFUSED, "mark_link");
+    holds(bcube_value(bcube_failed_link(room, 521, 1, table, sizeof table)) == 1, "failed_link");
+    holds(bcube_refusal(bcube_clear_link(room, 521, 1, table, sizeof table)) == BCUBE_NOT_REFUSED, "clear_link");
+    holds(bcube_refusal(bcube_mark_server(room, 7, table, sizeof table)) == BCUBE_NOT_REFUSED && table[7] == 15, "mark_server");
+    holds(bcube_refusal(bcube_clear_server(room, 7, table, sizeof table)) == BCUBE_NOT_REFUSED && !table[7], "clear_server");
+    holds(bcube_refusal(bcube_mark_server(room, 7, NULL, 0)) == BCUBE_REFUSED_TABLE, "no table");
+}
+
+static void paths(bcube_room room) {
+    static const uint8_t table[BCUBE_MOST_SERVERS] = {0};
+    uint8_t list[BCUBE_LIST_BYTES], path[BCUBE_PATH_BYTES];
+    uint64_t servers[BCUBE_ROUTE_SERVERS];
+    bcube_answer parts = bcube_path_byte_parts(room, 0xc1);
+    holds(bcube_value(bcube_path_byte(room, 3, 1)) == 0xc1, "path_byte");
+    holds(bcube_byte_level(parts) == 3 && bcube_byte_value(parts) == 1, "path_byte_parts");
+    holds(bcube_value(bcube_build(room, 1, 521, list)) == 4, "build");
+    holds(bcube_value(bcube_read(room, 1, 521, list, BCUBE_PATH_BYTES, servers)) == 3, "read");
+    holds(bcube_refusal(bcube_write(room, servers, 3, path)) == BCUBE_NOT_REFUSED && !memcmp(path, list, 8), "write");
+    holds(bcube_refusal(bcube_reverse(room, 1, 521, list, BCUBE_PATH_BYTES, path)) == BCUBE_NOT_REFUSED && path[0] == 0x40, "reverse");
+    holds(bcube_refusal(bcube_check(room, 1, 521, table, sizeof table, list, sizeof list)) == BCUBE_NOT_REFUSED, "check");
+    holds(bcube_value(bcube_find(room, 1, 521, table, sizeof table, path)) == 2, "find");
+    holds(bcube_value(bcube_select(room, 1, 521, table, sizeof table, list)) == 4, "select");
+    bcube_answer picked = bcube_pick(room, 1, 521, table, sizeof table, NULL, 0, list, sizeof list);
+    holds(bcube_pick_list(picked) == BCUBE_KEPT && bcube_pick_route(picked) == 1 && bcube_pick_offset(picked) == 0, "pick");
+    list[0] = 8;
+    bcube_answer refused = bcube_read(room, 1, 521, list, BCUBE_PATH_BYTES, servers);
+    holds(bcube_refusal(refused) == BCUBE_REFUSED_VALUE && bcube_route(refused) == 1 && bcube_hop(refused) == 1, "a refusal");
+    holds(BCUBE_FRESH != BCUBE_KEPT, "lists");
+}
+
+static void steps(bcube_room room) {
+    static uint8_t neighbours[BCUBE_NEIGHBOUR_TABLE_BYTES];
+    static const uint8_t path[BCUBE_PATH_BYTES] = {0xc1, 0x41};
+    uint8_t *entry = neighbours + BCUBE_NEIGHBOUR_ENTRY_BYTES * 0xc1;
+    memcpy(entry, "\2\3\4\5\6\7", 6);
+    entry[BCUBE_NEIGHBOUR_PORT] = 3;
+    bcube_stepped step = bcube_step(room, 1, 521, 0, path, sizeof path, neighbours, sizeof neighbours);
+    holds(bcube_step_refusal(step) == BCUBE_REFUSED_UNAVAILABLE && bcube_step_route(step) == 1 && bcube_step_hop(step) == 1, "19");
+    entry[BCUBE_NEIGHBOUR_FLAG] = BCUBE_NEIGHBOUR_AVAILABLE;
+    step = bcube_step(room, 1, 521, 0, path, sizeof path, neighbours, sizeof neighbours);
+    holds(bcube_step_next(step) == 513 && bcube_step_index(step) == 1 && bcube_step_port(step) == 3, "step");
+    holds(bcube_mac_byte(step.mac, 0) == 2 && bcube_mac_byte(step.mac, 5) == 7, "mac_byte");
+    holds(bcube_mac_byte(step.mac, 6) == 0 && bcube_mac_byte(step.mac, (uint64_t)1 << 32) == 0 && bcube_mac_byte(step.mac, UINT64_MAX) == 0, "mac_byte is total");
+    holds(bcube_step_delivered(bcube_step(room, 521, 521, 9, path, sizeof path, neighbours, sizeof neighbours)), "delivered");
+}
+
+/* every number has a sentence of its own, and every other number one that says so */
+static void texts(void) {
+    const char *none = bcube_refusal_text(UINT64_MAX);
+    holds(strcmp(bcube_refusal_text(BCUBE_REFUSED_NOT_NEIGHBOURS + 1), none) == 0, "a text too many");
+    for (uint64_t i = 0; i <= BCUBE_REFUSED_NOT_NEIGHBOURS; i++) {
+        holds(strcmp(bcube_refusal_text(i), none) != 0, "a number without a text");
+        for (uint64_t j = 0; j < i; j++) holds(strcmp(bcube_refusal_text(i), bcube_refusal_text(j)) != 0, "two texts are the same");
+    }
+}
+
+int main(void) {
+    bcube_room room = bcube_room_of(8, BCUBE_MOST_LEVEL);
+    rooms(room);
+    links(room);
+    paths(room);
+    steps(room);
+    texts();
+    holds(bcube_version() == BCUBE_VERSION, "another version than the header's");
+    holds(BCUBE_FEWEST_PORTS == 2 && BCUBE_MOST_PORTS == 64 && BCUBE_MOST_HOPS == 8, "limits");
+    printf("%d.%d.%d\n", BCUBE_VERSION / 10000, BCUBE_VERSION / 100 % 100, BCUBE_VERSION % 100);
+    return wrong;
+}
