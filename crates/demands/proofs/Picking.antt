@@ -3,7 +3,7 @@ use Prim.Native.Nat.{ℕ, _/_, _<_}
 use mathlib.Core.Path.{_≡_, refl, sym, ap, _∙_}
 use mathlib.Core.Logic.{_≢_, _⊎_, inl, inr}
 use mathlib.Core.Bool.{Bool, true, false}
-use mathlib.Core.List.{List, [], _∷_}
+use mathlib.Core.List.{List}
 use native.Mathlib.Omega.{arith}
 use lib.Dec.{eqb}
 use lib.ListN.{length}
@@ -22,7 +22,7 @@ use Rattle.pick.specs.Places.{placeOf, placeAnswer}
 use Rattle.pick.proofs.LengthLaws.{lists-room}
 use Rattle.pick.proofs.UsableLaws.{usable-accepted, array-long, clash}
 use Rattle.pick.proofs.Promises.{source-chosen, sixteen-exactly}
-use Rattle.demands.specs.Tests.{_then_, Hold}
+use Rattle.demands.specs.Tests.{_then_}
 use Rattle.demands.specs.Refusals.{roomTests, Arrays}
 use Rattle.demands.proofs.Chains.{zero-of, hold-of}
 use Rattle.demands.proofs.Numbers.{lists-number}

@@ -1,15 +1,11 @@
 -- Demand 2, proved: what the search for the alternate answers.
-use Prim.Native.Nat.{ℕ}
-use mathlib.Core.Path.{_≡_, sym, ap, _∙_}
-use mathlib.Core.Logic.{_⊎_, inl, inr}
-use mathlib.Core.List.{List}
+use mathlib.Core.Path.{sym, ap, _∙_}
+use mathlib.Core.Logic.{inl, inr}
 use native.Mathlib.Omega.{arith}
 use native.Mathlib.Decide.{ℕ-discrete}
-use Rattle.room.specs.declared.Shape.{Shape}
 use Rattle.links.specs.Table.{roomRefusal}
 use Rattle.finder.specs.declared.Found.{Found}
-use Rattle.finder.specs.Answers.{Finding}
-use Rattle.demands.specs.Demand2.{FindsFirst, FindsNone, FindsExactly}
+use Rattle.demands.specs.Demand2.{FindsExactly}
 
 pub finds-exactly : FindsExactly
 finds-exactly s t a d r f z =
