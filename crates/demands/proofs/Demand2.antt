@@ -105,8 +105,10 @@ reverse-twice = codec.reverse-twice
 
 pub no-route-exactly : NoRouteExactly
 no-route-exactly s t a d r f = (
-  λ n. let e = selected.sixteen-only s t a d r f n in (e, selected.none-selected-exactly s t a d r e f .0 n),
-  λ p. selected.none-selected-exactly s t a d r (p .0) f .1 (p .1),
+  λ n. let e = selected.sixteen-only s t a d r f n in
+      let k = tables.room-of s t a d e in
+      (k .0, k .1, selected.none-selected-exactly s t a d r e f .0 n),
+  λ p. selected.none-selected-exactly s t a d r (sym (tables.room-none (p .0) (p .1))) f .1 (p .2),
 )
 
 -- ---- the failed-link table

@@ -21,7 +21,7 @@ use Rattle.room.specs.Shapes.{serversOf, Ends}
 use Rattle.room.specs.Refusals.{endsRefusal}
 use Rattle.room.proofs.RefusalLaws.{ends-of, ends-none}
 use Rattle.links.specs.Table.{live, tableRefusal, roomRefusal}
-use Rattle.links.proofs.TableLaws.{table-none, zeros-table, failed-zeros}
+use Rattle.links.proofs.TableLaws.{table-of, table-none, zeros-table, failed-zeros}
 use Rattle.path.specs.declared.Reading.{Reading}
 use Rattle.path.specs.Routes.{RouteTo, Parallel, Encodes, encode, levelOf}
 use Rattle.path.specs.Walks.{hopTo}
@@ -60,8 +60,8 @@ accepted-room s t a d bs e h =
 
 pub accepted-exactly : AcceptedExactly
 accepted-exactly s t a d bs = (
-  λ e. (checked-room s t a d bs e, accepted-of s t a d bs e),
-  λ p. of-accepted s t a d bs (accepted-room s t a d bs (p .0) (p .1)) (p .1),
+  λ e. (table-of s t (checked-room s t a d bs e), accepted-of s t a d bs e),
+  λ p. of-accepted s t a d bs (accepted-room s t a d bs (sym (table-none (p .0))) (p .1)) (p .1),
 )
 
 -- a route is one over every table in which no link is failed
@@ -88,7 +88,7 @@ healthy-exists s v =
     let n = serversOf s in (
       replicate n 0,
       record {
-        table = sym (table-none (zeros-table s));
+        table = zeros-table s;
         all = λ a l. failed-zeros n a l;
       },
     )
@@ -158,7 +158,7 @@ built-accepted s t a d z h =
     let e = ends-of s a d (p .0) in
     let q : checkAnswer s t a d (held (setOf (builtArrays s a d))) ≡ none =
     ap (checkAnswer s t a d) (built-held s a d e)
-    ∙ of-accepted s t a d (joined (builtArrays s a d)) (sym (chain-goes _ _ _ _ refl (p .0) (sym (h .table)))) (built-list s t a d e h) in (
+    ∙ of-accepted s t a d (joined (builtArrays s a d)) (sym (chain-goes _ _ _ _ refl (p .0) (table-none (h .table)))) (built-list s t a d e h) in (
       ap (λ (x : Building). x .routes .count) (p .1) ∙ arrays-count s a d,
       ap (λ (x : Building). checkAnswer s t a d (held (x .routes))) (p .1) ∙ q,
     )

@@ -10,6 +10,8 @@ pub mod Demand1
 pub mod Buffers
 pub mod Demand2
 pub mod Rooms
+pub mod Searching
+pub mod Tables
 pub mod Slots
 pub mod BuiltArrays
 pub mod Picking

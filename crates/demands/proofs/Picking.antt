@@ -11,7 +11,9 @@ use Rattle.refusals.specs.declared.Refusal.{Refusal}
 use Rattle.refusals.specs.Refusals.{none}
 use Rattle.refusals.proofs.ChainLaws.{or-else-zero}
 use Rattle.room.specs.declared.Shape.{Shape}
-use Rattle.links.specs.Table.{roomRefusal}
+use Rattle.room.specs.Shapes.{Ends}
+use Rattle.links.specs.Table.{roomRefusal, TableOf}
+use Rattle.links.proofs.TableLaws.{room-of}
 use Rattle.verdict.specs.Checks.{checkAnswer}
 use Rattle.verdict.proofs.AcceptLaws.{of-accepted}
 use Rattle.pick.specs.Picks.{usable, Source, inFresh, inKept, nowhere, listsRefusal, pickSource, pickRefusal, pickAnswer, arrayAt, pickedBytes, pickedAt}
@@ -20,6 +22,10 @@ use Rattle.pick.specs.Places.{placeOf, placeAnswer}
 use Rattle.pick.proofs.LengthLaws.{lists-room}
 use Rattle.pick.proofs.UsableLaws.{usable-accepted, array-long, clash}
 use Rattle.pick.proofs.Promises.{source-chosen, sixteen-exactly}
+use Rattle.demands.specs.Tests.{_then_}
+use Rattle.demands.specs.Refusals.{roomTests, Arrays}
+use Rattle.demands.proofs.Chains.{zero-of, hold-of}
+use Rattle.demands.proofs.Numbers.{lists-number}
 use Rattle.demands.specs.Demand2.{FirstTaken, NoneTaken, PicksAt, PicksFirst, NonePickedExactly}
 
 -- usable is what checking takes as a list of one
@@ -53,13 +59,30 @@ module _ (s : Shape) (t : List ℕ) (a d : ℕ) (room : roomRefusal s t a d ≡ 
 none-taken : (s : Shape) (t : List ℕ) (a d : ℕ) (bs : List ℕ) → NoneUsable s t a d bs → NoneTaken s t a d bs
 none-taken s t a d bs h j p = not-taken s t a d (arrayAt j bs) (h .each j p)
 
+-- refusals 1 to 7 do not apply exactly when the ends, the table and the lists are as they have to be
+module _ (s : Shape) (t : List ℕ) (a d : ℕ) (fs ks : List ℕ) where
+  lists-of : listsRefusal s t a d fs ks ≡ 0 → Ends s a d × TableOf s t × (Arrays s fs × Arrays s ks)
+  lists-of z =
+      let k = room-of s t a d (lists-room s t a d fs ks (listsRefusal s t a d fs ks) refl z) in
+      let h = hold-of (roomTests s t a d then (7, Arrays s fs × Arrays s ks)) (listsRefusal s t a d fs ks) refl (lists-number s t a d fs ks) z in
+      (k .0, k .1, h .1 .1 .1 .1 .1 .1 .0)
+
+  lists-none : Ends s a d → TableOf s t → Arrays s fs × Arrays s ks → listsRefusal s t a d fs ks ≡ 0
+  lists-none e h p =
+      let v = e .source .valid in
+      zero-of (roomTests s t a d then (7, Arrays s fs × Arrays s ks)) (listsRefusal s t a d fs ks) (lists-number s t a d fs ks)
+      ((v .two, v .ports), (v .levels, (v .small, ((e .source .below, e .destination .below), (e .differ, (h, (p, tt)))))))
+
 pub none-picked-exactly : NonePickedExactly
 unfolding pickAnswer
 none-picked-exactly s t a d fs ks =
     let x = sixteen-exactly s t a d fs ks in (
-      λ e. let p = x .0 e in (p .0, (none-taken s t a d fs (p .1 .0), none-taken s t a d ks (p .1 .1))),
-      λ p. let r = lists-room s t a d fs ks (listsRefusal s t a d fs ks) refl (p .0) in
-          x .1 (p .0, (none-usable s t a d r fs (p .1 .0), none-usable s t a d r ks (p .1 .1))),
+      λ e. let p = x .0 e in
+          let l = lists-of s t a d fs ks (p .0) in
+          (l .0, l .1, l .2, (none-taken s t a d fs (p .1 .0), none-taken s t a d ks (p .1 .1))),
+      λ p. let l = lists-none s t a d fs ks (p .0) (p .1) (p .2) in
+          let r = lists-room s t a d fs ks (listsRefusal s t a d fs ks) refl l in
+          x .1 (l, (none-usable s t a d r fs (p .3 .0), none-usable s t a d r ks (p .3 .1))),
     )
 
 pub picks-first : PicksFirst

@@ -30,7 +30,7 @@ use Rattle.select.specs.Avoided.{avoided}
 use Rattle.select.specs.Selection.{Unbroken, Replaces, replaced, SlotBySlot, Selecting}
 use Rattle.select.proofs.OneAnswer.{selecting-unique}
 use Rattle.demands.specs.ProvedTable.{array}
-use Rattle.demands.specs.TieRows.{Finds, manyFailed, TieRows}
+use Rattle.demands.specs.TieRows.{Finds, threeFailed, manyFailed, TieRows}
 use Rattle.demands.proofs.Slots.{broken-gives-way, one-selection}
 use Rattle.demands.proofs.ShortRoutes.{noneBefore, noneShorter, least, free-all, free-parallel}
 
@@ -101,6 +101,10 @@ lower-value = record { ends = refl; table = refl; eight = refl; walked = refl; b
 from-the-source : Row (fullRoom 2 2) (0 ∷ 0 ∷ 0 ∷ 0 ∷ 0 ∷ 0 ∷ 2 ∷ 0 ∷ []) 0 7 (0x81 ∷ 0x01 ∷ 0x41 ∷ []) (0 ∷ 4 ∷ 5 ∷ 7 ∷ []) (8192 ∷ 2 ∷ 4099 ∷ [])
 unfolding endsRefusal pairRefusal serverRefusal shapeRefusal serversOf tableRefusal bitsFit fitsLevels bound _or-else_ walk walkFrom fault hopRefusal hopTo withDigit digit digits digitsOf addressOf live failed bit isIn switchAt switchOf ended filled hopBytes inTurn byteTo byteOf levelTo differing differFrom
 from-the-source = record { ends = refl; table = refl; eight = refl; walked = refl; bytes = refl }
+
+level-and-value : Row (fullRoom 3 2) threeFailed 0 24 (0x01 ∷ 0x82 ∷ 0x00 ∷ 0x42 ∷ []) (0 ∷ 1 ∷ 19 ∷ 18 ∷ 24 ∷ []) (0 ∷ 8193 ∷ 6 ∷ 4102 ∷ [])
+unfolding endsRefusal pairRefusal serverRefusal shapeRefusal serversOf tableRefusal bitsFit fitsLevels bound _or-else_ walk walkFrom fault hopRefusal hopTo withDigit digit digits digitsOf addressOf live failed bit isIn switchAt switchOf ended filled hopBytes inTurn byteTo byteOf levelTo differing differFrom
+level-and-value = record { ends = refl; table = refl; eight = refl; walked = refl; bytes = refl }
 
 -- ---- selection, both built routes broken
 
@@ -185,6 +189,7 @@ tie-rows =
       level-then-value = finds level-then-value refl refl;
       lower-value = finds lower-value refl refl;
       from-the-source = finds from-the-source refl refl;
+      level-and-value = finds level-and-value refl refl;
       both-broken = λ r. (λ h. selecting-unique h selecting, λ e. subst (Selecting (fullRoom 4 1) manyFailed 0 7) (sym e) selecting);
       no-other = λ r h. one-selection (fullRoom 4 1) manyFailed 0 7 r _ h (broken-gives-way (fullRoom 4 1) manyFailed 0 7 _ selecting refl);
     }

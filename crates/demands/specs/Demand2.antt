@@ -12,11 +12,11 @@ use Rattle.lists.specs.Lists.{isIn, filled, downFrom}
 use Rattle.refusals.specs.Refusals.{none}
 use Rattle.room.specs.declared.Shape.{Shape}
 use Rattle.room.specs.declared.Between.{Between}
-use Rattle.room.specs.Shapes.{bound, Valid, Server, Link}
+use Rattle.room.specs.Shapes.{serversOf, bound, Valid, Server, Link, Ends}
 use Rattle.room.specs.Digits.{strike}
 use Rattle.room.specs.Addresses.{digits, digit, switchOf, switchesAt, differing, Written, Beside, Neighbours}
 use Rattle.room.specs.Answers.{serversAnswer, boundAnswer, digitsAnswer, digitAnswer, addressAnswer, switchAnswer, neighbourAnswer, betweenAnswer}
-use Rattle.links.specs.Table.{failed, live, TableOf, roomRefusal}
+use Rattle.links.specs.Table.{failed, live, TableOf}
 use Rattle.links.specs.Answers.{failedAnswer, linkAnswer, markedTable, clearedTable}
 use Rattle.path.specs.Routes.{switchTo, byteTo, switchesOf, encode, Route, RouteTo, Encodes, levelOf, valueOf}
 use Rattle.path.specs.Answers.{hopAnswer, walkAnswer, readAnswer, writeAnswer, reverseAnswer}
@@ -26,13 +26,17 @@ use Rattle.build.specs.Built.{builtRoute}
 use Rattle.build.specs.Sets.{added, arrayAt, setOf}
 use Rattle.build.specs.Answers.{buildAnswer}
 use Rattle.laying.specs.Avoids.{Avoids}
+use Rattle.finder.specs.declared.Found.{Found}
+use Rattle.finder.specs.Alternates.{Before}
+use Rattle.finder.specs.Answers.{Finding}
 use Rattle.select.specs.declared.Selection.{Selection}
 use Rattle.select.specs.Avoided.{avoided}
 use Rattle.select.specs.Selection.{Unbroken, Replaces, Selecting}
-use Rattle.pick.specs.Picks.{listsRefusal, pickSource, pickAnswer, pickedBytes, pickedAt}
+use Rattle.pick.specs.Picks.{pickSource, pickAnswer, pickedBytes, pickedAt}
 use Rattle.pick.specs.Places.{placeAnswer}
 use Rattle.step.specs.declared.Step.{Step}
 use Rattle.step.specs.Steps.{stepAnswer}
+use Rattle.demands.specs.Refusals.{Arrays}
 
 -- ---- addresses, digits, switches and neighbours
 
@@ -232,6 +236,28 @@ ReverseTwice =
     reverseAnswer s a d bs .refusal .number ≡ 0 →
     reverseAnswer s d a (reverseAnswer s a d bs .bytes) ≡ record { refusal = none; bytes = bs }
 
+-- ---- the search for the alternate
+
+-- the search answers a route over live links that no route comes before: how many hops it has, and its path bytes
+pub record FindsFirst (s : Shape) (t : List ℕ) (a d : ℕ) (r : Found) : Type 0 where
+  pub servers : List ℕ
+  pub route : RouteTo s t a d servers
+  pub first : (us : List ℕ) → RouteTo s t a d us → Before s us servers → ⊥
+  pub answer : r ≡ record { refusal = none; hops = length servers - 1; bytes = encode s servers }
+
+-- there is no route over live links, and the search answers no hops and zeros
+pub record FindsNone (s : Shape) (t : List ℕ) (a d : ℕ) (r : Found) : Type 0 where
+  pub missing : (vs : List ℕ) → RouteTo s t a d vs → ⊥
+  pub answer : r ≡ record { refusal = none; hops = 0; bytes = replicate 8 0 }
+
+-- a search that is not refused answers the one or the other
+abbrev pub FindsExactly : Type 0
+FindsExactly =
+    (s : Shape) (t : List ℕ) (a d : ℕ) (r : Found) →
+    Finding s t a d r →
+    r .refusal .number ≡ 0 →
+    FindsFirst s t a d r ⊎ FindsNone s t a d r
+
 -- ---- selection
 
 -- what slot i gives after what the higher slots have given
@@ -269,12 +295,12 @@ BrokenGivesWay = (s : Shape) (t : List ℕ) (a d : ℕ) (r : Selection) → Sele
 abbrev pub OneSelection : Type 0
 OneSelection = (s : Shape) (t : List ℕ) (a d : ℕ) (q r : Selection) → Selected s t a d q → Selected s t a d r → q .routes ≡ r .routes
 
--- selection says 16 exactly when refusals 1 to 6 do not apply and no route of eight hops or fewer crosses only live links
+-- selection says 16 exactly when refusals 1 to 6 do not apply, the ends and the table being the room's, and no route of eight hops or fewer crosses only live links
 abbrev pub NoRouteExactly : Type 0
 NoRouteExactly =
     (s : Shape) (t : List ℕ) (a d : ℕ) (r : Selection) →
     Selecting s t a d r →
-    (r .refusal .number ≡ 16) ↔ ((roomRefusal s t a d ≡ 0) × ((vs : List ℕ) → RouteTo s t a d vs → ⊥))
+    (r .refusal .number ≡ 16) ↔ (Ends s a d × TableOf s t × ((vs : List ℕ) → RouteTo s t a d vs → ⊥))
 
 -- array i of a list is the first that checking takes as a list of one
 pub record FirstTaken (s : Shape) (t : List ℕ) (a d : ℕ) (bs : List ℕ) (i : ℕ) : Type 0 where
@@ -302,17 +328,25 @@ PicksFirst =
     pickAnswer s t a d fs ks .number ≡ 0 →
     ((i : ℕ) × PicksAt s t a d fs ks 1 fs (λ p q. p) i) ⊎ (NoneTaken s t a d fs × ((i : ℕ) × PicksAt s t a d fs ks 2 ks (λ p q. q) i))
 
--- picking says 16 exactly when refusals 1 to 7 do not apply and no array of either list is usable
+-- picking says 16 exactly when refusals 1 to 7 do not apply, the ends and the table being the room's and both lists whole arrays, at most
+-- k + 1, and no array of either list is usable
 abbrev pub NonePickedExactly : Type 0
 NonePickedExactly =
     (s : Shape) (t : List ℕ) (a d : ℕ) (fs ks : List ℕ) →
-    (pickAnswer s t a d fs ks .number ≡ 16) ↔ ((listsRefusal s t a d fs ks ≡ 0) × (NoneTaken s t a d fs × NoneTaken s t a d ks))
+    (pickAnswer s t a d fs ks .number ≡ 16)
+    ↔ (Ends s a d × TableOf s t × (Arrays s fs × Arrays s ks) × (NoneTaken s t a d fs × NoneTaken s t a d ks))
 
 -- ---- the failed-link table
 
 -- a link is failed exactly when its level's bit is set in its server's byte
 abbrev pub FailedExactly : Type 0
 FailedExactly = (t : List ℕ) (a l : ℕ) → (failed t a l ≡ true) ↔ (getD t a 0 / 2 ^ l % 2 ≡ 1)
+
+-- a table is one of the room exactly when it has a byte for each server and no byte has a bit above k, of whatever weight
+abbrev pub TableExactly : Type 0
+TableExactly =
+    (s : Shape) (t : List ℕ) →
+    TableOf s t ↔ ((length t ≡ serversOf s) × ((a l : ℕ) → a < serversOf s → s .k < l → failed t a l ≡ false))
 
 -- and so the call answers
 abbrev pub AskedExactly : Type 0

@@ -9,7 +9,7 @@ use lib.ListN.{length, getD, take, drop}
 use Rattle.refusals.specs.Refusals.{none}
 use Rattle.room.specs.declared.Shape.{Shape}
 use Rattle.room.specs.Shapes.{Valid}
-use Rattle.links.specs.Table.{failed, tableRefusal}
+use Rattle.links.specs.Table.{failed, TableOf}
 use Rattle.path.specs.Answers.{readAnswer}
 use Rattle.verdict.specs.Checks.{checkAnswer}
 use Rattle.verdict.specs.Accepted.{Accepted}
@@ -26,11 +26,11 @@ use Rattle.driver.specs.Packed.{Bytes}
 abbrev pub AcceptedExactly : Type 0
 AcceptedExactly =
     (s : Shape) (t : List ℕ) (a d : ℕ) (bs : List ℕ) →
-    (checkAnswer s t a d bs ≡ none) ↔ ((tableRefusal s t ≡ 0) × Accepted s t a d bs)
+    (checkAnswer s t a d bs ≡ none) ↔ (TableOf s t × Accepted s t a d bs)
 
 -- a failed-link table of the room in which no link is failed
 pub record Healthy (s : Shape) (t : List ℕ) : Type 0 where
-  pub table : tableRefusal s t ≡ 0
+  pub table : TableOf s t
   pub all : (a l : ℕ) → failed t a l ≡ false
 
 -- every room can be healthy

@@ -3,7 +3,7 @@
 use Prim.Native.Nat.{ℕ}
 use mathlib.Core.Path.{_≡_}
 use mathlib.Core.Logic.{_↔_}
-use mathlib.Core.List.{List, [], _∷_}
+use mathlib.Core.List.{List, [], _∷_, _++_}
 use lib.ListN.{length, replicate}
 use Rattle.refusals.specs.Refusals.{none}
 use Rattle.room.specs.declared.Shape.{Shape}
@@ -20,6 +20,10 @@ use Rattle.demands.specs.ProvedTable.{array}
 abbrev pub Finds : Shape → List ℕ → ℕ → ℕ → List ℕ → Type 0
 Finds s t a d bs = (r : Found) → Finding s t a d r ↔ (r ≡ record { refusal = none; hops = length bs; bytes = array bs })
 
+-- a failed-link table of the (3,2) room: 000 has no link at levels 1 and 2, 210 none at level 0, 221 none at level 1
+abbrev pub threeFailed : List ℕ
+threeFailed = 6 ∷ replicate 20 0 ++ (1 ∷ 0 ∷ 0 ∷ 0 ∷ 2 ∷ 0 ∷ [])
+
 -- a failed-link table of the (4,1) room: 01 and 03 have no link at level 1, 10, 12, 23 and 30 none at level 0
 abbrev pub manyFailed : List ℕ
 manyFailed = 0 ∷ 2 ∷ 0 ∷ 2 ∷ 1 ∷ 0 ∷ 1 ∷ 0 ∷ 0 ∷ 0 ∷ 0 ∷ 1 ∷ 1 ∷ 0 ∷ 0 ∷ 0 ∷ []
@@ -32,6 +36,8 @@ pub record TieRows : Type 0 where
   -- (2,2), the link of 110 at level 1 failed, which 81 41 01 would cross, 000 to 111: 81 01 41, where the lower level first would be
   -- 01 41 81, and from the destination's end the higher level first 01 41 81, the lower 41 81 01
   pub from-the-source : Finds (fullRoom 2 2) (0 ∷ 0 ∷ 0 ∷ 0 ∷ 0 ∷ 0 ∷ 2 ∷ 0 ∷ []) 0 7 (0x81 ∷ 0x01 ∷ 0x41 ∷ [])
+  -- (3,2), those links failed, 000 to 220: 01 82 00 42, where the levels of all hops before any value would be 02 82 42 00
+  pub level-and-value : Finds (fullRoom 3 2) threeFailed 0 24 (0x01 ∷ 0x82 ∷ 0x00 ∷ 0x42 ∷ [])
   -- (4,1), 00 to 13, both built routes broken, each of which gives way to its own alternate: 42 01 41 03, then 02 43 03 41
   pub both-broken : (r : Selection)
       → Selecting (fullRoom 4 1) manyFailed 0 7 r
