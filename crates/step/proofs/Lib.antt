@@ -1,3 +1,4 @@
 pub mod StepLaws
+pub mod NextLaws
 pub mod DeliveryLaws
 pub mod Unique
