@@ -13,7 +13,7 @@ use lib.Seq.{take-at, drop-at, drop-append-add, take-all, length-take-le, getD-t
 use Rattle.lists.specs.Lists.{filled}
 use Rattle.lists.proofs.ListLaws.{All, all-snoc, length-snoc, drop-zeros}
 use Rattle.build.specs.declared.RouteSet.{RouteSet}
-use Rattle.build.specs.Sets.{emptySet, placed, added, arrayAt, joined, setOf}
+use Rattle.build.specs.Sets.{emptySet, placed, added, arrayIn, joined, setOf}
 
 abbrev pub setFrom : List ℕ → ℕ → RouteSet
 setFrom bytes count = record { bytes = bytes; count = count }
@@ -70,8 +70,8 @@ eight-at p bytes i h = getD-take 8 (drop p bytes) i 0 h ∙ getD-drop p bytes i 
 
 -- what adding does to a set of 32 bytes that is not full: the array stands after the last, and no other changes
 module _ (r : RouteSet) (route : List ℕ) (long : length (r .bytes) ≡ 32) (whole : length route ≡ 8) where
-  pub added-array : r .count < 4 → arrayAt (r .count) (added r route) ≡ route
-  unfolding arrayAt
+  pub added-array : r .count < 4 → arrayIn (r .count) (added r route) ≡ route
+  unfolding arrayIn
   added-array h =
       let p : ℕ = 8 * r .count in
       let b : List ℕ = placed p route (r .bytes) in
@@ -80,12 +80,12 @@ module _ (r : RouteSet) (route : List ℕ) (long : length (r .bytes) ≡ 32) (wh
       ∙ ext-getD 0 (take 8 (drop p b)) route (eight p b (omega arith) ∙ sym whole)
       (λ i q. let w : i < 8 = omega (arith, eight p b (omega arith)) in eight-at p b i w ∙ placed-within p route (r .bytes) i (omega arith) (omega arith))
 
-  pub added-others : (j : ℕ) → j < 4 → j ≢ r .count → arrayAt j (added r route) ≡ arrayAt j r
-  unfolding arrayAt
+  pub added-others : (j : ℕ) → j < 4 → j ≢ r .count → arrayIn j (added r route) ≡ arrayIn j r
+  unfolding arrayIn
   added-others j h ne =
       elim (decLt (r .count) 4) [
         | yes y ↦ put y
-        | no y ↦ ap (arrayAt j) (sym (added-full r route (omega arith)))
+        | no y ↦ ap (arrayIn j) (sym (added-full r route (omega arith)))
       ]
     where
       at : r .count < 4 → (i : ℕ) → i < 8 → getD (placed (8 * r .count) route (r .bytes)) (8 * j + i) 0 ≡ getD (r .bytes) (8 * j + i) 0
@@ -98,7 +98,7 @@ module _ (r : RouteSet) (route : List ℕ) (long : length (r .bytes) ≡ 32) (wh
                 ∙ ap (λ (m : ℕ). getD (r .bytes) m 0) (sym e)
           ]
 
-      put : r .count < 4 → arrayAt j (added r route) ≡ arrayAt j r
+      put : r .count < 4 → arrayIn j (added r route) ≡ arrayIn j r
       put y =
           let p : ℕ = 8 * j in
           let b : List ℕ = placed (8 * r .count) route (r .bytes) in
@@ -188,6 +188,6 @@ joined-array (x ∷ xs) zs a (suc j) h =
     ∙ ap (take 8) (drop-append-add x (joined xs ++ zs) (8 * j))
     ∙ joined-array xs zs (a .1) j (omega arith)
 
-pub set-array : (xs : List (List ℕ)) → All (λ x. length x ≡ 8) xs → (j : ℕ) → j < length xs → arrayAt j (setOf xs) ≡ getD xs j []
-unfolding arrayAt setOf filled
+pub set-array : (xs : List (List ℕ)) → All (λ x. length x ≡ 8) xs → (j : ℕ) → j < length xs → arrayIn j (setOf xs) ≡ getD xs j []
+unfolding arrayIn setOf filled
 set-array xs a j h = joined-array xs (replicate (32 - length (joined xs)) 0) a j h

@@ -21,8 +21,8 @@ added r route =
     cond (ltb (r .count) 4) (record { bytes = placed (8 * r .count) route (r .bytes); count = r .count + 1 }) r
 
 -- the array at place j of a set
-unfoldable pub arrayAt : ℕ → RouteSet → List ℕ
-arrayAt j r = take 8 (drop (8 * j) (r .bytes))
+unfoldable pub arrayIn : ℕ → RouteSet → List ℕ
+arrayIn j r = take 8 (drop (8 * j) (r .bytes))
 
 -- arrays one after another
 unfoldable pub joined : List (List ℕ) → List ℕ

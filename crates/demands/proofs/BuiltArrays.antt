@@ -24,7 +24,7 @@ use Rattle.path.specs.Routes.{byteOf}
 use Rattle.build.specs.declared.RouteSet.{RouteSet}
 use Rattle.build.specs.declared.Building.{Building}
 use Rattle.build.specs.Built.{firstIn, lastIn, correct, plusOne, builtHops, bytesOf, builtRoute, builtBytes, builtArrays}
-use Rattle.build.specs.Sets.{arrayAt, setOf}
+use Rattle.build.specs.Sets.{arrayIn, setOf}
 use Rattle.build.specs.Answers.{noBuilding, aBuilding, buildAnswer}
 use Rattle.build.proofs.SetLaws.{added-full, added-is, added-array, added-others, placed-long, set-array, set-rest}
 use Rattle.build.proofs.ArrayLaws.{arrays-eight, arrays-count, arrays-at}
@@ -175,7 +175,7 @@ built-set {s} {a} {d} h =
       past = set-rest (builtArrays s a d) (arrays-eight h);
     }
   where
-    at : (i : ℕ) → i ≤ s .k → arrayAt (s .k - i) (setOf (builtArrays s a d)) ≡ builtBytes s i a d
+    at : (i : ℕ) → i ≤ s .k → arrayIn (s .k - i) (setOf (builtArrays s a d)) ≡ builtBytes s i a d
     at i p =
         let e : s .k - (s .k - i) ≡ i = omega arith in
         set-array (builtArrays s a d) (arrays-eight h) (s .k - i) (omega (arith, arrays-count s a d))

@@ -37,7 +37,7 @@ use Rattle.pick.specs.Places.{placeOf, placeAnswer}
 use Rattle.pick.proofs.UsableLaws.{array-long}
 use Rattle.pick.proofs.Promises.{empty-exactly}
 use Rattle.step.specs.declared.Step.{Step}
-use Rattle.step.specs.Steps.{stepRefusal, placed, noStep, delivery, forwarded, stepAnswer}
+use Rattle.step.specs.Steps.{stepRefusal, withPlace, noStep, delivery, forwarded, stepAnswer}
 use Rattle.demands.specs.Tests.{Refused, Exactly}
 use Rattle.demands.specs.Demand1.{ofAHop, at-hop, no-arrival, later, PartsOf, WalkedOf, ReadingOf, WritingOf, FoundOf, SelectionOf, PlaceOf, StepOf, RefusalOf, HopOf, EveryCall}
 use Rattle.demands.specs.Refusals.{shapeTests, levelTests, serverTests, pairTests, linkTests, valueTests, portTests, madeTests, partsTests, placesTests, tableTests, tableLinkTests, tableServerTests, endsTests, roomTests, arrayTests, layTests, checkTests, selectTests, pickTests, endOf, hopTests, readTests, writeTests, serversTests, givenTests, stepTests, Stops, hop-fails, never-arrives, goes-on, Reads, Writes, Checks, Steps}
@@ -234,7 +234,7 @@ module _ (s : Shape) where
     unfolding stepAnswer isIn
     step-once =
         refuses _ _ (λ r. refl) 1 _ (stepAnswer s a d i bs e) (whole-of 1 _ (givenTests s a d bs e) (Steps s a d i bs e) _ refl refl (λ k. steps-of) (meets (refused-exactly .step-once s a d i bs e)))
-        (bare-answer (λ x. x .refusal) noStep (λ r. refl) (placed i) (stepRefusal s a d i bs e) went (went-none (eqb a d)))
+        (bare-answer (λ x. x .refusal) noStep (λ r. refl) (withPlace i) (stepRefusal s a d i bs e) went (went-none (eqb a d)))
       where
         went : Step
         went = cond (eqb a d) delivery (forwarded s a i e (getD bs i 0))

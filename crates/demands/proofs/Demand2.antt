@@ -35,9 +35,9 @@ use Rattle.path.proofs.CodecLaws as codec
 use Rattle.select.proofs.HeldLaws.{eight-bytes}
 use Rattle.select.proofs.SelectLaws as selected
 use Rattle.step.specs.declared.Step.{Step}
-use Rattle.step.specs.Steps.{entry, macAt, portAt, flagAt, stepRefusal, placed, noStep, delivery, forwarded, stepAnswer}
-use Rattle.step.proofs.StepLaws.{placed-number, goes-of}
-use Rattle.demands.specs.Demand2.{BytesExactly, HopSwitches, Leads, HopExactly, AmongExactly, RoutesAnswered, ReadExactly, WriteExactly, ReadThenWrite, WriteThenRead, ReverseThenRead, ReverseTwice, NoRouteExactly, FailedExactly, AskedExactly, LiveExactly, Changes, Marking, Clearing, Goes, StepGoes, StepDelivers}
+use Rattle.step.specs.Steps.{entry, macAt, portAt, flagAt, stepRefusal, withPlace, noStep, delivery, forwarded, stepAnswer}
+use Rattle.step.proofs.StepLaws.{with-place-number, goes-of}
+use Rattle.demands.specs.Demand2.{BytesExactly, HopSwitches, LeadsTo, HopExactly, AmongExactly, RoutesAnswered, ReadExactly, WriteExactly, ReadThenWrite, WriteThenRead, ReverseThenRead, ReverseTwice, NoRouteExactly, FailedExactly, AskedExactly, LiveExactly, Changes, Marking, Clearing, Goes, StepGoes, StepDelivers}
 
 -- ---- servers to bytes and bytes to servers
 
@@ -56,7 +56,7 @@ hop-switches s a b l c e m x y =
       λ p. i .1 (p .0, rooms.same-switch (x .2 .level) (p .1) ∙ ap (λ (j : ℕ). switchOf s j c) (p .0)),
     )
 
-hop-leads : {s : Shape} {a : ℕ} → Server s a → (b : ℕ) → hopRefusal s a b ≡ 0 → Leads s a b (hopTo s a b)
+hop-leads : {s : Shape} {a : ℕ} → Server s a → (b : ℕ) → hopRefusal s a b ≡ 0 → LeadsTo s a b (hopTo s a b)
 unfolding hopTo
 hop-leads h b t = record { server = hop-server h b t; neighbour = hop-neighbours h b t; value = rooms.with-same (hop-exactly h b .0 t .0) }
 
@@ -65,7 +65,7 @@ unfolding hopAnswer
 hop-exact s a b z =
     let p = answered (λ (x : Hop). x .number) noHop (λ r. refl) (serverRefusal s a or-else hopRefusal s a b) (hopAnswer s a b) (aHop (hopTo s a b)) refl z in
     let q = or-else-zero (serverRefusal s a) (hopRefusal s a b) (p .0) in
-    subst (λ (x : Hop). Leads s a b (x .next)) (sym (p .1)) (hop-leads (server-of s a (q .0)) b (q .1))
+    subst (λ (x : Hop). LeadsTo s a b (x .next)) (sym (p .1)) (hop-leads (server-of s a (q .0)) b (q .1))
 
 pub among-exactly : AmongExactly
 among-exactly x xs = (λ e. let h = in-exactly x xs .0 e in (h .place, h .inside, h .there), λ p. at-in x xs (p .0) (p .1) (p .2))
@@ -162,7 +162,7 @@ clearing s t a l z =
 step-answered : (s : Shape) (a d i : ℕ) (bs e : List ℕ) → stepAnswer s a d i bs e .refusal .number ≡ 0 → (stepRefusal s a d i bs e ≡ 0) × (stepAnswer s a d i bs e ≡ cond (eqb a d) delivery (forwarded s a i e (getD bs i 0)))
 unfolding stepAnswer
 step-answered s a d i bs e z =
-    answered (λ (x : Step). x .refusal .number) (λ r. noStep (placed i r)) (λ r. placed-number i r) (stepRefusal s a d i bs e) (stepAnswer s a d i bs e) _ refl z
+    answered (λ (x : Step). x .refusal .number) (λ r. noStep (withPlace i r)) (λ r. with-place-number i r) (stepRefusal s a d i bs e) (stepAnswer s a d i bs e) _ refl z
 
 -- the six bytes from a place on
 six : (p : ℕ) (e : List ℕ) → p + 8 ≤ length e → getD e (p + 0) 0 ∷ getD e (p + 1) 0 ∷ getD e (p + 2) 0 ∷ getD e (p + 3) 0 ∷ getD e (p + 4) 0 ∷ getD e (p + 5) 0 ∷ [] ≡ take 6 (drop p e)

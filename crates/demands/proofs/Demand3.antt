@@ -38,11 +38,12 @@ use Rattle.build.specs.Answers.{buildAnswer, noBuilding, aBuilding}
 use Rattle.build.proofs.ArrayLaws.{arrays-count}
 use Rattle.build.proofs.BuiltLaws.{built-route, built-encode, built-parallel}
 use Rattle.select.proofs.SelectLaws.{selection-checked}
+use Rattle.pick.specs.Picks.{arrayAt}
 use Rattle.step.specs.Steps.{entry, flagAt}
 use Rattle.step.specs.Delivery.{Tables}
 use Rattle.step.proofs.DeliveryLaws.{each-hop, then-delivered}
 use Rattle.driver.specs.Packed.{flagOf}
-use Rattle.demands.specs.Demand3.{arrayAt, serversRead, AcceptedExactly, Healthy, HealthyExists, BuiltAccepted, TablesExist, SelectionAccepted, Delivers, Delivery}
+use Rattle.demands.specs.Demand3.{serversRead, AcceptedExactly, Healthy, HealthyExists, BuiltAccepted, TablesExist, SelectionAccepted, Delivers, Delivery}
 
 -- a list that is accepted is not refused as a whole
 checked-room : (s : Shape) (t : List ℕ) (a d : ℕ) (bs : List ℕ) → checkAnswer s t a d bs ≡ none → tableRefusal s t ≡ 0

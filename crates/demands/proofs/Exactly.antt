@@ -48,7 +48,7 @@ use Rattle.pick.specs.Chosen.{FirstUsable, NoneUsable, Chosen}
 use Rattle.pick.specs.Places.{placeOf, placeAnswer}
 use Rattle.pick.proofs.UsableLaws.{usable-walk, array-long, clash}
 use Rattle.pick.proofs.Promises.{source-chosen}
-use Rattle.step.specs.Steps.{givenRefusal, byteRefusal, awayRefusal, stepRefusal, atHop, placed, noStep, delivery, forwarded, stepAnswer}
+use Rattle.step.specs.Steps.{givenRefusal, byteRefusal, awayRefusal, stepRefusal, atHop, withPlace, noStep, delivery, forwarded, stepAnswer}
 use Rattle.demands.specs.Tests.{Tests, Refused, Number, Whole, Exactly}
 use Rattle.demands.specs.Refusals.{shapeTests, levelTests, serverTests, pairTests, linkTests, valueTests, portTests, madeTests, partsTests, placesTests, tableTests, tableLinkTests, tableServerTests, endsTests, roomTests, arrayTests, layTests, Joined, selectTests, Arrays, IsRead, SomeRead, pickTests, hopTests, Reads, givenTests, stepTests, Steps, RefusedExactly}
 use Rattle.demands.proofs.Chains.{front, held, skip, same, join, split, exactly, made, carry, some, chain, zero-of, hold-of, answers, test, lt}
@@ -190,22 +190,22 @@ module _ (s : Shape) (t : List ℕ) (a d : ℕ) where
   none-read bs z h k = clash _ (usable-read bs (k .0) z (k .1) .1 (k .2)) (h .each (k .0) (k .1))
 
   module _ (fs ks : List ℕ) where
-    abbrev Given : Type 0
-    Given = SomeRead s t a d fs ⊎ SomeRead s t a d ks
+    abbrev EitherRead : Type 0
+    EitherRead = SomeRead s t a d fs ⊎ SomeRead s t a d ks
 
-    missing-number : roomRefusal s t a d ≡ 0 → (x : Source) → Chosen s t a d fs ks x → Number ((16, Given) ∷ []) (missing x)
+    missing-number : roomRefusal s t a d ≡ 0 → (x : Source) → Chosen s t a d fs ks x → Number ((16, EitherRead) ∷ []) (missing x)
     missing-number z (inFresh i) h = inl (inl (first-read fs i z h), refl)
     missing-number z (inKept i) h = inl (inr (first-read ks i z (h .1)), refl)
     missing-number z nowhere h = inr (λ g. go g, refl)
       where
-        go : Given → ⊥
+        go : EitherRead → ⊥
         go (inl k) = none-read fs z (h .0) k
         go (inr k) = none-read ks z (h .1) k
 
     pick-number : Number (pickTests s t a d fs ks) (pickRefusal s t a d fs ks)
     unfolding pickRefusal pickSource roomRefusal
     pick-number =
-        chain (roomTests s t a d ++ ((7, Arrays s fs × Arrays s ks) ∷ [])) ((16, Given) ∷ []) (listsRefusal s t a d fs ks) (missing (found s t a d fs ks)) refl (lists-number s t a d fs ks)
+        chain (roomTests s t a d ++ ((7, Arrays s fs × Arrays s ks) ∷ [])) ((16, EitherRead) ∷ []) (listsRefusal s t a d fs ks) (missing (found s t a d fs ks)) refl (lists-number s t a d fs ks)
         (λ h.
         let e = zero-of (roomTests s t a d ++ ((7, Arrays s fs × Arrays s ks) ∷ [])) (listsRefusal s t a d fs ks) (lists-number s t a d fs ks) h in
         let z : roomRefusal s t a d ≡ 0 = zero-of (roomTests s t a d) (roomRefusal s t a d) (room-number s t a d) (front (roomTests s t a d) ((7, Arrays s fs × Arrays s ks) ∷ []) h) in
@@ -234,33 +234,33 @@ module _ (s : Shape) (a d i : ℕ) (bs e : List ℕ) where
   abbrev byte : ℕ
   byte = getD bs i 0
 
-  step-placed : placed i (stepRefusal s a d i bs e) ≡ stepAnswer s a d i bs e .refusal
-  unfolding stepAnswer placed atHop
-  step-placed = go (stepRefusal s a d i bs e) (eqb a d)
+  step-with-place : withPlace i (stepRefusal s a d i bs e) ≡ stepAnswer s a d i bs e .refusal
+  unfolding stepAnswer withPlace atHop
+  step-with-place = go (stepRefusal s a d i bs e) (eqb a d)
     where
-      go : (q : ℕ) (x : Bool) → placed i q ≡ answer q (λ r. noStep (placed i r)) (cond x delivery (forwarded s a i e byte)) .refusal
+      go : (q : ℕ) (x : Bool) → withPlace i q ≡ answer q (λ r. noStep (withPlace i r)) (cond x delivery (forwarded s a i e byte)) .refusal
       go zero true = refl
       go zero false = refl
       go (suc q) x = refl
 
-  byte-steps : Refused (λ n. refusedAt n 1 (i + 1)) (stepTests s a e byte) (λ r. r ≡ none) (placed i (byteRefusal s a e byte))
-  unfolding placed atHop
-  byte-steps = carry (λ n. refusedAt n 1 (i + 1)) (placed i) (λ r. r ≡ none) (stepTests s a e byte) (byteRefusal s a e byte) (refl, (refl, (refl, (refl, tt)))) (byte-number s a e byte) (λ h. refl)
+  byte-steps : Refused (λ n. refusedAt n 1 (i + 1)) (stepTests s a e byte) (λ r. r ≡ none) (withPlace i (byteRefusal s a e byte))
+  unfolding withPlace atHop
+  byte-steps = carry (λ n. refusedAt n 1 (i + 1)) (withPlace i) (λ r. r ≡ none) (stepTests s a e byte) (byteRefusal s a e byte) (refl, (refl, (refl, (refl, tt)))) (byte-number s a e byte) (λ h. refl)
 
   abbrev Away : Refusal → Type 0
   Away = Refused plain ((18, i < 8) ∷ []) (Refused (λ n. refusedAt n 1 (i + 1)) (stepTests s a e byte) (λ r. r ≡ none))
 
-  away-steps : Away (placed i (awayRefusal s a i bs e))
-  unfolding awayRefusal placed atHop _or-else_
+  away-steps : Away (withPlace i (awayRefusal s a i bs e))
+  unfolding awayRefusal withPlace atHop _or-else_
   away-steps =
-      carry plain (λ n. placed i (n or-else byteRefusal s a e byte)) (Refused (λ n. refusedAt n 1 (i + 1)) (stepTests s a e byte) (λ r. r ≡ none)) ((18, i < 8) ∷ []) (18 unless ltb i 8) (refl, tt) (test 18 (ltb i 8) (lt i 8)) (λ h. byte-steps)
+      carry plain (λ n. withPlace i (n or-else byteRefusal s a e byte)) (Refused (λ n. refusedAt n 1 (i + 1)) (stepTests s a e byte) (λ r. r ≡ none)) ((18, i < 8) ∷ []) (18 unless ltb i 8) (refl, tt) (test 18 (ltb i 8) (lt i 8)) (λ h. byte-steps)
 
-  steps : Steps s a d i bs e (placed i (cond (eqb a d) 0 (awayRefusal s a i bs e)))
-  unfolding placed atHop
+  steps : Steps s a d i bs e (withPlace i (cond (eqb a d) 0 (awayRefusal s a i bs e)))
+  unfolding withPlace atHop
   steps =
       elim (ℕ-discrete a d) [
-        | yes q ↦ inl (q, ap (λ (x : Bool). placed i (cond x 0 (awayRefusal s a i bs e))) (eq-eqb a d q))
-        | no n ↦ inr (n, subst (λ (x : Bool). Away (placed i (cond x 0 (awayRefusal s a i bs e)))) (sym (ne-eqb a d n)) away-steps)
+        | yes q ↦ inl (q, ap (λ (x : Bool). withPlace i (cond x 0 (awayRefusal s a i bs e))) (eq-eqb a d q))
+        | no n ↦ inr (n, subst (λ (x : Bool). Away (withPlace i (cond x 0 (awayRefusal s a i bs e)))) (sym (ne-eqb a d n)) away-steps)
       ]
 
   one-step : (x y : Refusal) → Steps s a d i bs e x → Steps s a d i bs e y → x ≡ y
@@ -272,11 +272,11 @@ module _ (s : Shape) (a d i : ℕ) (bs e : List ℕ) where
       (λ p. same (λ n. refusedAt n 1 (i + 1)) (λ r. r ≡ none) (stepTests s a e byte) x y (λ q f g. f ∙ sym g)) (h .1) (k .1)
 
   step-once : Exactly (stepAnswer s a d i bs e .refusal) (Refused plain (givenTests s a d bs e) (Steps s a d i bs e))
-  unfolding stepRefusal placed atHop _or-else_
+  unfolding stepRefusal withPlace atHop _or-else_
   step-once =
-      subst (λ (r : Refusal). Exactly r (Refused plain (givenTests s a d bs e) (Steps s a d i bs e))) step-placed
-      (exactly plain (Steps s a d i bs e) (givenTests s a d bs e) (placed i (stepRefusal s a d i bs e)) (λ y h. one-step _ y)
-      (carry plain (λ n. placed i (n or-else cond (eqb a d) 0 (awayRefusal s a i bs e))) (Steps s a d i bs e) (givenTests s a d bs e) (givenRefusal s a d bs e)
+      subst (λ (r : Refusal). Exactly r (Refused plain (givenTests s a d bs e) (Steps s a d i bs e))) step-with-place
+      (exactly plain (Steps s a d i bs e) (givenTests s a d bs e) (withPlace i (stepRefusal s a d i bs e)) (λ y h. one-step _ y)
+      (carry plain (λ n. withPlace i (n or-else cond (eqb a d) 0 (awayRefusal s a i bs e))) (Steps s a d i bs e) (givenTests s a d bs e) (givenRefusal s a d bs e)
       (refl, (refl, (refl, (refl, (refl, (refl, tt)))))) (given-number s a d bs e) (λ h. steps)))
 
 -- ---- every call

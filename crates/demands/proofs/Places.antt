@@ -21,7 +21,7 @@ use Rattle.path.specs.Routes.{Parallel, Encodes}
 use Rattle.path.specs.Answers.{walkAnswer}
 use Rattle.path.proofs.CodecLaws.{walk-given, walk-exactly}
 use Rattle.verdict.specs.Checks.{arrays, parallel, firstStop, firstMeeting, firstOf, firstPair, listRefusal, walksOf, checkAnswer}
-use Rattle.verdict.specs.Arrived.{nowhere}
+use Rattle.verdict.specs.Arrived.{pastEnd}
 use Rattle.verdict.proofs.AcceptLaws.{walkedOf, parallel-of, of-parallel, accepted-of, of-accepted}
 use Rattle.verdict.proofs.ScanLaws.{first-left, first-right}
 use Rattle.pick.specs.Picks.{arrayAt}
@@ -43,36 +43,36 @@ split-stop i w ws e =
       | no z ↦ absurd (z (ap (λ (b : Bool). cond b (firstStop (i + 1) ws) (refusedAt (w .refusal .number) i (w .refusal .hop)) .number) (sym (ne-eqb (w .refusal .number) 0 z)) ∙ e))
     ]
 
-no-stop : (i : ℕ) (ws : List Walked) → firstStop i ws .number ≡ 0 → (j : ℕ) → j < length ws → getD ws j nowhere .refusal .number ≡ 0
+no-stop : (i : ℕ) (ws : List Walked) → firstStop i ws .number ≡ 0 → (j : ℕ) → j < length ws → getD ws j pastEnd .refusal .number ≡ 0
 no-stop i [] e j h = let z : ⊥ = omega arith in absurd z
 no-stop i (w ∷ ws) e zero h = split-stop i w ws e .0
 no-stop i (w ∷ ws) e (suc j) h = no-stop (i + 1) ws (split-stop i w ws e .1) j (le-of-suc-le-suc h)
 
 stop-found : (i : ℕ) (ws : List Walked) → firstStop i ws .number ≢ 0
-    → (p : ℕ) × (p < length ws) × (getD ws p nowhere .refusal .number ≢ 0) × ((j : ℕ) → j < p → getD ws j nowhere .refusal .number ≡ 0) × (firstStop i ws ≡ refusedAt (getD ws p nowhere .refusal .number) (i + p) (getD ws p nowhere .refusal .hop))
+    → (p : ℕ) × (p < length ws) × (getD ws p pastEnd .refusal .number ≢ 0) × ((j : ℕ) → j < p → getD ws j pastEnd .refusal .number ≡ 0) × (firstStop i ws ≡ refusedAt (getD ws p pastEnd .refusal .number) (i + p) (getD ws p pastEnd .refusal .hop))
 unfolding firstStop
 stop-found i [] n = absurd (n refl)
 stop-found i (w ∷ ws) n =
     elim (ℕ-discrete (w .refusal .number) 0) [
       | yes z ↦ let e : firstStop i (w ∷ ws) ≡ firstStop (i + 1) ws = ap (λ (b : Bool). cond b (firstStop (i + 1) ws) (refusedAt (w .refusal .number) i (w .refusal .hop))) (eq-eqb (w .refusal .number) 0 z) in
           let r = stop-found (i + 1) ws (λ k. n (ap (λ (x : Refusal). x .number) e ∙ k)) in
-          (suc (r .0), omega (arith, r .1), r .2, before z (r .3), e ∙ r .4 ∙ ap (λ (x : ℕ). refusedAt (getD ws (r .0) nowhere .refusal .number) x (getD ws (r .0) nowhere .refusal .hop)) (omega arith))
+          (suc (r .0), omega (arith, r .1), r .2, before z (r .3), e ∙ r .4 ∙ ap (λ (x : ℕ). refusedAt (getD ws (r .0) pastEnd .refusal .number) x (getD ws (r .0) pastEnd .refusal .hop)) (omega arith))
       | no z ↦ (0, omega arith, z, λ j k. absurd (let y : ⊥ = omega arith in y), ap (λ (b : Bool). cond b (firstStop (i + 1) ws) (refusedAt (w .refusal .number) i (w .refusal .hop))) (ne-eqb (w .refusal .number) 0 z) ∙ ap (λ (x : ℕ). refusedAt (w .refusal .number) x (w .refusal .hop)) (omega arith))
     ]
   where
-    before : {p : ℕ} → w .refusal .number ≡ 0 → ((j : ℕ) → j < p → getD ws j nowhere .refusal .number ≡ 0) → (j : ℕ) → j < suc p → getD (w ∷ ws) j nowhere .refusal .number ≡ 0
+    before : {p : ℕ} → w .refusal .number ≡ 0 → ((j : ℕ) → j < p → getD ws j pastEnd .refusal .number ≡ 0) → (j : ℕ) → j < suc p → getD (w ∷ ws) j pastEnd .refusal .number ≡ 0
     before z f zero h = z
     before z f (suc j) h = f j (le-of-suc-le-suc h)
 
 -- ---- pairs
 
-meeting-none : (w : Walked) (j : ℕ) (ws : List Walked) → firstMeeting w j ws .number ≡ 0 → (y : ℕ) → y < length ws → parallel w (getD ws y nowhere) ≡ true
+meeting-none : (w : Walked) (j : ℕ) (ws : List Walked) → firstMeeting w j ws .number ≡ 0 → (y : ℕ) → y < length ws → parallel w (getD ws y pastEnd) ≡ true
 unfolding firstMeeting
 meeting-none w j [] e y h = let z : ⊥ = omega arith in absurd z
 meeting-none w j (v ∷ vs) e y h = go (parallel w v) refl e y h (λ k z q. meeting-none w (j + 1) vs k z q)
   where
     go : (x : Bool) → parallel w v ≡ x → cond x (firstMeeting w (j + 1) vs) (refusedAt 15 j 0) .number ≡ 0 → (y : ℕ) → y < length (v ∷ vs)
-        → (firstMeeting w (j + 1) vs .number ≡ 0 → (z : ℕ) → z < length vs → parallel w (getD vs z nowhere) ≡ true) → parallel w (getD (v ∷ vs) y nowhere) ≡ true
+        → (firstMeeting w (j + 1) vs .number ≡ 0 → (z : ℕ) → z < length vs → parallel w (getD vs z pastEnd) ≡ true) → parallel w (getD (v ∷ vs) y pastEnd) ≡ true
     go true p k zero q ih = p
     go true p k (suc y) q ih = ih k y (le-of-suc-le-suc q)
     go false p k y q ih = let z : ⊥ = omega arith in absurd z
@@ -81,8 +81,8 @@ meeting-none w j (v ∷ vs) e y h = go (parallel w v) refl e y h (λ k z q. meet
 record Meeting (w : Walked) (j : ℕ) (ws : List Walked) (r : Refusal) : Type 0 where
   place : ℕ
   within : place < length ws
-  meet : parallel w (getD ws place nowhere) ≡ false
-  before : (z : ℕ) → z < place → parallel w (getD ws z nowhere) ≡ true
+  meet : parallel w (getD ws place pastEnd) ≡ false
+  before : (z : ℕ) → z < place → parallel w (getD ws z pastEnd) ≡ true
   here : r ≡ refusedAt 15 (j + place) 0
 
 meeting-found : (w : Walked) (j : ℕ) (ws : List Walked) → firstMeeting w j ws .number ≢ 0 → Meeting w j ws (firstMeeting w j ws)
@@ -90,7 +90,7 @@ unfolding firstMeeting
 meeting-found w j [] n = absurd (n refl)
 meeting-found w j (v ∷ vs) n = go (parallel w v) refl n (λ k. meeting-found w (j + 1) vs k)
   where
-    before : {y : ℕ} → parallel w v ≡ true → ((z : ℕ) → z < y → parallel w (getD vs z nowhere) ≡ true) → (z : ℕ) → z < suc y → parallel w (getD (v ∷ vs) z nowhere) ≡ true
+    before : {y : ℕ} → parallel w v ≡ true → ((z : ℕ) → z < y → parallel w (getD vs z pastEnd) ≡ true) → (z : ℕ) → z < suc y → parallel w (getD (v ∷ vs) z pastEnd) ≡ true
     before p f zero h = p
     before p f (suc z) h = f z (le-of-suc-le-suc h)
 
@@ -108,25 +108,25 @@ record Pair (i : ℕ) (ws : List Walked) (r : Refusal) : Type 0 where
   second : ℕ
   order : first < second
   within : second < length ws
-  meet : parallel (getD ws first nowhere) (getD ws second nowhere) ≡ false
-  before : (x y : ℕ) → x < y → y < length ws → (x < first) ⊎ ((x ≡ first) × (y < second)) → parallel (getD ws x nowhere) (getD ws y nowhere) ≡ true
+  meet : parallel (getD ws first pastEnd) (getD ws second pastEnd) ≡ false
+  before : (x y : ℕ) → x < y → y < length ws → (x < first) ⊎ ((x ≡ first) × (y < second)) → parallel (getD ws x pastEnd) (getD ws y pastEnd) ≡ true
   here : r ≡ refusedAt 15 (i + second) 0
 
 pair-first : {i : ℕ} {w : Walked} {ws : List Walked} {r : Refusal} → Meeting w (i + 1) ws r → Pair i (w ∷ ws) r
 pair-first {i} {w} {ws} m =
     record { first = 0; second = suc (m .place); order = omega arith; within = omega (arith, m .within); meet = m .meet; before = before; here = m .here ∙ ap (λ (x : ℕ). refusedAt 15 x 0) (omega arith) }
   where
-    before : (x y : ℕ) → x < y → y < length (w ∷ ws) → (x < 0) ⊎ ((x ≡ 0) × (y < suc (m .place))) → parallel (getD (w ∷ ws) x nowhere) (getD (w ∷ ws) y nowhere) ≡ true
+    before : (x y : ℕ) → x < y → y < length (w ∷ ws) → (x < 0) ⊎ ((x ≡ 0) × (y < suc (m .place))) → parallel (getD (w ∷ ws) x pastEnd) (getD (w ∷ ws) y pastEnd) ≡ true
     before x zero p q h = let z : ⊥ = omega arith in absurd z
     before zero (suc y) p q h =
         ⊎-elim (λ k. let z : ⊥ = omega arith in absurd z) (λ k. m .before y (le-of-suc-le-suc (k .1))) h
     before (suc x) (suc y) p q h = ⊎-elim (λ k. let z : ⊥ = omega arith in absurd z) (λ k. let z : ⊥ = omega (arith, k .0) in absurd z) h
 
-pair-later : {i : ℕ} {w : Walked} {ws : List Walked} {r : Refusal} → ((y : ℕ) → y < length ws → parallel w (getD ws y nowhere) ≡ true) → Pair (i + 1) ws r → Pair i (w ∷ ws) r
+pair-later : {i : ℕ} {w : Walked} {ws : List Walked} {r : Refusal} → ((y : ℕ) → y < length ws → parallel w (getD ws y pastEnd) ≡ true) → Pair (i + 1) ws r → Pair i (w ∷ ws) r
 pair-later {i} {w} {ws} f m =
     record { first = suc (m .first); second = suc (m .second); order = omega (arith, m .order); within = omega (arith, m .within); meet = m .meet; before = before; here = m .here ∙ ap (λ (x : ℕ). refusedAt 15 x 0) (omega arith) }
   where
-    before : (x y : ℕ) → x < y → y < length (w ∷ ws) → (x < suc (m .first)) ⊎ ((x ≡ suc (m .first)) × (y < suc (m .second))) → parallel (getD (w ∷ ws) x nowhere) (getD (w ∷ ws) y nowhere) ≡ true
+    before : (x y : ℕ) → x < y → y < length (w ∷ ws) → (x < suc (m .first)) ⊎ ((x ≡ suc (m .first)) × (y < suc (m .second))) → parallel (getD (w ∷ ws) x pastEnd) (getD (w ∷ ws) y pastEnd) ≡ true
     before x zero p q h = let z : ⊥ = omega arith in absurd z
     before zero (suc y) p q h = f y (le-of-suc-le-suc q)
     before (suc x) (suc y) p q h =
@@ -153,13 +153,13 @@ pair-none i (w ∷ ws) e =
 
 -- ---- and back
 
-stop-none : (i : ℕ) (ws : List Walked) → ((j : ℕ) → j < length ws → getD ws j nowhere .refusal .number ≡ 0) → firstStop i ws ≡ none
+stop-none : (i : ℕ) (ws : List Walked) → ((j : ℕ) → j < length ws → getD ws j pastEnd .refusal .number ≡ 0) → firstStop i ws ≡ none
 unfolding firstStop
 stop-none i [] f = refl
 stop-none i (w ∷ ws) f =
     rw (eq-eqb (w .refusal .number) 0 (f zero (suc-le-suc zero-le))) (stop-none (i + 1) ws (λ j h. f (suc j) (suc-le-suc h)))
 
-stop-is : (i : ℕ) (ws : List Walked) (p : ℕ) → p < length ws → ((j : ℕ) → j < p → getD ws j nowhere .refusal .number ≡ 0) → getD ws p nowhere .refusal .number ≢ 0 → firstStop i ws ≡ refusedAt (getD ws p nowhere .refusal .number) (i + p) (getD ws p nowhere .refusal .hop)
+stop-is : (i : ℕ) (ws : List Walked) (p : ℕ) → p < length ws → ((j : ℕ) → j < p → getD ws j pastEnd .refusal .number ≡ 0) → getD ws p pastEnd .refusal .number ≢ 0 → firstStop i ws ≡ refusedAt (getD ws p pastEnd .refusal .number) (i + p) (getD ws p pastEnd .refusal .hop)
 unfolding firstStop
 stop-is i [] p h f n = let z : ⊥ = omega arith in absurd z
 stop-is i (w ∷ ws) zero h f n =
@@ -167,14 +167,14 @@ stop-is i (w ∷ ws) zero h f n =
 stop-is i (w ∷ ws) (suc p) h f n =
     rw (eq-eqb (w .refusal .number) 0 (f zero (suc-le-suc zero-le)))
     (stop-is (i + 1) ws p (le-of-suc-le-suc h) (λ j k. f (suc j) (suc-le-suc k)) n
-    ∙ ap (λ (x : ℕ). refusedAt (getD ws p nowhere .refusal .number) x (getD ws p nowhere .refusal .hop)) (let z : i + 1 + p ≡ i + suc p = omega arith in z))
+    ∙ ap (λ (x : ℕ). refusedAt (getD ws p pastEnd .refusal .number) x (getD ws p pastEnd .refusal .hop)) (let z : i + 1 + p ≡ i + suc p = omega arith in z))
 
-meeting-free : (w : Walked) (j : ℕ) (ws : List Walked) → ((z : ℕ) → z < length ws → parallel w (getD ws z nowhere) ≡ true) → firstMeeting w j ws ≡ none
+meeting-free : (w : Walked) (j : ℕ) (ws : List Walked) → ((z : ℕ) → z < length ws → parallel w (getD ws z pastEnd) ≡ true) → firstMeeting w j ws ≡ none
 unfolding firstMeeting
 meeting-free w j [] f = refl
 meeting-free w j (v ∷ vs) f = rw (f zero (suc-le-suc zero-le)) (meeting-free w (j + 1) vs (λ z h. f (suc z) (suc-le-suc h)))
 
-meeting-is : (w : Walked) (j : ℕ) (ws : List Walked) (y : ℕ) → y < length ws → ((z : ℕ) → z < y → parallel w (getD ws z nowhere) ≡ true) → parallel w (getD ws y nowhere) ≡ false → firstMeeting w j ws ≡ refusedAt 15 (j + y) 0
+meeting-is : (w : Walked) (j : ℕ) (ws : List Walked) (y : ℕ) → y < length ws → ((z : ℕ) → z < y → parallel w (getD ws z pastEnd) ≡ true) → parallel w (getD ws y pastEnd) ≡ false → firstMeeting w j ws ≡ refusedAt 15 (j + y) 0
 unfolding firstMeeting
 meeting-is w j [] y h f e = let z : ⊥ = omega arith in absurd z
 meeting-is w j (v ∷ vs) zero h f e = rw e (ap (λ (x : ℕ). refusedAt 15 x 0) (let z : j ≡ j + 0 = omega arith in z))
@@ -182,7 +182,7 @@ meeting-is w j (v ∷ vs) (suc y) h f e =
     rw (f zero (suc-le-suc zero-le))
     (meeting-is w (j + 1) vs y (le-of-suc-le-suc h) (λ z k. f (suc z) (suc-le-suc k)) e ∙ ap (λ (x : ℕ). refusedAt 15 x 0) (let z : j + 1 + y ≡ j + suc y = omega arith in z))
 
-pair-is : (i : ℕ) (ws : List Walked) (x y : ℕ) → x < y → y < length ws → ((u v : ℕ) → u < v → v < length ws → (u < x) ⊎ ((u ≡ x) × (v < y)) → parallel (getD ws u nowhere) (getD ws v nowhere) ≡ true) → parallel (getD ws x nowhere) (getD ws y nowhere) ≡ false → firstPair i ws ≡ refusedAt 15 (i + y) 0
+pair-is : (i : ℕ) (ws : List Walked) (x y : ℕ) → x < y → y < length ws → ((u v : ℕ) → u < v → v < length ws → (u < x) ⊎ ((u ≡ x) × (v < y)) → parallel (getD ws u pastEnd) (getD ws v pastEnd) ≡ true) → parallel (getD ws x pastEnd) (getD ws y pastEnd) ≡ false → firstPair i ws ≡ refusedAt 15 (i + y) 0
 unfolding firstPair
 pair-is i [] x y o h f e = let z : ⊥ = omega arith in absurd z
 pair-is i (w ∷ ws) x zero o h f e = let z : ⊥ = omega arith in absurd z
@@ -217,9 +217,9 @@ module _ (s : Shape) (t : List ℕ) (a d : ℕ) (bs : List ℕ) (held : Hold (ch
   unfolding walksOf
   walks-long = length-map (arrays (length bs / 8) bs) (walkAnswer s t a d) ∙ arrays-long (length bs / 8) bs
 
-  walks-at : (i : ℕ) → i < length bs / 8 → getD walks i nowhere ≡ walkAnswer s t a d (arrayAt i bs)
+  walks-at : (i : ℕ) → i < length bs / 8 → getD walks i pastEnd ≡ walkAnswer s t a d (arrayAt i bs)
   unfolding walksOf
-  walks-at i h = arrays-at (walkAnswer s t a d) (length bs / 8) bs i nowhere h
+  walks-at i h = arrays-at (walkAnswer s t a d) (length bs / 8) bs i pastEnd h
 
   ends : Ends s a d
   ends = ends-hold s a d (front (endsTests s a d) ((6, TableOf s t) ∷ (7, Arrays s bs × (1 ≤ length bs)) ∷ []) held)
@@ -229,26 +229,26 @@ module _ (s : Shape) (t : List ℕ) (a d : ℕ) (bs : List ℕ) (held : Hold (ch
   room = zero-of (roomTests s t a d) _ (room-number s t a d) (front (roomTests s t a d) ((7, Arrays s bs × (1 ≤ length bs)) ∷ []) held)
 
   -- one of them: read exactly where its walk has no refusal, else it stops
-  array-reads : (i : ℕ) → i < length bs / 8 → Reads s t a d (arrayAt i bs) (getD walks i nowhere .refusal)
+  array-reads : (i : ℕ) → i < length bs / 8 → Reads s t a d (arrayAt i bs) (getD walks i pastEnd .refusal)
   array-reads i h =
       let l = array-long i bs h in
       subst (λ (w : Walked). Reads s t a d (arrayAt i bs) (w .refusal)) (sym (walks-at i h ∙ walk-answer t (arrayAt i bs) ends l)) (walk-reads t (arrayAt i bs) ends l)
 
-  array-is : (i : ℕ) → i < length bs / 8 → (r : Refusal) → Reads s t a d (arrayAt i bs) r → getD walks i nowhere .refusal ≡ r
+  array-is : (i : ℕ) → i < length bs / 8 → (r : Refusal) → Reads s t a d (arrayAt i bs) r → getD walks i pastEnd .refusal ≡ r
   array-is i h r k = ap (λ (w : Walked). w .refusal) (walks-at i h ∙ walk-answer t (arrayAt i bs) ends (array-long i bs h)) ∙ reads-walk k
 
-  array-read : (i : ℕ) → i < length bs / 8 → getD walks i nowhere .refusal .number ≡ 0 → IsRead s t a d bs i
+  array-read : (i : ℕ) → i < length bs / 8 → getD walks i pastEnd .refusal .number ≡ 0 → IsRead s t a d bs i
   array-read i h e = walk-exactly s t a d (arrayAt i bs) .0 (ap (λ (w : Walked). w .refusal .number) (sym (walks-at i h)) ∙ e)
 
-  array-none : (i : ℕ) → i < length bs / 8 → IsRead s t a d bs i → getD walks i nowhere .refusal .number ≡ 0
+  array-none : (i : ℕ) → i < length bs / 8 → IsRead s t a d bs i → getD walks i pastEnd .refusal .number ≡ 0
   array-none i h k = ap (λ (r : Refusal). r .number) (array-is i h none (inl (k, refl)))
 
   -- where it is read, its walk is that of its route
-  array-walk : (i : ℕ) → i < length bs / 8 → (vs : List ℕ) → Encodes s t a d (arrayAt i bs) vs → getD walks i nowhere ≡ walkedOf s vs
+  array-walk : (i : ℕ) → i < length bs / 8 → (vs : List ℕ) → Encodes s t a d (arrayAt i bs) vs → getD walks i pastEnd ≡ walkedOf s vs
   array-walk i h vs k = walks-at i h ∙ walk-given k
 
   abbrev route-at : ℕ → List ℕ
-  route-at i = take (getD walks i nowhere .count) (getD walks i nowhere .servers)
+  route-at i = take (getD walks i pastEnd .count) (getD walks i pastEnd .servers)
 
   route-read : (i : ℕ) → i < length bs / 8 → IsRead s t a d bs i → Encodes s t a d (arrayAt i bs) (route-at i)
   route-read i h k =
@@ -256,13 +256,13 @@ module _ (s : Shape) (t : List ℕ) (a d : ℕ) (bs : List ℕ) (held : Hold (ch
 
   -- two routes are parallel exactly where the test of their walks holds
   module _ (i j : ℕ) (p : i < length bs / 8) (q : j < length bs / 8) (us vs : List ℕ) (h : Encodes s t a d (arrayAt i bs) us) (k : Encodes s t a d (arrayAt j bs) vs) where
-    pair-walks : parallel (getD walks i nowhere) (getD walks j nowhere) ≡ parallel (walkedOf s us) (walkedOf s vs)
+    pair-walks : parallel (getD walks i pastEnd) (getD walks j pastEnd) ≡ parallel (walkedOf s us) (walkedOf s vs)
     pair-walks = ap₂ parallel (array-walk i p us h) (array-walk j q vs k)
 
-    pair-parallel : parallel (getD walks i nowhere) (getD walks j nowhere) ≡ true → Parallel s us vs
+    pair-parallel : parallel (getD walks i pastEnd) (getD walks j pastEnd) ≡ true → Parallel s us vs
     pair-parallel e = parallel-of s us vs (sym pair-walks ∙ e)
 
-    parallel-pair : Parallel s us vs → parallel (getD walks i nowhere) (getD walks j nowhere) ≡ true
+    parallel-pair : Parallel s us vs → parallel (getD walks i pastEnd) (getD walks j pastEnd) ≡ true
     parallel-pair e = pair-walks ∙ of-parallel s us vs e
 
   -- ---- what the check comes to
@@ -277,7 +277,7 @@ module _ (s : Shape) (t : List ℕ) (a d : ℕ) (bs : List ℕ) (held : Hold (ch
   stops-first : firstStop 1 walks .number ≢ 0 → FirstRefused s t a d bs outcome
   stops-first o = go (array-reads p within)
     where
-      r : (p : ℕ) × (p < length walks) × (getD walks p nowhere .refusal .number ≢ 0) × ((j : ℕ) → j < p → getD walks j nowhere .refusal .number ≡ 0) × (firstStop 1 walks ≡ refusedAt (getD walks p nowhere .refusal .number) (1 + p) (getD walks p nowhere .refusal .hop))
+      r : (p : ℕ) × (p < length walks) × (getD walks p pastEnd .refusal .number ≢ 0) × ((j : ℕ) → j < p → getD walks j pastEnd .refusal .number ≡ 0) × (firstStop 1 walks ≡ refusedAt (getD walks p pastEnd .refusal .number) (1 + p) (getD walks p pastEnd .refusal .hop))
       r = stop-found 1 walks o
 
       p : ℕ
@@ -286,7 +286,7 @@ module _ (s : Shape) (t : List ℕ) (a d : ℕ) (bs : List ℕ) (held : Hold (ch
       within : p < length bs / 8
       within = subst (λ (m : ℕ). p < m) walks-long (r .1)
 
-      go : Reads s t a d (arrayAt p bs) (getD walks p nowhere .refusal) → FirstRefused s t a d bs outcome
+      go : Reads s t a d (arrayAt p bs) (getD walks p pastEnd .refusal) → FirstRefused s t a d bs outcome
       go (inl h) = absurd (r .2 (ap (λ (x : Refusal). x .number) (h .1)))
       go (inr h) =
           let w = stops-walk h in
@@ -343,13 +343,13 @@ module _ (s : Shape) (t : List ℕ) (a d : ℕ) (bs : List ℕ) (held : Hold (ch
       ∙ ap₂ (λ (x : Refusal) (k : ℕ). refusedAt (x .number) k (x .hop)) is (let z : 1 + h .place ≡ suc (h .place) = omega arith in z)
       ∙ sym (h .here)
     where
-      is : getD walks (h .place) nowhere .refusal ≡ refusedAt (h .number) 1 (h .hop)
+      is : getD walks (h .place) pastEnd .refusal ≡ refusedAt (h .number) 1 (h .hop)
       is = array-is (h .place) (h .within) _ (inr (h .stops))
 
-      some : getD walks (h .place) nowhere .refusal .number ≢ 0
+      some : getD walks (h .place) pastEnd .refusal .number ≢ 0
       some z = stops-some (h .stops) (ap (λ (x : Refusal). x .number) (sym is) ∙ z)
 
-      stop : firstStop 1 walks ≡ refusedAt (getD walks (h .place) nowhere .refusal .number) (1 + h .place) (getD walks (h .place) nowhere .refusal .hop)
+      stop : firstStop 1 walks ≡ refusedAt (getD walks (h .place) pastEnd .refusal .number) (1 + h .place) (getD walks (h .place) pastEnd .refusal .hop)
       stop = stop-is 1 walks (h .place) (subst (λ (m : ℕ). h .place < m) (sym walks-long) (h .within)) (λ j k. array-none j (omega (arith, h .within)) (h .before j k)) some
 
   pair-answer : (r : Refusal) → FirstPair s t a d bs r → outcome ≡ r

@@ -23,7 +23,7 @@ use Rattle.verdict.specs.Checks.{disjoint}
 use Rattle.verdict.proofs.AcceptLaws.{disjoint-apart}
 use Rattle.build.specs.declared.Building.{Building}
 use Rattle.build.specs.Built as build
-use Rattle.build.specs.Sets.{joined, setOf, arrayAt}
+use Rattle.build.specs.Sets.{joined, setOf, arrayIn}
 use Rattle.build.specs.Answers.{noBuilding, aBuilding, buildAnswer}
 use Rattle.finder.specs.Alternates.{hopBytes}
 use Rattle.select.specs.Avoided.{avoided}
@@ -105,7 +105,7 @@ unfolding reverseAnswer arrayRefusal endsRefusal pairRefusal serverRefusal shape
 reversed = refl
 
 -- a row of bytes and hops, of an answer that holds them
-row : (s : Shape) (a d i : ℕ) (bs : List ℕ) (hops : ℕ) → arrayAt i (buildAnswer s a d .routes) ≡ array bs → Reads s a d bs hops → Built s a d i bs hops
+row : (s : Shape) (a d i : ℕ) (bs : List ℕ) (hops : ℕ) → arrayIn i (buildAnswer s a d .routes) ≡ array bs → Reads s a d bs hops → Built s a d i bs hops
 row s a d i bs hops e r = record { bytes = e; read = r .0; count = r .1 }
 
 -- ---- selection around the dead server
@@ -197,17 +197,17 @@ all-marked = refl
 -- ---- the table
 
 pub proved-table : ProvedTable
-unfolding arrayAt setOf joined filled
+unfolding arrayIn setOf joined filled
 proved-table =
     record {
       is-1 = is-1;
       of-1 = of-1;
       is-521 = is-521;
       of-521 = of-521;
-      figure-4-1 = row (fullRoom 8 3) 1 521 0 (0xc1 ∷ 0x41 ∷ []) 2 (ap (λ (x : Building). arrayAt 0 (x .routes)) figure-4) (reads .0);
-      figure-4-2 = row (fullRoom 8 3) 1 521 1 (0x81 ∷ 0x41 ∷ 0xc1 ∷ 0x80 ∷ []) 4 (ap (λ (x : Building). arrayAt 1 (x .routes)) figure-4) (reads .1);
-      figure-4-3 = row (fullRoom 8 3) 1 521 2 (0x41 ∷ 0xc1 ∷ []) 2 (ap (λ (x : Building). arrayAt 2 (x .routes)) figure-4) (reads .2);
-      figure-4-4 = row (fullRoom 8 3) 1 521 3 (0x02 ∷ 0xc1 ∷ 0x41 ∷ 0x01 ∷ []) 4 (ap (λ (x : Building). arrayAt 3 (x .routes)) figure-4) (reads .3);
+      figure-4-1 = row (fullRoom 8 3) 1 521 0 (0xc1 ∷ 0x41 ∷ []) 2 (ap (λ (x : Building). arrayIn 0 (x .routes)) figure-4) (reads .0);
+      figure-4-2 = row (fullRoom 8 3) 1 521 1 (0x81 ∷ 0x41 ∷ 0xc1 ∷ 0x80 ∷ []) 4 (ap (λ (x : Building). arrayIn 1 (x .routes)) figure-4) (reads .1);
+      figure-4-3 = row (fullRoom 8 3) 1 521 2 (0x41 ∷ 0xc1 ∷ []) 2 (ap (λ (x : Building). arrayIn 2 (x .routes)) figure-4) (reads .2);
+      figure-4-4 = row (fullRoom 8 3) 1 521 3 (0x02 ∷ 0xc1 ∷ 0x41 ∷ 0x01 ∷ []) 4 (ap (λ (x : Building). arrayIn 3 (x .routes)) figure-4) (reads .3);
       figure-4 = figure-4;
       printed = printed;
       reversed = reversed;
@@ -216,7 +216,7 @@ proved-table =
       testbed = testbed;
       all-marked = all-marked;
       selected = λ r. (λ h. selecting-unique h selecting, λ e. subst (Selecting (fullRoom 4 1) dead03 0 7) (sym e) selecting);
-      zeros = row (fullRoom 2 0) 1 0 0 [] 1 (ap (λ (x : Building). arrayAt 0 (x .routes)) only-zeros) (reads .4);
+      zeros = row (fullRoom 2 0) 1 0 0 [] 1 (ap (λ (x : Building). arrayIn 0 (x .routes)) only-zeros) (reads .4);
       only-zeros = only-zeros;
       same-ends = same-ends;
       twice = twice;

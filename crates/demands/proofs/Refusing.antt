@@ -12,7 +12,7 @@ use Rattle.lists.specs.Lists.{isIn}
 use Rattle.refusals.specs.declared.Refusal.{Refusal}
 use Rattle.refusals.specs.Refusals.{none, plain, refusedAt, answer, OneOf, nought, listed}
 use Rattle.demands.specs.Tests.{Tests, Refused, Whole, Hold}
-use Rattle.demands.specs.Demand1.{ofTheWhole, ofAHop, Place, whole, at-hop, Refuses}
+use Rattle.demands.specs.Demand1.{ofTheWhole, ofAHop, RefusalForm, whole, at-hop, Refuses}
 use Rattle.demands.proofs.Chains.{or-right, all, numbersOf}
 
 -- ---- numbers
@@ -35,7 +35,7 @@ all-at f (a ∷ A) r h e =
 
 -- a refusal of m routes with one of these numbers
 abbrev pub Of : ℕ → List ℕ → Refusal → Type 0
-Of m F r = OneOf F (r .number) × Place m r
+Of m F r = OneOf F (r .number) × RefusalForm m r
 
 pub none-of : {m : ℕ} {F : List ℕ} {r : Refusal} → r ≡ none → Of m F r
 none-of {m} {F} e = subst (Of m F) (sym e) (nought refl, whole refl)
@@ -82,7 +82,7 @@ module _ {X : Type 0} (refusal : X → Refusal) (bare : Refusal → X) (same : (
   bare-answer at (suc q) x h = bare-only (at (suc q))
 
   pub refuses : (m : ℕ) (F : List ℕ) (x : X) → Of m F (refusal x) → Bare x → Refuses refusal bare m F x
-  refuses m F x h k = record { number = h .0; placed = h .1; nothing-else = k }
+  refuses m F x h k = record { number = h .0; form = h .1; nothing-else = k }
 
   -- an answer, or a refusal of the whole
   pub answer-refuses : (m : ℕ) (F : List ℕ) (A : Tests) (q : ℕ) (x : X) → all ofTheWhole (numbersOf A) ≡ true → all (λ a. isIn a F) (numbersOf A) ≡ true → Whole A (refusal (answer q (λ r. bare (plain r)) x)) → refusal x ≡ none → Refuses refusal bare m F (answer q (λ r. bare (plain r)) x)

@@ -76,15 +76,15 @@ module _ (s : Shape) (t : List ℕ) (d : ℕ) (avoid : List ℕ) where
   then true y h k = h
   then false y h k = let z : _≡_ {A = ℕ} 0 1 = cc in let n : ⊥ = omega arith in absurd n
 
-  abbrev Goes : ℕ → List ℕ → Type 0
-  Goes a [] = Unit {0}
-  Goes a (b ∷ bs) = (b < serversOf s) × (goesOn a b ≡ true) × Goes b bs
+  abbrev GoesAlong : ℕ → List ℕ → Type 0
+  GoesAlong a [] = Unit {0}
+  GoesAlong a (b ∷ bs) = (b < serversOf s) × (goesOn a b ≡ true) × GoesAlong b bs
 
   abbrev last : ℕ → List ℕ → ℕ
   last a [] = a
   last a (b ∷ bs) = last b bs
 
-  far : (m a : ℕ) (bs : List ℕ) → farOff m a ≡ true → length bs ≡ m → Goes a bs → last a bs ≡ d → ⊥
+  far : (m a : ℕ) (bs : List ℕ) → farOff m a ≡ true → length bs ≡ m → GoesAlong a bs → last a bs ≡ d → ⊥
   far zero a [] e l g q = let z : _≡_ {A = ℕ} 0 1 = unlike (eqb a d) e (eq-eqb a d q) in omega arith
     where
       unlike : (x : Bool) → not x ≡ true → x ≡ true → _≡_ {A = ℕ} 0 1
@@ -95,7 +95,7 @@ module _ (s : Shape) (t : List ℕ) (d : ℕ) (avoid : List ℕ) where
   far (suc m) a (b ∷ bs) e l g q =
       far m b bs (each-at (goesOn a) (farOff m) (serversOf s) e b (g .0) (g .1)) (omega arith) (g .2) q
 
-  first : (cs : List ℕ) (a : ℕ) (bs : List ℕ) → noneBefore cs a ≡ true → length bs ≡ length cs → Goes a bs → last a bs ≡ d → HopByHop (inTurn (byteTo s) (a ∷ bs)) cs → ⊥
+  first : (cs : List ℕ) (a : ℕ) (bs : List ℕ) → noneBefore cs a ≡ true → length bs ≡ length cs → GoesAlong a bs → last a bs ≡ d → HopByHop (inTurn (byteTo s) (a ∷ bs)) cs → ⊥
   unfolding inTurn
   first [] a [] e l g q h = h
   first [] a (b ∷ bs) e l g q h = omega arith
@@ -120,7 +120,7 @@ module _ (s : Shape) (t : List ℕ) (d : ℕ) (avoid : List ℕ) where
       rw (neighbours-exactly (r .route .servers i (omega arith)) (r .route .servers (suc i) h) _ .1 (r .route .hops i h), r .route .alive i h, missing-in (switchTo s (getD us i 0) (getD us (suc i) 0)) avoid (f i h)),
     )
 
-  goes-all : (b : ℕ) (bs : List ℕ) → ((i : ℕ) → i < length bs → (getD bs i 0 < serversOf s) × (goesOn (getD (b ∷ bs) i 0) (getD bs i 0) ≡ true)) → Goes b bs
+  goes-all : (b : ℕ) (bs : List ℕ) → ((i : ℕ) → i < length bs → (getD bs i 0 < serversOf s) × (goesOn (getD (b ∷ bs) i 0) (getD bs i 0) ≡ true)) → GoesAlong b bs
   goes-all b [] h = tt
   goes-all b (c ∷ cs) h =
       (h 0 (suc-le-suc zero-le) .0, h 0 (suc-le-suc zero-le) .1, goes-all c cs (λ i q. h (suc i) (suc-le-suc q)))

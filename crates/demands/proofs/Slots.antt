@@ -118,10 +118,10 @@ one-slot {s} {t} {a} {d} {i} {higher} {g} {h} p q =
           absurd (n (p .nothing broken none ∙ sym (q .nothing broken none)))
     ]
   where
-    Given : List (List ℕ) → Type 0
-    Given x = (us : List ℕ) × (x ≡ us ∷ []) × Replaces s t a d (avoided s t a d i higher) us
+    OneReplaces : List (List ℕ) → Type 0
+    OneReplaces x = (us : List ℕ) × (x ≡ us ∷ []) × Replaces s t a d (avoided s t a d i higher) us
 
-    alike : Given g → Given h → g ≡ h
+    alike : OneReplaces g → OneReplaces h → g ≡ h
     alike x y = x .1 ∙ ap (λ (vs : List ℕ). vs ∷ []) (replaces-unique (x .2) (y .2)) ∙ sym (y .1)
 
 -- slot after slot from k down, two families are the same

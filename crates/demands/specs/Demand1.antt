@@ -38,7 +38,7 @@ use Rattle.finder.specs.declared.Found.{Found}
 use Rattle.finder.specs.Answers.{Finding}
 use Rattle.select.specs.declared.Selection.{Selection}
 use Rattle.select.specs.Selection.{Selecting}
-use Rattle.pick.specs.declared.Place.{Place as Picked}
+use Rattle.pick.specs.declared.Place.{Place}
 use Rattle.pick.specs.Picks.{pickSource, pickAnswer, pickedBytes}
 use Rattle.pick.specs.Places.{placeAnswer}
 use Rattle.step.specs.declared.Step.{Step}
@@ -56,11 +56,11 @@ ofAHop r = (leb 8 r && leb r 12) || (eqb r 14 || (eqb r 19 || eqb r 23))
 
 -- the form of a refusal of m routes, by rule 8.3: routes and hops count from 1; both are zero for a refusal of the whole; for 13 the
 -- hop is 8; for 15 the hop is zero. Which number is given, and at which route and hop, is said exactly in Refusals.
-pub data Place (m : ℕ) : Refusal → Type 0 where
-  whole : {r : ℕ} → ofTheWhole r ≡ true → Place m (plain r)
-  at-hop : {r i h : ℕ} → ofAHop r ≡ true → 1 ≤ i → i ≤ m → 1 ≤ h → h ≤ 8 → Place m (refusedAt r i h)
-  no-arrival : {i : ℕ} → 1 ≤ i → i ≤ m → Place m (refusedAt 13 i 8)
-  later : {i : ℕ} → 2 ≤ i → i ≤ m → Place m (refusedAt 15 i 0)
+pub data RefusalForm (m : ℕ) : Refusal → Type 0 where
+  whole : {r : ℕ} → ofTheWhole r ≡ true → RefusalForm m (plain r)
+  at-hop : {r i h : ℕ} → ofAHop r ≡ true → 1 ≤ i → i ≤ m → 1 ≤ h → h ≤ 8 → RefusalForm m (refusedAt r i h)
+  no-arrival : {i : ℕ} → 1 ≤ i → i ≤ m → RefusalForm m (refusedAt 13 i 8)
+  later : {i : ℕ} → 2 ≤ i → i ≤ m → RefusalForm m (refusedAt 15 i 0)
 
 -- ---- an answer, or a refusal and nothing else
 
@@ -68,7 +68,7 @@ pub data Place (m : ℕ) : Refusal → Type 0 where
 -- all the rest of the answer is zero; `bare` is the answer that holds a refusal and zeros
 pub record Refuses {X : Type 0} (refusal : X → Refusal) (bare : Refusal → X) (m : ℕ) (numbers : List ℕ) (x : X) : Type 0 where
   pub number : OneOf numbers (refusal x .number)
-  pub placed : Place m (refusal x)
+  pub form : RefusalForm m (refusal x)
   pub nothing-else : refusal x .number ≢ 0 → x ≡ bare (refusal x)
 
 abbrev pub RefusalOf : ℕ → List ℕ → Refusal → Type 0
@@ -111,7 +111,7 @@ FoundOf = Refuses (λ x. x .refusal) (λ r. record { refusal = r; hops = 0; byte
 abbrev pub SelectionOf : List ℕ → Selection → Type 0
 SelectionOf = Refuses (λ x. x .refusal) (λ r. record { refusal = r; routes = emptySet }) 0
 
-abbrev pub PlaceOf : List ℕ → Picked → Type 0
+abbrev pub PlaceOf : List ℕ → Place → Type 0
 PlaceOf = Refuses (λ x. x .refusal) (λ r. record { refusal = r; list = 0; route = 0 }) 0
 
 abbrev pub StepOf : List ℕ → Step → Type 0

@@ -23,7 +23,7 @@ use Rattle.path.specs.Answers.{hopAnswer, walkAnswer, readAnswer, writeAnswer, 
 use Rattle.verdict.specs.Checks.{checkAnswer}
 use Rattle.build.specs.declared.RouteSet.{RouteSet}
 use Rattle.build.specs.Built.{builtRoute}
-use Rattle.build.specs.Sets.{added, arrayAt, setOf}
+use Rattle.build.specs.Sets.{added, arrayIn, setOf}
 use Rattle.build.specs.Answers.{buildAnswer}
 use Rattle.laying.specs.Avoids.{Avoids}
 use Rattle.finder.specs.declared.Found.{Found}
@@ -111,8 +111,8 @@ pub record RoomAnswers : Type 0 where
 pub record Adds (r : RouteSet) (x : List ℕ) (q : RouteSet) : Type 0 where
   pub count : q .count ≡ r .count + 1
   pub long : length (q .bytes) ≡ 32
-  pub own : arrayAt (r .count) q ≡ x
-  pub others : (j : ℕ) → j < 4 → j ≢ r .count → arrayAt j q ≡ arrayAt j r
+  pub own : arrayIn (r .count) q ≡ x
+  pub others : (j : ℕ) → j < 4 → j ≢ r .count → arrayIn j q ≡ arrayIn j r
 
 -- adding an array to a set that is not full; a set whose count is 4 or more comes back unchanged
 abbrev pub AddingExactly : Type 0
@@ -148,7 +148,7 @@ pub record BuiltArray (s : Shape) (a d i : ℕ) (bs : List ℕ) : Type 0 where
 -- a set that holds the arrays of slots k down to 0, and zeros past them
 pub record BuiltSet (s : Shape) (a d : ℕ) (r : RouteSet) : Type 0 where
   pub count : r .count ≡ s .k + 1
-  pub slot : (i : ℕ) → i ≤ s .k → BuiltArray s a d i (arrayAt (s .k - i) r)
+  pub slot : (i : ℕ) → i ≤ s .k → BuiltArray s a d i (arrayIn (s .k - i) r)
   pub past : drop (8 * r .count) (r .bytes) ≡ replicate (32 - 8 * r .count) 0
 
 -- what building answers where it refuses nothing
@@ -171,14 +171,14 @@ HopSwitches =
     (switchTo s a b ≡ switchTo s c e) ↔ ((l ≡ m) × Beside s l a c)
 
 -- byte b leads from server a to the neighbour at the byte's level whose digit there is the byte's value
-pub record Leads (s : Shape) (a b next : ℕ) : Type 0 where
+pub record LeadsTo (s : Shape) (a b next : ℕ) : Type 0 where
   pub server : Server s next
   pub neighbour : Neighbours s (levelOf b) a next
   pub value : digit s (levelOf b) next ≡ valueOf b
 
 -- and so does a hop that is not refused
 abbrev pub HopExactly : Type 0
-HopExactly = (s : Shape) (a b : ℕ) → hopAnswer s a b .number ≡ 0 → Leads s a b (hopAnswer s a b .next)
+HopExactly = (s : Shape) (a b : ℕ) → hopAnswer s a b .number ≡ 0 → LeadsTo s a b (hopAnswer s a b .next)
 
 -- a number is among others exactly when it stands at one of their places
 abbrev pub AmongExactly : Type 0
@@ -386,7 +386,7 @@ Clearing =
 pub record Goes (s : Shape) (a i : ℕ) (e : List ℕ) (b : ℕ) (x : Step) : Type 0 where
   pub refusal : x .refusal ≡ none
   pub delivered : x .delivered ≡ false
-  pub leads : Leads s a b (x .next)
+  pub leads : LeadsTo s a b (x .next)
   pub index : x .index ≡ i + 1
   pub mac : x .mac ≡ take 6 (drop (8 * b) e)
   pub port : x .port ≡ getD e (8 * b + 6) 0

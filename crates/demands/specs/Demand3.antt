@@ -5,7 +5,7 @@ use mathlib.Core.Path.{_≡_}
 use mathlib.Core.Logic.{_↔_}
 use mathlib.Core.Bool.{false}
 use mathlib.Core.List.{List}
-use lib.ListN.{length, getD, take, drop}
+use lib.ListN.{length, getD, take}
 use Rattle.refusals.specs.Refusals.{none}
 use Rattle.room.specs.declared.Shape.{Shape}
 use Rattle.room.specs.Shapes.{Valid}
@@ -17,6 +17,7 @@ use Rattle.build.specs.Sets.{held}
 use Rattle.build.specs.Answers.{buildAnswer}
 use Rattle.select.specs.declared.Selection.{Selection}
 use Rattle.select.specs.Selection.{Selecting}
+use Rattle.pick.specs.Picks.{arrayAt}
 use Rattle.step.specs.Steps.{macAt, portAt, delivery}
 use Rattle.step.specs.Delivery.{Tables, stepAfter}
 use Rattle.driver.specs.Packed.{Bytes}
@@ -63,10 +64,6 @@ pub record Delivers (s : Shape) (d : ℕ) (bs : List ℕ) (tables : ℕ → List
 -- for every failed-link table there are neighbour tables, of bytes, that agree with it
 abbrev pub TablesExist : Type 0
 TablesExist = (s : Shape) (t : List ℕ) → (tables : ℕ → List ℕ) × Tables s t tables × ((a : ℕ) → Bytes (tables a))
-
--- the array at place i of a list, the first counted as 0
-abbrev pub arrayAt : ℕ → List ℕ → List ℕ
-arrayAt i bs = take 8 (drop (8 * i) bs)
 
 -- the servers that reading answers for an array
 abbrev pub serversRead : Shape → ℕ → ℕ → List ℕ → List ℕ

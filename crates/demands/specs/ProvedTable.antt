@@ -14,7 +14,7 @@ use Rattle.room.specs.Answers.{aNumber, someDigits, addressAnswer, digitsAnswer
 use Rattle.links.specs.Table.{marked}
 use Rattle.path.specs.Routes.{switchTo}
 use Rattle.path.specs.Answers.{aWriting, readAnswer, reverseAnswer}
-use Rattle.build.specs.Sets.{setOf, arrayAt}
+use Rattle.build.specs.Sets.{setOf, arrayIn}
 use Rattle.build.specs.Answers.{noBuilding, aBuilding, buildAnswer}
 use Rattle.select.specs.declared.Selection.{Selection}
 use Rattle.select.specs.Selection.{Selecting}
@@ -35,7 +35,7 @@ array bs = filled 8 bs
 
 -- array i of the routes built from a to d has these bytes, and so many hops by the reading rule
 pub record Built (s : Shape) (a d i : ℕ) (bs : List ℕ) (hops : ℕ) : Type 0 where
-  pub bytes : arrayAt i (buildAnswer s a d .routes) ≡ array bs
+  pub bytes : arrayIn i (buildAnswer s a d .routes) ≡ array bs
   pub read : readAnswer s a d (array bs) .refusal ≡ none
   pub count : readAnswer s a d (array bs) .count - 1 ≡ hops
 

@@ -21,7 +21,7 @@ use Rattle.path.proofs.CodecLaws.{read-given}
 use Rattle.build.specs.declared.Building.{Building}
 use Rattle.build.specs.declared.RouteSet.{RouteSet}
 use Rattle.build.specs.Built.{builtHops, builtBytes, builtArrays}
-use Rattle.build.specs.Sets.{joined, arrayAt, setOf}
+use Rattle.build.specs.Sets.{joined, arrayIn, setOf}
 use Rattle.build.specs.Answers.{noBuilding, aBuilding, buildAnswer}
 use Rattle.build.proofs.BuiltLaws.{built-short, built-route, built-encode, route-long}
 use Rattle.build.proofs.SetLaws.{joined-long, set-array}
@@ -67,11 +67,11 @@ partAt r j = take (8 * j + 8 - 8 * j) (drop (8 * j) (r .bytes))
 
 module _ (s : Shape) (a d : ℕ) (r : RouteSet) (j : ℕ) (e : endsRefusal s a d ≡ 0) (f : r ≡ setOf (builtArrays s a d)) (h : j ≤ s .k) where
   part-is : partAt r j ≡ builtBytes s (s .k - j) a d
-  unfolding arrayAt
+  unfolding arrayIn
   part-is =
       let m : 8 * j + 8 - 8 * j ≡ 8 = omega arith in
       ap (λ (x : ℕ). take x (drop (8 * j) (r .bytes))) m
-      ∙ ap (arrayAt j) f
+      ∙ ap (arrayIn j) f
       ∙ set-array (builtArrays s a d) (arrays-eight (ends-of s a d e)) j (omega (arith, arrays-count s a d))
       ∙ arrays-at s a d j h
 

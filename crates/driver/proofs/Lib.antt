@@ -1,4 +1,5 @@
 pub mod WordLaws
+pub mod CallLaws
 pub mod ShapeLaws
 pub mod RoomSmall
 pub mod PathSmall

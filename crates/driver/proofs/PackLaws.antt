@@ -14,18 +14,18 @@ use Rattle.refusals.proofs.NumberLaws.{one-le}
 use Rattle.room.specs.declared.Shape.{Shape}
 use Rattle.path.proofs.HopLaws.{hop-server}
 use Rattle.step.specs.declared.Step.{Step}
-use Rattle.step.specs.Steps.{entry, macAt, portAt, stepRefusal, atHop, placed, noStep, delivery, forwarded, stepAnswer}
+use Rattle.step.specs.Steps.{entry, macAt, portAt, stepRefusal, atHop, withPlace, noStep, delivery, forwarded, stepAnswer}
 use Rattle.step.proofs.NumberLaws.{step-numbers}
-use Rattle.step.proofs.StepLaws.{placed-number, hop-le, goes-of}
+use Rattle.step.proofs.StepLaws.{with-place-number, hop-le, goes-of}
 use Rattle.driver.specs.declared.Stepped.{Stepped}
 use Rattle.driver.specs.Packed.{flagOf, bytesNumber, macNumber, stepWord, packed, stepIn, unpacked, Bytes}
 
 -- ---- how large a step's numbers are
 
 module _ (s : Shape) (a d i : ℕ) (bs e : List ℕ) where
-  placed-route : (r : ℕ) → placed i r .route ≡ cond (eqb (placed i r .hop) 0) 0 1
-  unfolding placed
-  placed-route r = go (atHop r)
+  with-place-route : (r : ℕ) → withPlace i r .route ≡ cond (eqb (withPlace i r .hop) 0) 0 1
+  unfolding withPlace
+  with-place-route r = go (atHop r)
     where
       go : (t : Bool) → cond t (refusedAt r 1 (i + 1)) (plain r) .route ≡ cond (eqb (cond t (refusedAt r 1 (i + 1)) (plain r) .hop) 0) 0 1
       go true = rw (ne-eqb (i + 1) 0 (λ z. omega arith))
@@ -73,7 +73,7 @@ mac-bytes e b h = record { at = at }
 
 module _ (s : Shape) (a d i : ℕ) (bs e : List ℕ) where
   -- what is so of each refused step, of a delivery, and of a step that goes on is so of the answer
-  step-so : (P : Step → Type 0) → (stepRefusal s a d i bs e ≢ 0 → P (noStep (placed i (stepRefusal s a d i bs e)))) → (a ≡ d → P delivery) → (stepRefusal s a d i bs e ≡ 0 → a ≢ d → P (forwarded s a i e (getD bs i 0))) → P (stepAnswer s a d i bs e)
+  step-so : (P : Step → Type 0) → (stepRefusal s a d i bs e ≢ 0 → P (noStep (withPlace i (stepRefusal s a d i bs e)))) → (a ≡ d → P delivery) → (stepRefusal s a d i bs e ≡ 0 → a ≢ d → P (forwarded s a i e (getD bs i 0))) → P (stepAnswer s a d i bs e)
   unfolding stepAnswer
   step-so P refused here goes = go (stepRefusal s a d i bs e) refl
     where
@@ -81,9 +81,9 @@ module _ (s : Shape) (a d i : ℕ) (bs e : List ℕ) where
       given z (yes y) = rw (eq-eqb a d y) (here y)
       given z (no y) = rw (ne-eqb a d y) (goes z y)
 
-      go : (q : ℕ) → stepRefusal s a d i bs e ≡ q → P (answer q (λ r. noStep (placed i r)) (cond (eqb a d) delivery (forwarded s a i e (getD bs i 0))))
+      go : (q : ℕ) → stepRefusal s a d i bs e ≡ q → P (answer q (λ r. noStep (withPlace i r)) (cond (eqb a d) delivery (forwarded s a i e (getD bs i 0))))
       go zero z = given z (ℕ-discrete a d)
-      go (suc q) z = subst (λ (r : ℕ). P (noStep (placed i r))) z (refused (λ n. omega arith))
+      go (suc q) z = subst (λ (r : ℕ). P (noStep (withPlace i r))) z (refused (λ n. omega arith))
 
   pub step-fits : Fits (stepAnswer s a d i bs e)
   step-fits =
@@ -91,8 +91,8 @@ module _ (s : Shape) (a d i : ℕ) (bs e : List ℕ) where
       (λ n.
       let m = one-le 255 refl (step-numbers s a d i bs e) in
       let k = hop-le s a d i bs e in
-      let p = placed-number i (stepRefusal s a d i bs e) in
-      record { number = omega arith; hop = omega arith; route = placed-route s a d i bs e (stepRefusal s a d i bs e); index = lit< tt; next = lit< tt })
+      let p = with-place-number i (stepRefusal s a d i bs e) in
+      record { number = omega arith; hop = omega arith; route = with-place-route s a d i bs e (stepRefusal s a d i bs e); index = lit< tt; next = lit< tt })
       (λ h. record { number = lit< tt; hop = lit< tt; route = refl; index = lit< tt; next = lit< tt })
       (λ z away.
       let g = goes-of s a d i bs e z away in
@@ -210,7 +210,7 @@ record Whole (x : Step) : Type 0 where
 step-whole : (s : Shape) (a d i : ℕ) (bs e : List ℕ) → Whole (stepAnswer s a d i bs e)
 step-whole s a d i bs e =
     step-so s a d i bs e Whole
-    (λ n. record { refused = λ m. refl; arrived = λ t. cc; passed = λ z. absurd (n (sym (placed-number i (stepRefusal s a d i bs e)) ∙ z)) })
+    (λ n. record { refused = λ m. refl; arrived = λ t. cc; passed = λ z. absurd (n (sym (with-place-number i (stepRefusal s a d i bs e)) ∙ z)) })
     (λ h. record { refused = λ m. absurd (m refl); arrived = λ t. refl; passed = λ z. refl })
     (λ z away. record { refused = λ m. absurd (m refl); arrived = λ t. cc; passed = λ z. refl })
 

@@ -53,11 +53,11 @@ encode-small {s} {t} {vs} h i =
     ]
 
 -- reading stops at the first arrival, and every byte after it is zero
-pub record Stops (d : ℕ) (bs vs : List ℕ) : Type 0 where
+pub record EndsAtArrival (d : ℕ) (bs vs : List ℕ) : Type 0 where
   pub before : (i : ℕ) → suc i < length vs → getD vs i 0 ≢ d
   pub zeros : (j : ℕ) → length vs ≤ suc j → getD bs j 0 ≡ 0
 
-pub read-stops : {s : Shape} {t : List ℕ} {a d : ℕ} {bs vs : List ℕ} → Encodes s t a d bs vs → Stops d bs vs
+pub read-stops : {s : Shape} {t : List ℕ} {a d : ℕ} {bs vs : List ℕ} → Encodes s t a d bs vs → EndsAtArrival d bs vs
 unfolding encode
 read-stops {s} {t} {a} {d} {bs} {vs} h =
     record {

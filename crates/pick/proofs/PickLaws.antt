@@ -9,7 +9,7 @@ use Rattle.refusals.specs.Refusals.{plain, _or-else_, answer}
 use Rattle.refusals.proofs.ChainLaws.{chain-stops, chain-goes}
 use Rattle.refusals.proofs.AnswerLaws.{answer-refused, answer-given}
 use Rattle.room.specs.declared.Shape.{Shape}
-use Rattle.pick.specs.Picks.{firstIn, Source, inFresh, inKept, nowhere, found, listsRefusal, pickSource, missing, pickRefusal, pickAnswer, pickedBytes, pickedAt}
+use Rattle.pick.specs.Picks.{firstUsableIn, Source, inFresh, inKept, nowhere, found, listsRefusal, pickSource, missing, pickRefusal, pickAnswer, pickedBytes, pickedAt}
 use Rattle.pick.specs.declared.Place.{Place}
 use Rattle.pick.specs.Places.{noPlace, aPlace, placeOf, placeAnswer}
 
@@ -24,15 +24,15 @@ module _ (s : Shape) (t : List ℕ) (a d : ℕ) (fs ks : List ℕ) where
   unfolding pickSource
   from-found r e z = answer-given r _ (λ q. nowhere) _ _ e z refl
 
-  pub found-fresh : (i : ℕ) → i ≡ firstIn s t a d fs → i < length fs / 8 → inFresh i ≡ found s t a d fs ks
+  pub found-fresh : (i : ℕ) → i ≡ firstUsableIn s t a d fs → i < length fs / 8 → inFresh i ≡ found s t a d fs ks
   unfolding found
   found-fresh i e h = rw (← e, lt-ltb i (length fs / 8) h)
 
-  pub found-kept : (i j : ℕ) → i ≡ firstIn s t a d fs → length fs / 8 ≤ i → j ≡ firstIn s t a d ks → j < length ks / 8 → inKept j ≡ found s t a d fs ks
+  pub found-kept : (i j : ℕ) → i ≡ firstUsableIn s t a d fs → length fs / 8 ≤ i → j ≡ firstUsableIn s t a d ks → j < length ks / 8 → inKept j ≡ found s t a d fs ks
   unfolding found
   found-kept i j e h f g = rw (← e, le-ltb i (length fs / 8) h, ← f, lt-ltb j (length ks / 8) g)
 
-  pub found-none : (i j : ℕ) → i ≡ firstIn s t a d fs → length fs / 8 ≤ i → j ≡ firstIn s t a d ks → length ks / 8 ≤ j → nowhere ≡ found s t a d fs ks
+  pub found-none : (i j : ℕ) → i ≡ firstUsableIn s t a d fs → length fs / 8 ≤ i → j ≡ firstUsableIn s t a d ks → length ks / 8 ≤ j → nowhere ≡ found s t a d fs ks
   unfolding found
   found-none i j e h f g = rw (← e, le-ltb i (length fs / 8) h, ← f, le-ltb j (length ks / 8) g)
 
@@ -66,13 +66,13 @@ module _ (s : Shape) (t : List ℕ) (a d : ℕ) (fs ks : List ℕ) where
     unfolding pickRefusal
     stands-found y z f g = stands (missing y) y (chain-goes r _ _ _ e z (ap missing f)) (f ∙ from-found r e z) g
 
-    pub stands-fresh : r ≡ 0 → (i : ℕ) → i ≡ firstIn s t a d fs → i < length fs / 8 → x ≡ aPlace 1 (i + 1) → x ≡ placeAnswer s t a d fs ks
+    pub stands-fresh : r ≡ 0 → (i : ℕ) → i ≡ firstUsableIn s t a d fs → i < length fs / 8 → x ≡ aPlace 1 (i + 1) → x ≡ placeAnswer s t a d fs ks
     stands-fresh z i f h g = stands-found (inFresh i) z (found-fresh i f h) g
 
-    pub stands-kept : r ≡ 0 → (i j : ℕ) → i ≡ firstIn s t a d fs → length fs / 8 ≤ i → j ≡ firstIn s t a d ks → j < length ks / 8 → x ≡ aPlace 2 (j + 1) → x ≡ placeAnswer s t a d fs ks
+    pub stands-kept : r ≡ 0 → (i j : ℕ) → i ≡ firstUsableIn s t a d fs → length fs / 8 ≤ i → j ≡ firstUsableIn s t a d ks → j < length ks / 8 → x ≡ aPlace 2 (j + 1) → x ≡ placeAnswer s t a d fs ks
     stands-kept z i j f h k l g = stands-found (inKept j) z (found-kept i j f h k l) g
 
-    pub stands-nowhere : r ≡ 0 → (i j : ℕ) → i ≡ firstIn s t a d fs → length fs / 8 ≤ i → j ≡ firstIn s t a d ks → length ks / 8 ≤ j → x ≡ noPlace 16 → x ≡ placeAnswer s t a d fs ks
+    pub stands-nowhere : r ≡ 0 → (i j : ℕ) → i ≡ firstUsableIn s t a d fs → length fs / 8 ≤ i → j ≡ firstUsableIn s t a d ks → length ks / 8 ≤ j → x ≡ noPlace 16 → x ≡ placeAnswer s t a d fs ks
     stands-nowhere z i j f h k l g = stands-found nowhere z (found-none i j f h k l) g
 
   -- the refusal of a place is the companion's answer

@@ -14,7 +14,7 @@ use Rattle.refusals.proofs.NumberLaws.{one-passes}
 use Rattle.room.specs.declared.Shape.{Shape}
 use Rattle.links.specs.Table.{roomRefusal}
 use Rattle.verdict.specs.Accepted.{Accepted}
-use Rattle.pick.specs.Picks.{usable, firstIn, Source, inFresh, inKept, nowhere, found, listsRefusal, pickSource, missing, pickRefusal, arrayAt, pickedBytes}
+use Rattle.pick.specs.Picks.{usable, firstUsableIn, Source, inFresh, inKept, nowhere, found, listsRefusal, pickSource, missing, pickRefusal, arrayAt, pickedBytes}
 use Rattle.pick.specs.Chosen.{FirstUsable, NoneUsable, Chosen}
 use Rattle.pick.proofs.NumberLaws.{lists-numbers}
 use Rattle.pick.proofs.LengthLaws.{lists-room}
@@ -26,14 +26,14 @@ module _ (s : Shape) (t : List ℕ) (a d : ℕ) (fs ks : List ℕ) where
 
   found-chosen : Chosen s t a d fs ks (found s t a d fs ks)
   found-chosen =
-      elim (decLt (firstIn s t a d fs) (length fs / 8)) [
+      elim (decLt (firstUsableIn s t a d fs) (length fs / 8)) [
         | yes h ↦ subst (Chosen s t a d fs ks) (found-fresh s t a d fs ks _ refl h) (found-first s t a d fs h)
         | no n ↦
-            let f : length fs / 8 ≤ firstIn s t a d fs = omega arith in
-            elim (decLt (firstIn s t a d ks) (length ks / 8)) [
+            let f : length fs / 8 ≤ firstUsableIn s t a d fs = omega arith in
+            elim (decLt (firstUsableIn s t a d ks) (length ks / 8)) [
               | yes h ↦ subst (Chosen s t a d fs ks) (found-kept s t a d fs ks _ _ refl f refl h) (found-not s t a d fs f, found-first s t a d ks h)
               | no m ↦
-                  let g : length ks / 8 ≤ firstIn s t a d ks = omega arith in
+                  let g : length ks / 8 ≤ firstUsableIn s t a d ks = omega arith in
                   subst (Chosen s t a d fs ks) (found-none s t a d fs ks _ _ refl f refl g) (found-not s t a d fs f, found-not s t a d ks g)
             ]
       ]
@@ -58,10 +58,10 @@ module _ (s : Shape) (t : List ℕ) (a d : ℕ) (fs ks : List ℕ) where
     -- picking prefers the fresh list: whatever usable route it has, the part is its first
     pub prefers-fresh : (i : ℕ) → i < length fs / 8 → usable s t a d (arrayAt i fs) ≡ true → (j : ℕ) × ((j ≤ i) × FirstUsable s t a d fs j × (pickSource s t a d fs ks ≡ inFresh j))
     prefers-fresh i h u =
-        elim (decLt (firstIn s t a d fs) (length fs / 8)) [
+        elim (decLt (firstUsableIn s t a d fs) (length fs / 8)) [
           | yes l ↦
               let g = found-first s t a d fs l in
-              (firstIn s t a d fs, (not-after (firstIn s t a d fs) g, g, chosen-source (inFresh (firstIn s t a d fs)) g))
+              (firstUsableIn s t a d fs, (not-after (firstUsableIn s t a d fs) g, g, chosen-source (inFresh (firstUsableIn s t a d fs)) g))
           | no n ↦ absurd (clash _ u (found-not s t a d fs (omega arith) .each i h))
         ]
       where

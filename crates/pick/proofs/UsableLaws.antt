@@ -21,7 +21,7 @@ use Rattle.path.specs.Answers.{walkAnswer}
 use Rattle.verdict.specs.Checks.{arrays, firstStop, firstMeeting, firstOf, firstPair, listRefusal, walksOf, checkAnswer}
 use Rattle.verdict.specs.Accepted.{Accepted}
 use Rattle.verdict.proofs.AcceptLaws.{accepted-of}
-use Rattle.pick.specs.Picks.{usable, firstUsable, firstIn, arrayAt}
+use Rattle.pick.specs.Picks.{usable, firstUsable, firstUsableIn, arrayAt}
 use Rattle.pick.specs.Chosen.{FirstUsable, NoneUsable}
 
 -- ---- an array of eight bytes, checked as a list of one
@@ -105,10 +105,10 @@ module _ (s : Shape) (t : List ℕ) (a d : ℕ) (bs : List ℕ) where
   -- no array before place i is usable
   pub record Seeking (i : ℕ) : Type 0 where
     pub within : i ≤ length bs / 8
-    pub rest : i + firstUsable s t a d (from i) ≡ firstIn s t a d bs
+    pub rest : i + firstUsable s t a d (from i) ≡ firstUsableIn s t a d bs
 
   pub seeking-all : Seeking 0
-  unfolding firstIn
+  unfolding firstUsableIn
   seeking-all =
       let m : length bs / 8 - 0 ≡ length bs / 8 = omega arith in
       record { within = omega arith; rest = zero-add (firstUsable s t a d (from 0)) ∙ ap (λ (x : ℕ). firstUsable s t a d (arrays x bs)) m }
@@ -120,7 +120,7 @@ module _ (s : Shape) (t : List ℕ) (a d : ℕ) (bs : List ℕ) where
         let e : w ≡ walkAnswer s t a d (arrayAt i bs) = part ∙ ap (λ (m : ℕ). walkAnswer s t a d (take m (drop (8 * i) bs))) q in
         usable-walk s t a d (arrayAt i bs) room (array-long i bs more) ∙ ap (λ (x : Walked). eqb (x .refusal .number) 0) (sym e)
 
-    pub seeking-found : w .refusal .number ≡ 0 → i ≡ firstIn s t a d bs
+    pub seeking-found : w .refusal .number ≡ 0 → i ≡ firstUsableIn s t a d bs
     unfolding firstUsable
     seeking-found n =
         let z : firstUsable s t a d (from i) ≡ 0 = rw (from-cut i more, told ∙ eq-eqb (w .refusal .number) 0 n) in
@@ -133,7 +133,7 @@ module _ (s : Shape) (t : List ℕ) (a d : ℕ) (bs : List ℕ) where
         record { within = omega arith; rest = omega (arith, g .rest) }
 
   -- past the last array
-  pub seeking-ends : (i : ℕ) → Seeking i → length bs / 8 ≤ i → length bs / 8 ≡ firstIn s t a d bs
+  pub seeking-ends : (i : ℕ) → Seeking i → length bs / 8 ≤ i → length bs / 8 ≡ firstUsableIn s t a d bs
   unfolding firstUsable arrays
   seeking-ends i g h =
       let m : length bs / 8 - i ≡ 0 = omega arith in
@@ -178,34 +178,34 @@ module _ (s : Shape) (t : List ℕ) (a d : ℕ) where
       at g false (suc j) u h =
           ap (usable s t a d) (sym (array-next j bs)) ∙ g j (omega (arith, first-cut m bs false u))
 
-  pub found-first : (bs : List ℕ) → firstIn s t a d bs < length bs / 8 → FirstUsable s t a d bs (firstIn s t a d bs)
-  unfolding firstIn
+  pub found-first : (bs : List ℕ) → firstUsableIn s t a d bs < length bs / 8 → FirstUsable s t a d bs (firstUsableIn s t a d bs)
+  unfolding firstUsableIn
   found-first bs h =
       record { within = h; here = first-here (length bs / 8) bs _ refl h; before = first-before (length bs / 8) bs }
 
-  pub found-not : (bs : List ℕ) → length bs / 8 ≤ firstIn s t a d bs → NoneUsable s t a d bs
-  unfolding firstIn
+  pub found-not : (bs : List ℕ) → length bs / 8 ≤ firstUsableIn s t a d bs → NoneUsable s t a d bs
+  unfolding firstUsableIn
   found-not bs h = record { each = λ j p. first-before (length bs / 8) bs j (omega arith) }
 
-  none-before : (bs : List ℕ) (j : ℕ) → j < firstIn s t a d bs → usable s t a d (arrayAt j bs) ≡ false
-  unfolding firstIn
+  none-before : (bs : List ℕ) (j : ℕ) → j < firstUsableIn s t a d bs → usable s t a d (arrayAt j bs) ≡ false
+  unfolding firstUsableIn
   none-before bs j l = first-before (length bs / 8) bs j l
 
   -- and there is no other
-  pub first-found : (bs : List ℕ) (i : ℕ) → FirstUsable s t a d bs i → i ≡ firstIn s t a d bs
+  pub first-found : (bs : List ℕ) (i : ℕ) → FirstUsable s t a d bs i → i ≡ firstUsableIn s t a d bs
   first-found bs i h =
-      elim (decLt (firstIn s t a d bs) i) [
-        | yes l ↦ absurd (clash _ (found-first bs (omega (arith, h .within)) .here) (h .before (firstIn s t a d bs) l))
+      elim (decLt (firstUsableIn s t a d bs) i) [
+        | yes l ↦ absurd (clash _ (found-first bs (omega (arith, h .within)) .here) (h .before (firstUsableIn s t a d bs) l))
         | no m ↦
-            elim (decLt i (firstIn s t a d bs)) [
+            elim (decLt i (firstUsableIn s t a d bs)) [
               | yes l ↦ absurd (clash _ (h .here) (none-before bs i l))
               | no n ↦ omega arith
             ]
       ]
 
-  pub not-found : (bs : List ℕ) → NoneUsable s t a d bs → length bs / 8 ≤ firstIn s t a d bs
+  pub not-found : (bs : List ℕ) → NoneUsable s t a d bs → length bs / 8 ≤ firstUsableIn s t a d bs
   not-found bs h =
-      elim (decLt (firstIn s t a d bs) (length bs / 8)) [
-        | yes l ↦ absurd (clash _ (found-first bs l .here) (h .each (firstIn s t a d bs) l))
+      elim (decLt (firstUsableIn s t a d bs) (length bs / 8)) [
+        | yes l ↦ absurd (clash _ (found-first bs l .here) (h .each (firstUsableIn s t a d bs) l))
         | no n ↦ omega arith
       ]

@@ -22,8 +22,8 @@ firstUsable s t a d [] = 0
 firstUsable s t a d (bs ∷ bss) = cond (usable s t a d bs) 0 (suc (firstUsable s t a d bss))
 
 -- the same of a list of whole arrays
-unfoldable pub firstIn : Shape → List ℕ → ℕ → ℕ → List ℕ → ℕ
-firstIn s t a d bs = firstUsable s t a d (arrays (length bs / 8) bs)
+unfoldable pub firstUsableIn : Shape → List ℕ → ℕ → ℕ → List ℕ → ℕ
+firstUsableIn s t a d bs = firstUsable s t a d (arrays (length bs / 8) bs)
 
 -- where the picked route comes from: a place of the fresh list, a place of the kept list, or nowhere
 pub data Source : Type 0 where
@@ -38,7 +38,7 @@ among i m place other = cond (ltb i m) (place i) other
 -- the first usable route of the fresh list, else of the kept list
 unfoldable pub found : Shape → List ℕ → ℕ → ℕ → List ℕ → List ℕ → Source
 found s t a d fs ks =
-    among (firstIn s t a d fs) (length fs / 8) inFresh (among (firstIn s t a d ks) (length ks / 8) inKept nowhere)
+    among (firstUsableIn s t a d fs) (length fs / 8) inFresh (among (firstUsableIn s t a d ks) (length ks / 8) inKept nowhere)
 
 -- whether a list of n bytes is whole arrays, at most k + 1 of them; it may be empty
 unfoldable pub fits : Shape → ℕ → Bool

@@ -1,7 +1,7 @@
 // The route picked, and the companion question.
 ghost use mathlib.Core.Path.{_≡_};
 ghost use Rattle.links.specs.Table.{roomRefusal};
-ghost use Rattle.pick.specs.Picks.{firstIn, pickAnswer, PickedPart};
+ghost use Rattle.pick.specs.Picks.{firstUsableIn, pickAnswer, PickedPart};
 ghost use Rattle.pick.specs.Places.{noPlace, aPlace, placeAnswer};
 use crate::Place;
 use crate::lengths::lists_refusal;
@@ -12,7 +12,7 @@ use room::Shape;
 // its table have been tested.
 fn first_usable(shape: Shape, table: &[u8], source: usize, destination: usize, list: &[u8]) -> usize
     requires { ⌜ roomRefusal shape (now table) source destination ≡ 0 ⌝ }
-    ensures { λ r. ⌜ r ≡ firstIn shape (now (table .entry)) source destination (now (list .entry)) ⌝ }
+    ensures { λ r. ⌜ r ≡ firstUsableIn shape (now (table .entry)) source destination (now (list .entry)) ⌝ }
 {
     let count = list.len() / 8;
     let mut i: usize = 0;

@@ -13,7 +13,7 @@ use Rattle.links.specs.Table.{TableOf}
 use Rattle.path.specs.Routes.{Encodes, encode}
 use Rattle.path.proofs.CodecLaws.{encode-long}
 use Rattle.build.specs.declared.RouteSet.{RouteSet}
-use Rattle.build.specs.Sets.{emptySet, added, arrayAt, setOf}
+use Rattle.build.specs.Sets.{emptySet, added, arrayIn, setOf}
 use Rattle.build.proofs.SetLaws.{gathered, gathered-set, set-array}
 use Rattle.laying.specs.Laid.{taken, Laid}
 use Rattle.laying.specs.Answers.{Lays}
@@ -48,8 +48,8 @@ eight-bytes p bs h =
     first : getD bs p 0 ≡ getD (take 8 (drop p bs)) 0 0
     first = let e : p ≡ p + 0 = omega arith in ap (λ (m : ℕ). getD bs m 0) e ∙ at 0 (omega arith)
 
-pub array-bytes : (j : ℕ) (r : RouteSet) → j < 4 → length (r .bytes) ≡ 32 → getD (r .bytes) (8 * j) 0 ∷ getD (r .bytes) (8 * j + 1) 0 ∷ getD (r .bytes) (8 * j + 2) 0 ∷ getD (r .bytes) (8 * j + 3) 0 ∷ getD (r .bytes) (8 * j + 4) 0 ∷ getD (r .bytes) (8 * j + 5) 0 ∷ getD (r .bytes) (8 * j + 6) 0 ∷ getD (r .bytes) (8 * j + 7) 0 ∷ [] ≡ arrayAt j r
-unfolding arrayAt
+pub array-bytes : (j : ℕ) (r : RouteSet) → j < 4 → length (r .bytes) ≡ 32 → getD (r .bytes) (8 * j) 0 ∷ getD (r .bytes) (8 * j + 1) 0 ∷ getD (r .bytes) (8 * j + 2) 0 ∷ getD (r .bytes) (8 * j + 3) 0 ∷ getD (r .bytes) (8 * j + 4) 0 ∷ getD (r .bytes) (8 * j + 5) 0 ∷ getD (r .bytes) (8 * j + 6) 0 ∷ getD (r .bytes) (8 * j + 7) 0 ∷ [] ≡ arrayIn j r
+unfolding arrayIn
 array-bytes j r h l = eight-bytes (8 * j) (r .bytes) (omega arith)
 
 -- ---- a set of the arrays of routes
@@ -76,7 +76,7 @@ module _ (s : Shape) (vss : List (List ℕ)) (few : (vs : List ℕ) → In vs vs
       set-more (map (encode s) vss) (encode s vs) (map-eight s vss few) (encode-long s vs h) (omega (arith, length-map vss (encode s)))
       ∙ ap setOf (sym (map-append (encode s) vss (vs ∷ [])))
 
-  pub route-array : (j : ℕ) → j < length vss → arrayAt j (setOf (map (encode s) vss)) ≡ encode s (getD vss j [])
+  pub route-array : (j : ℕ) → j < length vss → arrayIn j (setOf (map (encode s) vss)) ≡ encode s (getD vss j [])
   route-array j h =
       set-array (map (encode s) vss) (map-eight s vss few) j (omega (arith, length-map vss (encode s)))
       ∙ map-at (encode s) [] [] vss j h
@@ -89,10 +89,10 @@ module _ {s : Shape} {a d : ℕ} {set : RouteSet} {routes : List (List ℕ)} (h 
   pub holds-count : set .count ≡ length routes
   holds-count = ap (λ (r : RouteSet). r .count) (h .written) ∙ set-count s routes
 
-  pub holds-array : (j : ℕ) → j < length routes → arrayAt j set ≡ encode s (getD routes j [])
-  holds-array j p = ap (arrayAt j) (h .written) ∙ route-array s routes (λ vs m. h .each vs m .route .few) j p
+  pub holds-array : (j : ℕ) → j < length routes → arrayIn j set ≡ encode s (getD routes j [])
+  holds-array j p = ap (arrayIn j) (h .written) ∙ route-array s routes (λ vs m. h .each vs m .route .few) j p
 
-  holds-encodes : (j : ℕ) → j < length routes → (x : List ℕ) → x ≡ arrayAt j set → Encodes s [] a d x (getD routes j [])
+  holds-encodes : (j : ℕ) → j < length routes → (x : List ℕ) → x ≡ arrayIn j set → Encodes s [] a d x (getD routes j [])
   holds-encodes j p x e = record { route = h .each (getD routes j []) (member-at routes j p); bytes = e ∙ holds-array j p }
 
 -- ---- the routes of a set laid, one after another
@@ -107,7 +107,7 @@ module _ {s : Shape} {a d : ℕ} {set : RouteSet} {first end : ℕ} {t : List �
   lay-starts = record { still = λ routes h p k. (k, λ v l. l) }
 
   module _ {j : ℕ} {u : List ℕ} (y : StillToLay s a d set first end t j u) where
-    pub lay-more : j < end → (x : List ℕ) → x ≡ arrayAt j set → {r : Refusal} {v : List ℕ} → Lays s u a d x r v → StillToLay s a d set first end t (j + 1) v
+    pub lay-more : j < end → (x : List ℕ) → x ≡ arrayIn j set → {r : Refusal} {v : List ℕ} → Lays s u a d x r v → StillToLay s a d set first end t (j + 1) v
     lay-more p x e {r} {v} l = record { still = λ routes h q k. more routes h q (y .still routes h q k) }
       where
         more : (routes : List (List ℕ)) → Holds s a d set routes → end ≤ length routes

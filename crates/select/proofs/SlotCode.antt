@@ -25,7 +25,7 @@ use Rattle.build.specs.declared.RouteSet.{RouteSet}
 use Rattle.build.specs.declared.Building.{Building}
 use Rattle.build.specs.Answers.{buildAnswer, noBuilding, aBuilding}
 use Rattle.build.specs.Built.{builtRoute, builtRoutes, builtArrays}
-use Rattle.build.specs.Sets.{emptySet, added, arrayAt, setOf}
+use Rattle.build.specs.Sets.{emptySet, added, arrayIn, setOf}
 use Rattle.build.proofs.SetLaws.{gathered, gathered-set}
 use Rattle.build.proofs.ArrayLaws.{arrays-encode, routes-count, routes-at}
 use Rattle.laying.specs.Laid.{Laid}
@@ -89,7 +89,7 @@ module _ {s : Shape} {a d : ℕ} (ends : Ends s a d) (built : RouteSet) (b : bui
             subst (RouteTo s [] a d) (sym (n .2)) (built-to [] ends (n .0) (omega (arith, n .1)));
       }
 
-  slot-array : (i : ℕ) → i ≤ s .k → (x : List ℕ) → x ≡ arrayAt (s .k - i) built → x ≡ encode s (builtRoute s i a d)
+  slot-array : (i : ℕ) → i ≤ s .k → (x : List ℕ) → x ≡ arrayIn (s .k - i) built → x ≡ encode s (builtRoute s i a d)
   slot-array i p x e =
       let q : s .k - (s .k - i) ≡ i = omega arith in
       e ∙ holds-array built-holds (s .k - i) (omega (arith, routes-count s a d))
@@ -186,7 +186,7 @@ module _ {s : Shape} {t : List ℕ} {a d i : ℕ} {settled : RouteSet} (p : SoFa
       q ∙ ap₂ added (p .written) e
       ∙ route-more s (p .routes) (λ us m. p .settled .each us m .route .few) vs l (omega (arith, holds-count (so-holds p), p .count, p .levels))
 
-  module _ (built : RouteSet) (b : built ≡ setOf (builtArrays s a d)) (x : List ℕ) (at : x ≡ arrayAt (s .k - i) built) (w : Walked) (e : w ≡ walkAnswer s t a d x) where
+  module _ (built : RouteSet) (b : built ≡ setOf (builtArrays s a d)) (x : List ℕ) (at : x ≡ arrayIn (s .k - i) built) (w : Walked) (e : w ≡ walkAnswer s t a d x) where
     own : RouteTo s [] a d (builtRoute s i a d)
     own = built-to t (so-ends p) i (so-slot p)
 

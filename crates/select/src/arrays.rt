@@ -5,7 +5,7 @@ ghost use Prim.Native.Nat.{ℕ, _≤_, _<_};
 ghost use lib.ListN.{length};
 ghost use lib.Seq.{slice};
 ghost use Rattle.links.specs.Table.{TableOf};
-ghost use Rattle.build.specs.Sets.{arrayAt};
+ghost use Rattle.build.specs.Sets.{arrayIn};
 ghost use Rattle.laying.specs.Laid.{Laid};
 ghost use Rattle.select.specs.Inside.{Holds};
 use build::RouteSet;
@@ -15,7 +15,7 @@ use room::Shape;
 // The array at a place of a set.
 pub(crate) fn array_at(set: RouteSet, place: usize) -> [u8; 8]
     requires { ⌜ place < 4 ⌝ }
-    ensures { λ r. ⌜ r ≡ arrayAt place set ⌝ }
+    ensures { λ r. ⌜ r ≡ arrayIn place set ⌝ }
 {
     let bytes = set.bytes;
     let p = 8 * place;

@@ -23,7 +23,7 @@ use Rattle.path.proofs.CodecLaws.{encode-long, walk-given, walk-exactly}
 use Rattle.step.specs.declared.Step.{Step}
 use Rattle.step.specs.Steps.{macAt, portAt, flagAt, stepRefusal, delivery, stepAnswer}
 use Rattle.step.specs.Delivery.{Tables, stepAfter}
-use Rattle.step.proofs.StepLaws.{Given, given-none, Goes, goes-none}
+use Rattle.step.proofs.StepLaws.{Given, given-none, GoesBy, goes-none}
 
 module _ {s : Shape} {t : List ℕ} {a d : ℕ} {bs vs : List ℕ} {tables : ℕ → List ℕ} (route : Encodes s t a d bs vs) (agreed : Tables s t tables) where
   server : (i : ℕ) → i < length vs → Server s (getD vs i 0)
@@ -68,7 +68,7 @@ module _ {s : Shape} {t : List ℕ} {a d : ℕ} {bs vs : List ℕ} {tables : ℕ
   step-on i h =
       let away = first-arrival (route .route) i h in
       let b = hops i h in
-      let goes : Goes s (getD vs i 0) d i bs (tables (getD vs i 0)) = record { given = given i (omega arith); index = omega (arith, route .route .route .few); taken = b .taken; flag = b .flag } in
+      let goes : GoesBy s (getD vs i 0) d i bs (tables (getD vs i 0)) = record { given = given i (omega arith); index = omega (arith, route .route .route .few); taken = b .taken; flag = b .flag } in
       rw (goes-none goes away, ne-eqb (getD vs i 0) d away, b .leads)
 
   -- the step at the destination delivers

@@ -1,4 +1,5 @@
 pub mod NumberLaws
 pub mod StepLaws
+pub mod NextLaws
 pub mod DeliveryLaws
 pub mod Unique

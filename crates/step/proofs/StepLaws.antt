@@ -23,7 +23,7 @@ use Rattle.room.proofs.RefusalLaws.{pair-of, pair-none}
 use Rattle.path.specs.Walks.{hopTo, hopRefusal}
 use Rattle.path.proofs.NumberLaws.{hop-numbers}
 use Rattle.step.specs.declared.Step.{Step}
-use Rattle.step.specs.Steps.{macAt, portAt, flagAt, givenRefusal, byteRefusal, awayRefusal, stepRefusal, atHop, placed, stopped, noStep, delivery, forwarded, stepAnswer, nextAnswer}
+use Rattle.step.specs.Steps.{macAt, portAt, flagAt, givenRefusal, byteRefusal, awayRefusal, stepRefusal, atHop, withPlace, noNext, noStep, delivery, forwarded, stepAnswer, nextAnswer}
 use Rattle.step.proofs.NumberLaws.{given-numbers}
 
 -- ---- what a step is given
@@ -55,21 +55,21 @@ unfolding atHop
 given-plain s a d bs e = not-true _ (one-passes (λ r. not (atHop r)) refl refl (given-numbers s a d bs e))
 
 -- all of a byte's
-pub hop-placed : (s : Shape) (a b : ℕ) → hopRefusal s a b ≢ 0 → atHop (hopRefusal s a b) ≡ true
+pub hop-at-hop : (s : Shape) (a b : ℕ) → hopRefusal s a b ≢ 0 → atHop (hopRefusal s a b) ≡ true
 unfolding atHop
-hop-placed s a b h = refused-passes atHop refl (hop-numbers s a b) h
+hop-at-hop s a b h = refused-passes atHop refl (hop-numbers s a b) h
 
-pub placed-plain : (i r : ℕ) → atHop r ≡ false → placed i r ≡ plain r
-unfolding placed
-placed-plain i r e = rw e
+pub with-place-plain : (i r : ℕ) → atHop r ≡ false → withPlace i r ≡ plain r
+unfolding withPlace
+with-place-plain i r e = rw e
 
-pub placed-at : (i r : ℕ) → atHop r ≡ true → placed i r ≡ refusedAt r 1 (i + 1)
-unfolding placed
-placed-at i r e = rw e
+pub with-place-at : (i r : ℕ) → atHop r ≡ true → withPlace i r ≡ refusedAt r 1 (i + 1)
+unfolding withPlace
+with-place-at i r e = rw e
 
-pub placed-number : (i r : ℕ) → placed i r .number ≡ r
-unfolding placed
-placed-number i r = go (atHop r)
+pub with-place-number : (i r : ℕ) → withPlace i r .number ≡ r
+unfolding withPlace
+with-place-number i r = go (atHop r)
   where
     go : (t : Bool) → cond t (refusedAt r 1 (i + 1)) (plain r) .number ≡ r
     go true = refl
@@ -86,35 +86,35 @@ module _ (s : Shape) (a d i : ℕ) (bs e : List ℕ) where
   unfolding stepRefusal atHop
   far-plain h = not-true _ (one-passes (λ r. not (atHop r)) refl refl (chain-one _ _ (given-numbers s a d bs e) (far-away h (eqb a d))))
 
-  placed-le : (r : ℕ) → placed i r .hop ≤ i + 1
-  unfolding placed
-  placed-le r = go (atHop r)
+  with-place-le : (r : ℕ) → withPlace i r .hop ≤ i + 1
+  unfolding withPlace
+  with-place-le r = go (atHop r)
     where
       go : (t : Bool) → cond t (refusedAt r 1 (i + 1)) (plain r) .hop ≤ i + 1
       go true = omega arith
       go false = omega arith
 
-  pub hop-le : placed i (stepRefusal s a d i bs e) .hop ≤ 8
+  pub hop-le : withPlace i (stepRefusal s a d i bs e) .hop ≤ 8
   hop-le =
       elim (decLt i 8) [
-        | yes y ↦ omega (arith, placed-le (stepRefusal s a d i bs e))
-        | no y ↦ omega (arith, ap (λ (r : Refusal). r .hop) (placed-plain i (stepRefusal s a d i bs e) (far-plain (omega arith))))
+        | yes y ↦ omega (arith, with-place-le (stepRefusal s a d i bs e))
+        | no y ↦ omega (arith, ap (λ (r : Refusal). r .hop) (with-place-plain i (stepRefusal s a d i bs e) (far-plain (omega arith))))
       ]
 
 -- ---- the chain, way by way
 
 module _ (s : Shape) (a d i : ℕ) (bs e : List ℕ) where
-  stop-at : (q : ℕ) (x : Refusal) → stepRefusal s a d i bs e ≡ q → q ≢ 0 → x ≡ placed i q → stopped x ≡ nextAnswer s a d i bs e
+  stop-at : (q : ℕ) (x : Refusal) → stepRefusal s a d i bs e ≡ q → q ≢ 0 → x ≡ withPlace i q → noNext x ≡ nextAnswer s a d i bs e
   unfolding nextAnswer
   stop-at zero x f h g = absurd (h refl)
   stop-at (suc q) x f h g = rw (f, g)
 
-  pub next-given : (g : ℕ) → g ≡ givenRefusal s a d bs e → g ≢ 0 → stopped (plain g) ≡ nextAnswer s a d i bs e
+  pub next-given : (g : ℕ) → g ≡ givenRefusal s a d bs e → g ≢ 0 → noNext (plain g) ≡ nextAnswer s a d i bs e
   unfolding stepRefusal
-  next-given g f h = stop-at g (plain g) (sym (chain-stops _ _ _ f h)) h (sym (placed-plain i g (ap atHop f ∙ given-plain s a d bs e)))
+  next-given g f h = stop-at g (plain g) (sym (chain-stops _ _ _ f h)) h (sym (with-place-plain i g (ap atHop f ∙ given-plain s a d bs e)))
 
   module _ (given : 0 ≡ givenRefusal s a d bs e) where
-    pub next-here : a ≡ d → stopped none ≡ nextAnswer s a d i bs e
+    pub next-here : a ≡ d → noNext none ≡ nextAnswer s a d i bs e
     unfolding nextAnswer stepRefusal _or-else_
     next-here h = rw (← given, eq-eqb a d h)
 
@@ -123,26 +123,26 @@ module _ (s : Shape) (a d i : ℕ) (bs e : List ℕ) where
       unfolding stepRefusal _or-else_
       chain = rw (← given, ne-eqb a d away)
 
-      pub next-eighteen : 8 ≤ i → stopped (plain 18) ≡ nextAnswer s a d i bs e
+      pub next-eighteen : 8 ≤ i → noNext (plain 18) ≡ nextAnswer s a d i bs e
       unfolding awayRefusal _or-else_ atHop
-      next-eighteen h = stop-at 18 (plain 18) (chain ∙ rw (le-ltb i 8 h)) (λ z. omega arith) (sym (placed-plain i 18 refl))
+      next-eighteen h = stop-at 18 (plain 18) (chain ∙ rw (le-ltb i 8 h)) (λ z. omega arith) (sym (with-place-plain i 18 refl))
 
       module _ (index : i < 8) where
         byte-chain : stepRefusal s a d i bs e ≡ byteRefusal s a e (getD bs i 0)
         unfolding awayRefusal _or-else_
         byte-chain = chain ∙ rw (lt-ltb i 8 index)
 
-        pub next-hop : (r : ℕ) → r ≡ hopRefusal s a (getD bs i 0) → r ≢ 0 → stopped (refusedAt r 1 (i + 1)) ≡ nextAnswer s a d i bs e
+        pub next-hop : (r : ℕ) → r ≡ hopRefusal s a (getD bs i 0) → r ≢ 0 → noNext (refusedAt r 1 (i + 1)) ≡ nextAnswer s a d i bs e
         unfolding byteRefusal
         next-hop r f h =
             stop-at r (refusedAt r 1 (i + 1)) (byte-chain ∙ sym (chain-stops _ _ _ f h)) h
-            (sym (placed-at i r (ap atHop f ∙ hop-placed s a (getD bs i 0) (λ z. h (f ∙ z)))))
+            (sym (with-place-at i r (ap atHop f ∙ hop-at-hop s a (getD bs i 0) (λ z. h (f ∙ z)))))
 
         module _ (taken : hopRefusal s a (getD bs i 0) ≡ 0) where
-          pub next-closed : flagAt e (getD bs i 0) ≢ 1 → stopped (refusedAt 19 1 (i + 1)) ≡ nextAnswer s a d i bs e
+          pub next-closed : flagAt e (getD bs i 0) ≢ 1 → noNext (refusedAt 19 1 (i + 1)) ≡ nextAnswer s a d i bs e
           unfolding byteRefusal _or-else_ atHop
           next-closed h =
-              stop-at 19 (refusedAt 19 1 (i + 1)) (byte-chain ∙ rw (taken, ne-eqb (flagAt e (getD bs i 0)) 1 h)) (λ z. omega arith) (sym (placed-at i 19 refl))
+              stop-at 19 (refusedAt 19 1 (i + 1)) (byte-chain ∙ rw (taken, ne-eqb (flagAt e (getD bs i 0)) 1 h)) (λ z. omega arith) (sym (with-place-at i 19 refl))
 
           pub next-goes : (x : ℕ) → flagAt e (getD bs i 0) ≡ 1 → x ≡ hopTo s a (getD bs i 0) → aNumber x ≡ nextAnswer s a d i bs e
           unfolding nextAnswer byteRefusal _or-else_
@@ -150,24 +150,16 @@ module _ (s : Shape) (a d i : ℕ) (bs e : List ℕ) where
               let z : stepRefusal s a d i bs e ≡ 0 = byte-chain ∙ rw (taken, eq-eqb (flagAt e (getD bs i 0)) 1 h) in
               rw (z, ne-eqb a d away, g)
 
--- as the program has them: what it found, and by which tests it came there
-module _ (s : Shape) (a d i : ℕ) (bs e : List ℕ) (g : ℕ) (r : Refusal) (x : Number) (found : g ≡ givenRefusal s a d bs e) (passed : g ≡ 0) (made : x ≡ stopped r) where
-  pub arrives : a ≡ d → r ≡ none → x ≡ nextAnswer s a d i bs e
-  arrives h f = made ∙ ap stopped f ∙ next-here s a d i bs e (sym passed ∙ found) h
-
-  pub too-far : a ≢ d → 8 ≤ i → r ≡ plain 18 → x ≡ nextAnswer s a d i bs e
-  too-far away h f = made ∙ ap stopped f ∙ next-eighteen s a d i bs e (sym passed ∙ found) away h
-
 -- ---- what no refusal tells
 
 -- a step that is not refused, away from the destination: it goes by this byte
-pub record Goes (s : Shape) (a d i : ℕ) (bs e : List ℕ) : Type 0 where
+pub record GoesBy (s : Shape) (a d i : ℕ) (bs e : List ℕ) : Type 0 where
   pub given : Given s a d bs e
   pub index : i < 8
   pub taken : hopRefusal s a (getD bs i 0) ≡ 0
   pub flag : flagAt e (getD bs i 0) ≡ 1
 
-pub goes-of : (s : Shape) (a d i : ℕ) (bs e : List ℕ) → stepRefusal s a d i bs e ≡ 0 → a ≢ d → Goes s a d i bs e
+pub goes-of : (s : Shape) (a d i : ℕ) (bs e : List ℕ) → stepRefusal s a d i bs e ≡ 0 → a ≢ d → GoesBy s a d i bs e
 unfolding stepRefusal awayRefusal byteRefusal
 goes-of s a d i bs e z away =
     let b = getD bs i 0 in
@@ -177,7 +169,7 @@ goes-of s a d i bs e z away =
     let v = or-else-zero (hopRefusal s a b) (19 unless eqb (flagAt e b) 1) (w .1) in
     record { given = given-of s a d bs e (x .0); index = ltb-true i 8 (test-held _ 17 (w .0)); taken = v .0; flag = eqb-true (flagAt e b) 1 (test-held _ 18 (v .1)) }
 
-pub goes-none : {s : Shape} {a d i : ℕ} {bs e : List ℕ} → Goes s a d i bs e → a ≢ d → stepRefusal s a d i bs e ≡ 0
+pub goes-none : {s : Shape} {a d i : ℕ} {bs e : List ℕ} → GoesBy s a d i bs e → a ≢ d → stepRefusal s a d i bs e ≡ 0
 unfolding byteRefusal _or-else_
 goes-none {s} {a} {d} {i} {bs} {e} h away =
     byte-chain s a d i bs e (given-none (h .given)) away (h .index) ∙ rw (h .taken, eq-eqb (flagAt e (getD bs i 0)) 1 (h .flag))
@@ -188,13 +180,13 @@ module _ (s : Shape) (a d i : ℕ) (bs e : List ℕ) (x : Number) (found : x ≡
   pub next-none : x .refusal .number ≡ 0 → (stepRefusal s a d i bs e ≡ 0) × (x ≡ aNumber (cond (eqb a d) 0 (hopTo s a (getD bs i 0))))
   unfolding nextAnswer
   next-none z =
-      answered (λ (y : Number). y .refusal .number) (λ r. stopped (placed i r)) (placed-number i) (stepRefusal s a d i bs e) x _ found z
+      answered (λ (y : Number). y .refusal .number) (λ r. noNext (withPlace i r)) (with-place-number i) (stepRefusal s a d i bs e) x _ found z
 
   pub step-refused : x .refusal .number ≢ 0 → noStep (x .refusal) ≡ stepAnswer s a d i bs e
   unfolding nextAnswer stepAnswer
   step-refused h = go (stepRefusal s a d i bs e) found
     where
-      go : (q : ℕ) → x ≡ answer q (λ r. stopped (placed i r)) (aNumber (cond (eqb a d) 0 (hopTo s a (getD bs i 0)))) → noStep (x .refusal) ≡ answer q (λ r. noStep (placed i r)) (cond (eqb a d) delivery (forwarded s a i e (getD bs i 0)))
+      go : (q : ℕ) → x ≡ answer q (λ r. noNext (withPlace i r)) (aNumber (cond (eqb a d) 0 (hopTo s a (getD bs i 0)))) → noStep (x .refusal) ≡ answer q (λ r. noStep (withPlace i r)) (cond (eqb a d) delivery (forwarded s a i e (getD bs i 0)))
       go zero f = absurd (h (ap (λ (y : Number). y .refusal .number) f))
       go (suc q) f = ap (λ (y : Number). noStep (y .refusal)) f
 
@@ -204,7 +196,7 @@ module _ (s : Shape) (a d i : ℕ) (bs e : List ℕ) (x : Number) (found : x ≡
     step-here h = rw (next-none z .0, eq-eqb a d h)
 
     module _ (away : a ≢ d) where
-      pub step-facts : Goes s a d i bs e
+      pub step-facts : GoesBy s a d i bs e
       step-facts = goes-of s a d i bs e (next-none z .0) away
 
       pub step-next : x .value ≡ hopTo s a (getD bs i 0)

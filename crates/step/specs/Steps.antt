@@ -60,11 +60,12 @@ unfoldable pub atHop : ℕ → Bool
 atHop r = eqb r 8 || eqb r 9 || eqb r 10 || eqb r 19
 
 -- a step's refusal with its place: route 1 and hop i + 1, or zeros
-unfoldable pub placed : ℕ → ℕ → Refusal
-placed i r = cond (atHop r) (refusedAt r 1 (i + 1)) (plain r)
+unfoldable pub withPlace : ℕ → ℕ → Refusal
+withPlace i r = cond (atHop r) (refusedAt r 1 (i + 1)) (plain r)
 
-abbrev pub stopped : Refusal → Number
-stopped r = record { refusal = r; value = 0 }
+-- no next server, refused or delivered
+abbrev pub noNext : Refusal → Number
+noNext r = record { refusal = r; value = 0 }
 
 -- a step that goes nowhere, refused or delivered: all else is zero
 abbrev pub standing : Refusal → Bool → Step
@@ -82,9 +83,9 @@ forwarded s a i e b = record { refusal = none; delivered = false; next = hopTo s
 
 unfoldable pub stepAnswer : Shape → ℕ → ℕ → ℕ → List ℕ → List ℕ → Step
 stepAnswer s a d i bs e =
-    answer (stepRefusal s a d i bs e) (λ r. noStep (placed i r)) (cond (eqb a d) delivery (forwarded s a i e (getD bs i 0)))
+    answer (stepRefusal s a d i bs e) (λ r. noStep (withPlace i r)) (cond (eqb a d) delivery (forwarded s a i e (getD bs i 0)))
 
 -- the next server, which is 0 at a delivery
 unfoldable pub nextAnswer : Shape → ℕ → ℕ → ℕ → List ℕ → List ℕ → Number
 nextAnswer s a d i bs e =
-    answer (stepRefusal s a d i bs e) (λ r. stopped (placed i r)) (aNumber (cond (eqb a d) 0 (hopTo s a (getD bs i 0))))
+    answer (stepRefusal s a d i bs e) (λ r. noNext (withPlace i r)) (aNumber (cond (eqb a d) 0 (hopTo s a (getD bs i 0))))

@@ -1,6 +1,6 @@
 // The next server.
 ghost use mathlib.Core.Path.{_≡_};
-ghost use Rattle.step.specs.Steps.{stopped, nextAnswer};
+ghost use Rattle.step.specs.Steps.{noNext, nextAnswer};
 use crate::Step;
 use crate::tests::given_refusal;
 use path::hop_of;
@@ -9,7 +9,7 @@ use room::Number;
 use room::Shape;
 
 fn stop(refusal: Refusal) -> Number
-    ensures { λ r. ⌜ r ≡ stopped refusal ⌝ }
+    ensures { λ r. ⌜ r ≡ noNext refusal ⌝ }
 {
     Number { refusal, value: 0 }
 }

@@ -19,7 +19,7 @@ use Rattle.path.specs.Answers.{walkAnswer}
 use Rattle.path.specs.Routes.{switchesOf, switchTo}
 use Rattle.path.proofs.CodecLaws.{walk-given, walk-exactly}
 use Rattle.verdict.specs.Checks.{arrays, firstStop, firstPair, firstOf, listRefusal, walksOf}
-use Rattle.verdict.specs.Arrived.{nowhere, Arrived, AllArrived}
+use Rattle.verdict.specs.Arrived.{pastEnd, Arrived, AllArrived}
 use Rattle.verdict.proofs.AcceptLaws.{arrays-long}
 use Rattle.verdict.proofs.LengthLaws.{list-few}
 use Rattle.verdict.proofs.ScanLaws.{first-right}
@@ -54,10 +54,10 @@ module _ (s : Shape) (t : List ℕ) (a d : ℕ) (bs : List ℕ) where
   unfolding walksOf
   W-long = length-map (arrays (length bs / 8) bs) (walkAnswer s t a d) ∙ arrays-long (length bs / 8) bs
 
-  W-at : (i : ℕ) → i < length bs / 8 → getD W i nowhere ≡ walkAnswer s t a d (take 8 (drop (8 * i) bs))
+  W-at : (i : ℕ) → i < length bs / 8 → getD W i pastEnd ≡ walkAnswer s t a d (take 8 (drop (8 * i) bs))
   unfolding walksOf
   W-at i h =
-      map-at (walkAnswer s t a d) [] nowhere (arrays (length bs / 8) bs) i (rw (arrays-long (length bs / 8) bs) h)
+      map-at (walkAnswer s t a d) [] pastEnd (arrays (length bs / 8) bs) i (rw (arrays-long (length bs / 8) bs) h)
       ∙ ap (walkAnswer s t a d) (arrays-at (length bs / 8) i bs h)
 
   -- the first i arrays have been walked, and none was refused
@@ -84,7 +84,7 @@ module _ (s : Shape) (t : List ℕ) (a d : ℕ) (bs : List ℕ) where
 
     cut : drop i W ≡ w ∷ drop (i + 1) W
     cut =
-        left W i nowhere (rw W-long more)
+        left W i pastEnd (rw W-long more)
         ∙ ap (λ (x : Walked). x ∷ drop (i + 1) W) (W-at i more ∙ sym e)
 
     -- a refused array is the answer
@@ -105,15 +105,15 @@ module _ (s : Shape) (t : List ℕ) (a d : ℕ) (bs : List ℕ) where
           same =
               rw add-one
               (take-suc-set walks i w l ∙ ap (λ (x : List Walked). x ++ (w ∷ [])) (g .same)
-              ∙ sym (take-suc W i nowhere (rw W-long more) ∙ ap (λ (x : Walked). take i W ++ (x ∷ [])) (W-at i more ∙ sym e)));
+              ∙ sym (take-suc W i pastEnd (rw W-long more) ∙ ap (λ (x : Walked). take i W ++ (x ∷ [])) (W-at i more ∙ sym e)));
           rest = sym (rw (cut, eq-eqb (w .refusal .number) 0 n)) ∙ g .rest;
         }
       where
-        at : i < length walks → (j : ℕ) → j < i + 1 → Arrived (getD (set walks i w) j nowhere)
+        at : i < length walks → (j : ℕ) → j < i + 1 → Arrived (getD (set walks i w) j pastEnd)
         at l j p =
             elim (decLt j i) [
-              | yes y ↦ rw (getD-set-other walks i j w nowhere (λ q. omega arith)) (g .arrived .each j y)
-              | no y ↦ let q : j ≡ i = omega arith in rw (q, getD-set-same walks i w nowhere l) (arrived-of s t a d _ w e n)
+              | yes y ↦ rw (getD-set-other walks i j w pastEnd (λ q. omega arith)) (g .arrived .each j y)
+              | no y ↦ let q : j ≡ i = omega arith in rw (q, getD-set-same walks i w pastEnd l) (arrived-of s t a d _ w e n)
             ]
 
   -- after the last, every two are held against each other

@@ -13,7 +13,7 @@ use Rattle.refusals.specs.declared.Refusal.{Refusal}
 use Rattle.refusals.specs.Refusals.{none, refusedAt}
 use Rattle.path.specs.declared.Walked.{Walked}
 use Rattle.verdict.specs.Checks.{disjoint, switchesIn, between, parallel, firstMeeting, firstPair, firstOf}
-use Rattle.verdict.specs.Arrived.{nowhere, Arrived, AllArrived}
+use Rattle.verdict.specs.Arrived.{pastEnd, Arrived, AllArrived}
 
 -- ---- from place j on: what is left there is the whole answer
 
@@ -57,17 +57,17 @@ parallel-by u v hu hv r q e f g =
 -- ---- one walked array against those after it
 
 -- place j of the first m
-from : (j m : ℕ) (ws : List Walked) → j < m → m ≤ length ws → drop j (take m ws) ≡ getD ws j nowhere ∷ drop (j + 1) (take m ws)
+from : (j m : ℕ) (ws : List Walked) → j < m → m ≤ length ws → drop j (take m ws) ≡ getD ws j pastEnd ∷ drop (j + 1) (take m ws)
 from j m ws h l =
-    left (take m ws) j nowhere (rw (length-take-le m ws l) h)
-    ∙ ap (λ (x : Walked). x ∷ drop (j + 1) (take m ws)) (getD-take m ws j nowhere h)
+    left (take m ws) j pastEnd (rw (length-take-le m ws l) h)
+    ∙ ap (λ (x : Walked). x ∷ drop (j + 1) (take m ws)) (getD-take m ws j pastEnd h)
 
 past : (j m : ℕ) (ws : List Walked) → m ≤ j → drop j (take m ws) ≡ []
 past j m ws h = let e : length (take m ws) ≤ j = omega (arith, length-take m ws) in drop-of-length-le (take m ws) e
 
 -- the arrays after place i, from place j on
 module _ (w : Walked) (i j m : ℕ) (ws : List Walked) (e : firstMeeting w (j + 1) (drop j (take m ws)) ≡ firstMeeting w (i + 1 + 1) (drop (i + 1) (take m ws))) where
-  module _ (r : Bool) (f : r ≡ parallel w (getD ws j nowhere)) (p : AllArrived m ws) (q : m ≤ 4) (h : j < m) where
+  module _ (r : Bool) (f : r ≡ parallel w (getD ws j pastEnd)) (p : AllArrived m ws) (q : m ≤ 4) (h : j < m) where
     meets : firstMeeting w (j + 1) (drop j (take m ws)) ≡ cond r (firstMeeting w (j + 1 + 1) (drop (j + 1) (take m ws))) (refusedAt 15 (j + 1) 0)
     unfolding firstMeeting
     meets = rw (from j m ws h (omega (arith, p .long)), ← f)
@@ -94,7 +94,7 @@ first-right r q h = rw (eq-eqb (r .number) 0 h)
 
 -- the pairs from place j on
 module _ (j m : ℕ) (ws : List Walked) (e : firstPair (j + 1) (drop j (take m ws)) ≡ firstPair 1 (take m ws)) where
-  module _ (r : Refusal) (f : r ≡ firstMeeting (getD ws j nowhere) (j + 1 + 1) (drop (j + 1) (take m ws))) (p : AllArrived m ws) (q : m ≤ 4) (h : j < m) where
+  module _ (r : Refusal) (f : r ≡ firstMeeting (getD ws j pastEnd) (j + 1 + 1) (drop (j + 1) (take m ws))) (p : AllArrived m ws) (q : m ≤ 4) (h : j < m) where
     pair-at : firstOf r (firstPair (j + 1 + 1) (drop (j + 1) (take m ws))) ≡ firstPair 1 (take m ws)
     unfolding firstPair
     pair-at = rw (from j m ws h (omega (arith, p .long)), ← f) at e
@@ -109,5 +109,5 @@ module _ (j m : ℕ) (ws : List Walked) (e : firstPair (j + 1) (drop j (take m w
   unfolding firstPair
   pair-end h g = g ∙ rw (past j m ws h) at e
 
-pub arrived-at : (m i : ℕ) (ws : List Walked) → AllArrived m ws → i < m → Arrived (getD ws i nowhere)
+pub arrived-at : (m i : ℕ) (ws : List Walked) → AllArrived m ws → i < m → Arrived (getD ws i pastEnd)
 arrived-at m i ws p h = p .each i h

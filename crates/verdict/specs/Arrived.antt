@@ -7,8 +7,8 @@ use Rattle.refusals.specs.Refusals.{none}
 use Rattle.path.specs.declared.Walked.{Walked}
 
 -- what stands past the end of an array of them
-abbrev pub nowhere : Walked
-nowhere = record { refusal = none; count = 0; servers = []; switches = [] }
+abbrev pub pastEnd : Walked
+pastEnd = record { refusal = none; count = 0; servers = []; switches = [] }
 
 pub record Arrived (w : Walked) : Type 0 where
   pub some : 2 ≤ w .count
@@ -18,4 +18,4 @@ pub record Arrived (w : Walked) : Type 0 where
 
 pub record AllArrived (m : ℕ) (ws : List Walked) : Type 0 where
   pub long : length ws ≡ 4
-  pub each : (i : ℕ) → i < m → Arrived (getD ws i nowhere)
+  pub each : (i : ℕ) → i < m → Arrived (getD ws i pastEnd)

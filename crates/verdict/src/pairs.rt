@@ -3,7 +3,7 @@ ghost use mathlib.Core.Path.{_≡_};
 ghost use Prim.Native.Nat.{_≤_, _<_, _+_};
 ghost use lib.ListN.{take, drop, getD};
 ghost use Rattle.verdict.specs.Checks.{parallel, firstMeeting, firstPair};
-ghost use Rattle.verdict.specs.Arrived.{Arrived, AllArrived, nowhere};
+ghost use Rattle.verdict.specs.Arrived.{Arrived, AllArrived, pastEnd};
 use crate::shares::are_disjoint;
 use path::Walked;
 use refusals::Refusal;
@@ -28,7 +28,7 @@ fn are_parallel(one: Walked, other: Walked) -> bool
 // The first of the walked arrays after place i that is not parallel to the one at i: 15.
 fn first_meeting(walks: [Walked; 4], count: usize, i: usize) -> Refusal
     requires { ⌜ (count ≤ 4) × (i < count) × AllArrived count walks ⌝ }
-    ensures { λ r. ⌜ r ≡ firstMeeting (getD walks i nowhere) (i + 1 + 1) (drop (i + 1) (take count walks)) ⌝ }
+    ensures { λ r. ⌜ r ≡ firstMeeting (getD walks i pastEnd) (i + 1 + 1) (drop (i + 1) (take count walks)) ⌝ }
 {
     let one = walks[i];
     let mut j = i + 1;

@@ -27,7 +27,7 @@ use Rattle.path.specs.Bytes.{madeRefusal, byteAnswer, partsRefusal, partsAnswer
 use Rattle.path.specs.Answers.{arrayRefusal, walkAnswer, readAnswer, reverseAnswer, serversRefusal, writeRefusal, onTheWay, writeAnswer}
 use Rattle.verdict.specs.Checks.{arrays, disjoint, switchesIn, between, parallel, firstStop, firstMeeting, firstOf, firstPair, listRefusal, walksOf, checkAnswer}
 use Rattle.build.specs.Built.{plusOne, builtHops, bytesOf as builtBytesOf, builtBytes, builtArrays}
-use Rattle.build.specs.Sets.{joined, setOf, arrayAt}
+use Rattle.build.specs.Sets.{joined, setOf, arrayIn}
 use Rattle.build.specs.Answers.{buildAnswer}
 use Rattle.finder.specs.declared.Found.{Found}
 use Rattle.finder.specs.Alternates.{hopBytes, Before}
@@ -35,9 +35,9 @@ use Rattle.finder.specs.Answers.{Finding}
 use Rattle.select.specs.declared.Selection.{Selection}
 use Rattle.select.specs.Selection.{Selecting}
 use Rattle.select.proofs.SelectLaws.{none-selected-exactly}
-use Rattle.pick.specs.Picks.{usable, firstUsable, firstIn, found, fits, listsRefusal, pickSource, pickRefusal}
+use Rattle.pick.specs.Picks.{usable, firstUsable, firstUsableIn, found, fits, listsRefusal, pickSource, pickRefusal}
 use Rattle.pick.specs.Places.{placeAnswer}
-use Rattle.step.specs.Steps.{entry, macAt, portAt, flagAt, givenRefusal, byteRefusal, awayRefusal, stepRefusal, atHop, placed, stepAnswer}
+use Rattle.step.specs.Steps.{entry, macAt, portAt, flagAt, givenRefusal, byteRefusal, awayRefusal, stepRefusal, atHop, withPlace, stepAnswer}
 use Rattle.driver.specs.declared.Room.{Room}
 use Rattle.driver.specs.declared.Answer.{Answer}
 use Rattle.driver.specs.declared.Stepped.{Stepped}
@@ -107,7 +107,7 @@ dead-end {s} {t} {a} {d} h vs r =
 
 -- the first array of what selection writes, 00 to 13 of (4,1) with server 03 dead
 first-array : {w : Answer} {lent routes : List ℕ} → SelectedWord (fullRoom 4 1) (failing 3 3) 0 7 w lent routes → take 8 routes ≡ direct
-unfolding arrayAt
+unfolding arrayIn
 first-array {w} {lent} x =
     let k = slot-1-first (x .selecting) in
     ap (take 8) (x .leaves ∙ sym (left-given (x .answer .refusal .number) lent (x .answer .routes .bytes) (k .0))) ∙ k .1
@@ -134,7 +134,7 @@ refused-16 {r} h z =
 -- ---- all of them
 
 pub wrong-driver : (o q b : Loan) → Driver o q b
-unfolding serversOf bound digitsOf addressOf filled differFrom digits digit withDigit switchOf differing _or-else_ shapeRefusal levelRefusal serverRefusal pairRefusal linkRefusal valueRefusal placeBound placesFit placesRefusal serversAnswer boundAnswer digitsAnswer digitAnswer addressAnswer switchAnswer neighbourAnswer betweenAnswer links.bit links.failed links.live links.withBit links.changed links.bitsFit links.fitsLevels links.tableRefusal links.tableLinkRefusal failedAnswer linkAnswer changedTable isIn inTurn middle byteOf switchAt levelTo switchTo byteTo encode hopTo hopRefusal fault ended walkFrom walk writeFault writeFrom endsRefusal arrayRefusal walkAnswer readAnswer reverseAnswer serversRefusal writeRefusal onTheWay writeAnswer arrays disjoint switchesIn between parallel firstStop firstMeeting firstOf firstPair roomRefusal listRefusal walksOf checkAnswer plusOne builtHops builtBytesOf builtBytes builtArrays joined setOf arrayAt buildAnswer hopBytes usable firstUsable firstIn found fits listsRefusal pickSource pickRefusal placeAnswer entry macAt portAt flagAt givenRefusal byteRefusal awayRefusal stepRefusal atHop placed stepAnswer switchesAt serverAt portRefusal switchesAnswer serverAtAnswer tableServerRefusal allBits serverAnswer markedServer clearedServer madeRefusal byteAnswer partsRefusal partsAnswer held roomOf shapeIn word refusalIn valueIn betweenWord askedWord bytesNumber macNumber stepWord packed
+unfolding serversOf bound digitsOf addressOf filled differFrom digits digit withDigit switchOf differing _or-else_ shapeRefusal levelRefusal serverRefusal pairRefusal linkRefusal valueRefusal placeBound placesFit placesRefusal serversAnswer boundAnswer digitsAnswer digitAnswer addressAnswer switchAnswer neighbourAnswer betweenAnswer links.bit links.failed links.live links.withBit links.changed links.bitsFit links.fitsLevels links.tableRefusal links.tableLinkRefusal failedAnswer linkAnswer changedTable isIn inTurn middle byteOf switchAt levelTo switchTo byteTo encode hopTo hopRefusal fault ended walkFrom walk writeFault writeFrom endsRefusal arrayRefusal walkAnswer readAnswer reverseAnswer serversRefusal writeRefusal onTheWay writeAnswer arrays disjoint switchesIn between parallel firstStop firstMeeting firstOf firstPair roomRefusal listRefusal walksOf checkAnswer plusOne builtHops builtBytesOf builtBytes builtArrays joined setOf arrayIn buildAnswer hopBytes usable firstUsable firstUsableIn found fits listsRefusal pickSource pickRefusal placeAnswer entry macAt portAt flagAt givenRefusal byteRefusal awayRefusal stepRefusal atHop withPlace stepAnswer switchesAt serverAt portRefusal switchesAnswer serverAtAnswer tableServerRefusal allBits serverAnswer markedServer clearedServer madeRefusal byteAnswer partsRefusal partsAnswer held roomOf shapeIn word refusalIn valueIn betweenWord askedWord bytesNumber macNumber stepWord packed
 wrong-driver o q b =
     record {
       version-in-bytes = clash (λ y. y) refl;

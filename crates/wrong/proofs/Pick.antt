@@ -17,7 +17,7 @@ use Rattle.path.specs.Walks.{hopTo, hopRefusal, fault, ended, walkFrom, walk}
 use Rattle.path.specs.Answers.{arrayRefusal, walkAnswer}
 use Rattle.verdict.specs.Checks.{arrays, disjoint, switchesIn, between, parallel, firstStop, firstMeeting, firstOf, firstPair, listRefusal, walksOf, checkAnswer}
 use Rattle.pick.specs.declared.Place.{Place}
-use Rattle.pick.specs.Picks.{usable, firstUsable, firstIn, found, fits, listsRefusal, pickSource, pickRefusal, pickAnswer, liesAt}
+use Rattle.pick.specs.Picks.{usable, firstUsable, firstUsableIn, found, fits, listsRefusal, pickSource, pickRefusal, pickAnswer, liesAt}
 use Rattle.pick.specs.Places.{placeAnswer}
 use Rattle.wrong.specs.Never.{Loan}
 use Rattle.wrong.specs.Pick.{Pick}
@@ -28,7 +28,7 @@ at-start : {p : ℕ × ℕ} (q : ℕ × ℕ) → p ≡ liesAt 0 q → p ≡ q
 at-start q e = let z : 8 * 0 + q .1 ≡ q .1 = omega arith in e ∙ ap (λ (m : ℕ). (q .0, m)) z
 
 pub wrong-pick : (o f k : Loan) → Pick o f k
-unfolding serversOf bound digitsOf addressOf digits digit withDigit switchOf _or-else_ shapeRefusal serverRefusal pairRefusal bit failed live bitsFit fitsLevels tableRefusal isIn middle filled switchAt hopTo hopRefusal fault ended walkFrom walk endsRefusal arrayRefusal walkAnswer arrays disjoint switchesIn between parallel firstStop firstMeeting firstOf firstPair roomRefusal listRefusal walksOf checkAnswer usable firstUsable firstIn found fits listsRefusal pickSource pickRefusal pickAnswer placeAnswer
+unfolding serversOf bound digitsOf addressOf digits digit withDigit switchOf _or-else_ shapeRefusal serverRefusal pairRefusal bit failed live bitsFit fitsLevels tableRefusal isIn middle filled switchAt hopTo hopRefusal fault ended walkFrom walk endsRefusal arrayRefusal walkAnswer arrays disjoint switchesIn between parallel firstStop firstMeeting firstOf firstPair roomRefusal listRefusal walksOf checkAnswer usable firstUsable firstUsableIn found fits listsRefusal pickSource pickRefusal pickAnswer placeAnswer
 wrong-pick o f k =
     record {
       kept-before-fresh = λ p κ x e. differ (λ (y : List ℕ). getD y 0 0) refl (e .0);

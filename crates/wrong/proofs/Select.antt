@@ -20,7 +20,7 @@ use Rattle.path.specs.Answers.{arrayRefusal, walkAnswer}
 use Rattle.verdict.specs.Checks.{arrays, disjoint, switchesIn, between, parallel, firstStop, firstMeeting, firstOf, firstPair, listRefusal, walksOf, checkAnswer}
 use Rattle.build.specs.declared.RouteSet.{RouteSet}
 use Rattle.build.specs.Built.{plusOne, builtHops, metBy, builtRoute}
-use Rattle.build.specs.Sets.{joined, setOf, arrayAt}
+use Rattle.build.specs.Sets.{joined, setOf, arrayIn}
 use Rattle.laying.specs.Avoids.{Avoids}
 use Rattle.finder.specs.Alternates.{hopBytes, Before}
 use Rattle.select.specs.declared.Selection.{Selection}
@@ -65,11 +65,11 @@ module _ {s : Shape} {t : List ℕ} {a d : ℕ} {r : Selection} (h : Selecting s
   counted = ap (λ (x : RouteSet). x .count) (given .written) ∙ set-count s (given .routes)
 
   -- each the one that its array walks to
-  route-at : (i : ℕ) → i < r .routes .count → {us ws : List ℕ} → walk s t a d (arrayAt i (r .routes)) ≡ arrived us ws → getD (given .routes) i [] ≡ us
+  route-at : (i : ℕ) → i < r .routes .count → {us ws : List ℕ} → walk s t a d (arrayIn i (r .routes)) ≡ arrived us ws → getD (given .routes) i [] ≡ us
   route-at i p w =
       let q : i < length (given .routes) = omega (arith, counted) in
       same-route (given .settled .each _ (member-at (given .routes) i q))
-      (ap (arrayAt i) (given .written) ∙ route-array s (given .routes) (λ vs m. given .settled .each vs m .route .few) i q) w
+      (ap (arrayIn i) (given .written) ∙ route-array s (given .routes) (λ vs m. given .settled .each vs m .route .few) i q) w
 
 -- slot 0 gives g after what slot 1 keeps, its built route, and the two are all these routes
 abbrev After : List ℕ → ℕ → ℕ → List (List ℕ) → List (List ℕ) → Type 0
@@ -116,7 +116,7 @@ module _ {r : Selection} (h : Selecting (fullRoom 4 1) (failing 3 3) 0 7 r) (n :
       go (v ∷ g) k = omega (arith, counted h n, ap length (k .1))
 
   -- and none comes before it
-  not-first : {us ws : List ℕ} → r .routes .count ≡ 2 → walk (fullRoom 4 1) (failing 3 3) 0 7 (arrayAt 1 (r .routes)) ≡ arrived us ws → Before (fullRoom 4 1) (0 ∷ 1 ∷ 9 ∷ 11 ∷ 7 ∷ []) us → ⊥
+  not-first : {us ws : List ℕ} → r .routes .count ≡ 2 → walk (fullRoom 4 1) (failing 3 3) 0 7 (arrayIn 1 (r .routes)) ≡ arrived us ws → Before (fullRoom 4 1) (0 ∷ 1 ∷ 9 ∷ 11 ∷ 7 ∷ []) us → ⊥
   not-first {us} c w b = let k = after h n unbroken in go (k .0) (k .1)
     where
       go : (g : List (List ℕ)) → After (failing 3 3) 0 7 (given h n .routes) g → ⊥
@@ -127,7 +127,7 @@ module _ {r : Selection} (h : Selecting (fullRoom 4 1) (failing 3 3) 0 7 r) (n :
       go (v ∷ x ∷ g) k = omega (arith, counted h n, ap length (k .1))
 
 -- slot 1 keeps its route, which comes first
-pub slot-1-first : {r : Selection} → Selecting (fullRoom 4 1) (failing 3 3) 0 7 r → (r .refusal .number ≡ 0) × (arrayAt 0 (r .routes) ≡ direct)
+pub slot-1-first : {r : Selection} → Selecting (fullRoom 4 1) (failing 3 3) 0 7 r → (r .refusal .number ≡ 0) × (arrayIn 0 (r .routes) ≡ direct)
 unfolding serversOf bound digitsOf digits digit _or-else_ shapeRefusal serverRefusal pairRefusal bitsFit fitsLevels tableRefusal endsRefusal roomRefusal filled inTurn byteOf byteTo levelTo differing differFrom encode
 slot-1-first {r} h = (number, first)
   where
@@ -139,11 +139,11 @@ slot-1-first {r} h = (number, first)
         let q = ap (λ (x : List (List ℕ)). x ++ c .slots .2 .0) (slot-unique (kept unbroken) (c .slots .1)) ∙ c .slots .2 .2 in
         ap (λ (x : Selection). x .refusal .number) (c .answer ∙ ap (selection (fullRoom 4 1)) (sym q))
 
-    first : arrayAt 0 (r .routes) ≡ direct
+    first : arrayIn 0 (r .routes) ≡ direct
     first =
         let g = given h number in
         let k = after h number unbroken in
-        ap (arrayAt 0) (g .written)
+        ap (arrayIn 0) (g .written)
         ∙ route-array (fullRoom 4 1) (g .routes) (λ vs m. g .settled .each vs m .route .few) 0 (omega (arith, ap length (k .1 .1)))
         ∙ ap (λ (x : List (List ℕ)). encode (fullRoom 4 1) (getD x 0 [])) (sym (k .1 .1))
         ∙ ap (encode (fullRoom 4 1)) (built .0)
@@ -160,7 +160,7 @@ detours = (
 )
 
 -- each slot gives a route
-two-routes : {r : Selection} (h : Selecting (fullRoom 4 1) bothBroken 0 7 r) (n : r .refusal .number ≡ 0) {ws : List ℕ} → r .routes .count ≡ 1 → walk (fullRoom 4 1) bothBroken 0 7 (arrayAt 0 (r .routes)) ≡ arrived (0 ∷ 8 ∷ 9 ∷ 5 ∷ 7 ∷ []) ws → ⊥
+two-routes : {r : Selection} (h : Selecting (fullRoom 4 1) bothBroken 0 7 r) (n : r .refusal .number ≡ 0) {ws : List ℕ} → r .routes .count ≡ 1 → walk (fullRoom 4 1) bothBroken 0 7 (arrayIn 0 (r .routes)) ≡ arrived (0 ∷ 8 ∷ 9 ∷ 5 ∷ 7 ∷ []) ws → ⊥
 unfolding avoided disjoint isIn middle
 two-routes h n c w = let k = given h n .slots in go (k .0) (k .2 .0) (k .1) (k .2 .1) (k .2 .2)
   where
@@ -177,7 +177,7 @@ two-routes h n c w = let k = given h n .slots in go (k .0) (k .2 .0) (k .1) (k .
 -- ---- all of them
 
 pub wrong-select : (o : Loan) → Select o
-unfolding serversOf bound digitsOf addressOf differFrom digits digit withDigit switchOf differing _or-else_ shapeRefusal serverRefusal pairRefusal bit failed live bitsFit fitsLevels tableRefusal isIn inTurn middle filled byteOf switchAt levelTo byteTo hopTo hopRefusal fault ended walkFrom walk endsRefusal arrayRefusal walkAnswer arrays disjoint switchesIn between parallel firstStop firstMeeting firstOf firstPair roomRefusal listRefusal walksOf checkAnswer joined setOf arrayAt hopBytes
+unfolding serversOf bound digitsOf addressOf differFrom digits digit withDigit switchOf differing _or-else_ shapeRefusal serverRefusal pairRefusal bit failed live bitsFit fitsLevels tableRefusal isIn inTurn middle filled byteOf switchAt levelTo byteTo hopTo hopRefusal fault ended walkFrom walk endsRefusal arrayRefusal walkAnswer arrays disjoint switchesIn between parallel firstStop firstMeeting firstOf firstPair roomRefusal listRefusal walksOf checkAnswer joined setOf arrayIn hopBytes
 wrong-select o =
     record {
       broken-kept = λ κ x h. differ (λ (y : Refusal). y .number) refl (selection-checked _ _ _ _ _ h refl);

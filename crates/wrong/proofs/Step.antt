@@ -8,13 +8,13 @@ use Rattle.room.specs.Addresses.{digits, digit, withDigit}
 use Rattle.room.specs.Refusals.{shapeRefusal, serverRefusal, pairRefusal}
 use Rattle.path.specs.Walks.{hopTo, hopRefusal}
 use Rattle.step.specs.declared.Step as declared
-use Rattle.step.specs.Steps.{entry, macAt, portAt, flagAt, givenRefusal, byteRefusal, awayRefusal, stepRefusal, atHop, placed, stepAnswer}
+use Rattle.step.specs.Steps.{entry, macAt, portAt, flagAt, givenRefusal, byteRefusal, awayRefusal, stepRefusal, atHop, withPlace, stepAnswer}
 use Rattle.wrong.specs.Never.{Loan}
 use Rattle.wrong.specs.Step.{Step}
 use Rattle.wrong.proofs.Clash.{clash}
 
 pub wrong-step : (q e : Loan) → Step q e
-unfolding serversOf bound digitsOf addressOf digits digit withDigit _or-else_ shapeRefusal serverRefusal pairRefusal filled hopTo hopRefusal entry macAt portAt flagAt givenRefusal byteRefusal awayRefusal stepRefusal atHop placed stepAnswer
+unfolding serversOf bound digitsOf addressOf digits digit withDigit _or-else_ shapeRefusal serverRefusal pairRefusal filled hopTo hopRefusal entry macAt portAt flagAt givenRefusal byteRefusal awayRefusal stepRefusal atHop withPlace stepAnswer
 wrong-step q e =
     record {
       index-before-arrival = clash (λ (y : declared.Step). y .refusal .number) refl;

@@ -13,9 +13,14 @@ pub bcube-check-spec : {M : Type 1} → statement M
 bcube-check-spec =
     tie.close
     (tie.spec
+    -- shape-in-requires, check-list-requires, result-word-requires
     (λ c κs. search needs)
     (λ c κs. search needs)
     (λ c κs. told-fits (λ (x : Refusal). x) (λ (x : Refusal). 0) (check-small _ _ _ _ _) (c .check-list .ensures))
+    -- returns
     (λ c.
-    let a = c .before .before .before .before .before .args in
-    told-word (λ (x : Refusal). x) (λ (x : Refusal). 0) (λ (s : Shape). checkAnswer s (now (a .table)) (a .source) (a .destination) (now (a .list))) (c .before .check-list .ensures) (c .before .before .shape-in .ensures) (c .result-word .ensures)))
+    let checked = c .before in
+    let a = checked .before .before .before .before .args in
+    told-word (λ (x : Refusal). x) (λ (x : Refusal). 0)
+    (λ (s : Shape). checkAnswer s (now (a .table)) (a .source) (a .destination) (now (a .list)))
+    (checked .check-list .ensures) (checked .before .shape-in .ensures) (c .result-word .ensures)))

@@ -16,4 +16,7 @@ bcube-path-byte-spec =
     (λ c κs. search needs)
     -- result-word-requires, returns
     (λ c κs. number-fits _ _ (byte-small _ _ _) (c .byte-of .ensures))
-    (λ c. let a = c .before .before .before .args in said numberWord (λ s. byteAnswer s (a .level) (a .value)) (c .result-word .ensures) (c .before .byte-of .ensures) (c .before .before .shape-in .ensures)))
+    (λ c.
+    let a = c .before .before .before .args in
+    said numberWord (λ s. byteAnswer s (a .level) (a .value))
+    (c .result-word .ensures) (c .before .byte-of .ensures) (c .before .before .shape-in .ensures)))

@@ -20,4 +20,7 @@ bcube-path-byte-parts-spec =
     (λ c. let h = parts-found _ _ _ (c .before .before .parts-of .ensures) in omega (arith, h .level, h .value))
     -- result-word-requires, returns
     (λ c κs. parts-found _ _ _ (c .before .before .parts-of .ensures) .small)
-    (λ c. let a = c .before .before .before .before .before .args in said partsWord (λ s. partsAnswer s (a .byte)) (c .result-word .ensures) (c .before .before .before .parts-of .ensures) (c .before .before .before .before .shape-in .ensures)))
+    (λ c.
+    let parts = c .before .before .before in
+    let a = parts .before .before .args in
+    said partsWord (λ s. partsAnswer s (a .byte)) (c .result-word .ensures) (parts .parts-of .ensures) (parts .before .shape-in .ensures)))

@@ -14,12 +14,21 @@ pub bcube-read-spec : {M : Type 1} → statement M
 bcube-read-spec =
     tie.close
     (tie.spec
+    -- shape-in-requires, read-path-requires, result-word-requires
     (λ c κs. search needs)
     (λ c κs. search needs)
     (λ c κs. told-fits (λ (x : Reading). x .refusal) (λ (x : Reading). x .count) (read-small _ _ _ _) (c .read-path .ensures))
+    -- returns: refused, and the buffer as it was lent
     (λ c.
-    let a = c .before .before .before .before .before .before .args in
-    told-refused (λ (x : Reading). x .refusal) (λ (x : Reading). x .count) (λ (s : Shape). readAnswer s (a .source) (a .destination) (now (a .path))) (c .before .before .before .read-path .ensures) (c .before .before .before .before .shape-in .ensures) (c .before .before .result-word .ensures) (λ (x : Reading). x .servers) _ (c .if1 .taken))
+    let found = c .before .before .before in
+    let a = found .before .before .before .args in
+    told-refused (λ (x : Reading). x .refusal) (λ (x : Reading). x .count) (λ (s : Shape). readAnswer s (a .source) (a .destination) (now (a .path)))
+    (found .read-path .ensures) (found .before .shape-in .ensures) (c .before .before .result-word .ensures)
+    (λ (x : Reading). x .servers) _ (c .if1 .taken))
+    -- returns-2: the answer, and what it puts into the buffer
     (λ c.
-    let a = c .before .before .before .before .before .before .before .args in
-    told-given (λ (x : Reading). x .refusal) (λ (x : Reading). x .count) (λ (s : Shape). readAnswer s (a .source) (a .destination) (now (a .path))) (c .before .before .before .before .read-path .ensures) (c .before .before .before .before .before .shape-in .ensures) (c .before .before .before .result-word .ensures) (λ (x : Reading). x .servers) _ (c .before .if1 .left) refl))
+    let found = c .before .before .before .before in
+    let a = found .before .before .before .args in
+    told-given (λ (x : Reading). x .refusal) (λ (x : Reading). x .count) (λ (s : Shape). readAnswer s (a .source) (a .destination) (now (a .path)))
+    (found .read-path .ensures) (found .before .shape-in .ensures) (c .before .before .before .result-word .ensures)
+    (λ (x : Reading). x .servers) _ (c .before .if1 .left) refl))

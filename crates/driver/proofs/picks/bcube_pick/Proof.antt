@@ -14,11 +14,17 @@ pub bcube-pick-spec : {M : Type 1} → statement M
 bcube-pick-spec =
     tie.close
     (tie.spec
+    -- shape-in-requires, pick-place-requires
     (λ c κs. search needs)
     (λ c κs. search needs)
+    -- mul-result-word, add-result-word, result-word-requires: the list and the place fit
     (λ c. let h = pick-small _ _ _ _ _ _ _ (c .before .pick-place .ensures) in omega (arith, h .value))
     (λ c. let h = pick-small _ _ _ _ _ _ _ (c .before .before .pick-place .ensures) in omega (arith, h .value))
     (λ c κs. pick-small _ _ _ _ _ _ _ (c .before .before .pick-place .ensures))
+    -- returns
     (λ c.
-    let a = c .before .before .before .before .before .before .before .before .args in
-    said placeWord (λ (s : Shape). placeAnswer s (now (a .table)) (a .source) (a .destination) (now (a .fresh)) (now (a .kept))) (c .result-word .ensures) (c .before .before .before .pick-place .ensures) (c .before .before .before .before .shape-in .ensures)))
+    let picked = c .before .before .before in
+    let asked = picked .before in
+    let a = asked .before .before .before .before .args in
+    said placeWord (λ (s : Shape). placeAnswer s (now (a .table)) (a .source) (a .destination) (now (a .fresh)) (now (a .kept)))
+    (c .result-word .ensures) (picked .pick-place .ensures) (asked .shape-in .ensures)))

@@ -11,7 +11,12 @@ pub bcube-bound-spec : {M : Type 1} → statement M
 bcube-bound-spec =
     tie.close
     (tie.spec
+    -- shape-in-requires, bound-of-requires
     (λ c κs. search needs)
     (λ c κs. search needs)
+    -- result-word-requires, returns
     (λ c κs. number-fits _ _ (bound-small _ _) (c .bound-of .ensures))
-    (λ c. let a = c .before .before .before .args in said numberWord (λ s. boundAnswer s (a .level)) (c .result-word .ensures) (c .before .bound-of .ensures) (c .before .before .shape-in .ensures)))
+    (λ c.
+    let a = c .before .before .before .args in
+    said numberWord (λ s. boundAnswer s (a .level))
+    (c .result-word .ensures) (c .before .bound-of .ensures) (c .before .before .shape-in .ensures)))

@@ -11,7 +11,12 @@ pub bcube-digit-spec : {M : Type 1} → statement M
 bcube-digit-spec =
     tie.close
     (tie.spec
+    -- shape-in-requires, digit-of-requires
     (λ c κs. search needs)
     (λ c κs. search needs)
+    -- result-word-requires, returns
     (λ c κs. number-fits _ _ (digit-small _ _ _) (c .digit-of .ensures))
-    (λ c. let a = c .before .before .before .args in said numberWord (λ s. digitAnswer s (a .server) (a .level)) (c .result-word .ensures) (c .before .digit-of .ensures) (c .before .before .shape-in .ensures)))
+    (λ c.
+    let a = c .before .before .before .args in
+    said numberWord (λ s. digitAnswer s (a .server) (a .level))
+    (c .result-word .ensures) (c .before .digit-of .ensures) (c .before .before .shape-in .ensures)))

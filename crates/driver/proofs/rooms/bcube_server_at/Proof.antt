@@ -16,4 +16,7 @@ bcube-server-at-spec =
     (λ c κs. search needs)
     -- result-word-requires, returns
     (λ c κs. number-fits _ _ (server-at-small _ _ _ _) (c .server-at .ensures))
-    (λ c. let a = c .before .before .before .args in said numberWord (λ s. serverAtAnswer s (a .level) (a .number) (a .port)) (c .result-word .ensures) (c .before .server-at .ensures) (c .before .before .shape-in .ensures)))
+    (λ c.
+    let a = c .before .before .before .args in
+    said numberWord (λ s. serverAtAnswer s (a .level) (a .number) (a .port))
+    (c .result-word .ensures) (c .before .server-at .ensures) (c .before .before .shape-in .ensures)))

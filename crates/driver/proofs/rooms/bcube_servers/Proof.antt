@@ -11,7 +11,9 @@ pub bcube-servers-spec : {M : Type 1} → statement M
 bcube-servers-spec =
     tie.close
     (tie.spec
+    -- shape-in-requires, servers-of-requires
     (λ c κs. search needs)
     (λ c κs. search needs)
+    -- result-word-requires, returns
     (λ c κs. number-fits _ _ (servers-small _) (c .servers-of .ensures))
     (λ c. said numberWord serversAnswer (c .result-word .ensures) (c .before .servers-of .ensures) (c .before .before .shape-in .ensures)))

@@ -13,8 +13,12 @@ pub bcube-shape-spec : {M : Type 1} → statement M
 bcube-shape-spec =
     tie.close
     (tie.spec
+    -- shape-in-requires, shape-refusal-requires, plain-requires
     (λ c κs. search needs)
     (λ c κs. search needs)
     (λ c κs. search needs)
+    -- result-word-requires, returns
     (λ c κs. plain-fits _ (one-le 255 refl (shape-numbers _)) (omega arith) (c .before .shape-refusal .ensures) (c .plain .ensures))
-    (λ c. plain-said shapeRefusal (c .result-word .ensures) (c .before .plain .ensures) (c .before .before .shape-refusal .ensures) (c .before .before .before .shape-in .ensures)))
+    (λ c.
+    plain-said shapeRefusal (c .result-word .ensures) (c .before .plain .ensures)
+    (c .before .before .shape-refusal .ensures) (c .before .before .before .shape-in .ensures)))

@@ -12,7 +12,12 @@ pub bcube-switch-spec : {M : Type 1} → statement M
 bcube-switch-spec =
     tie.close
     (tie.spec
+    -- shape-in-requires, switch-of-requires
     (λ c κs. search needs)
     (λ c κs. search needs)
+    -- result-word-requires, returns
     (λ c κs. told-fits (λ (x : Switch). x .refusal) (λ (x : Switch). x .number) (switch-small _ _ _) (c .switch-of .ensures))
-    (λ c. let a = c .before .before .before .args in said switchWord (λ s. switchAnswer s (a .server) (a .level)) (c .result-word .ensures) (c .before .switch-of .ensures) (c .before .before .shape-in .ensures)))
+    (λ c.
+    let a = c .before .before .before .args in
+    said switchWord (λ s. switchAnswer s (a .server) (a .level))
+    (c .result-word .ensures) (c .before .switch-of .ensures) (c .before .before .shape-in .ensures)))

@@ -16,4 +16,7 @@ bcube-switches-spec =
     (λ c κs. search needs)
     -- result-word-requires, returns
     (λ c κs. number-fits _ _ (switches-small _ _) (c .switches-of .ensures))
-    (λ c. let a = c .before .before .before .args in said numberWord (λ s. switchesAnswer s (a .level)) (c .result-word .ensures) (c .before .switches-of .ensures) (c .before .before .shape-in .ensures)))
+    (λ c.
+    let a = c .before .before .before .args in
+    said numberWord (λ s. switchesAnswer s (a .level))
+    (c .result-word .ensures) (c .before .switches-of .ensures) (c .before .before .shape-in .ensures)))

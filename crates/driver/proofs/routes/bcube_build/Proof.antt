@@ -11,7 +11,15 @@ pub bcube-build-spec : {M : Type 1} → statement M
 bcube-build-spec =
     tie.close
     (tie.spec
+    -- shape-in-requires, build-routes-requires, result-word-requires
     (λ c κs. search needs)
     (λ c κs. search needs)
     (λ c κs. build-small _ _ _ _ (c .before .before .before .build-routes .ensures))
-    (λ c. build-said _ _ _ (c .before .before .before .before .build-routes .ensures) (c .before .before .before .before .before .shape-in .ensures) (c .result-word .ensures) (⊎-elim (λ w. w .2 ∙ left-given _ _ _ (w .0 .taken)) (λ w. w .1 ∙ left-lent _ _ _ (w .0 .left)) (c .before .if1 .came))))
+    -- returns: the buffer takes the routes, or stays as it was lent
+    (λ c.
+    let made = c .before .before .before .before in
+    build-said _ _ _ (made .build-routes .ensures) (made .before .shape-in .ensures) (c .result-word .ensures)
+    (⊎-elim
+    (λ w. w .2 ∙ left-given _ _ _ (w .0 .taken))
+    (λ w. w .1 ∙ left-lent _ _ _ (w .0 .left))
+    (c .before .if1 .came))))

@@ -11,7 +11,15 @@ pub bcube-find-spec : {M : Type 1} → statement M
 bcube-find-spec =
     tie.close
     (tie.spec
+    -- shape-in-requires, find-route-requires, result-word-requires
     (λ c κs. search needs)
     (λ c κs. search needs)
     (λ c κs. find-small _ (c .before .before .find-route .ensures))
-    (λ c. find-said (c .before .before .before .find-route .ensures) (c .before .before .before .before .shape-in .ensures) (c .result-word .ensures) (⊎-elim (λ w. w .2 ∙ left-given _ _ _ (w .0 .taken)) (λ w. w .1 ∙ left-lent _ _ _ (w .0 .left)) (c .before .if1 .came))))
+    -- returns: the buffer takes the route, or stays as it was lent
+    (λ c.
+    let made = c .before .before .before in
+    find-said (made .find-route .ensures) (made .before .shape-in .ensures) (c .result-word .ensures)
+    (⊎-elim
+    (λ w. w .2 ∙ left-given _ _ _ (w .0 .taken))
+    (λ w. w .1 ∙ left-lent _ _ _ (w .0 .left))
+    (c .before .if1 .came))))

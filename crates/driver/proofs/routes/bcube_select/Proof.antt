@@ -11,7 +11,15 @@ pub bcube-select-spec : {M : Type 1} → statement M
 bcube-select-spec =
     tie.close
     (tie.spec
+    -- shape-in-requires, select-routes-requires, result-word-requires
     (λ c κs. search needs)
     (λ c κs. search needs)
     (λ c κs. select-small _ (c .before .before .before .select-routes .ensures))
-    (λ c. select-said (c .before .before .before .before .select-routes .ensures) (c .before .before .before .before .before .shape-in .ensures) (c .result-word .ensures) (⊎-elim (λ w. w .2 ∙ left-given _ _ _ (w .0 .taken)) (λ w. w .1 ∙ left-lent _ _ _ (w .0 .left)) (c .before .if1 .came))))
+    -- returns: the buffer takes the routes, or stays as it was lent
+    (λ c.
+    let made = c .before .before .before .before in
+    select-said (made .select-routes .ensures) (made .before .shape-in .ensures) (c .result-word .ensures)
+    (⊎-elim
+    (λ w. w .2 ∙ left-given _ _ _ (w .0 .taken))
+    (λ w. w .1 ∙ left-lent _ _ _ (w .0 .left))
+    (c .before .if1 .came))))

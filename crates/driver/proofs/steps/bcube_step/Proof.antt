@@ -19,12 +19,24 @@ bcube-step-spec =
     -- a delivery: returns-2
     (λ c. search pack-here)
     -- the word of a step that goes on: mul-t17, mul-t19, add-t20, wide-requires, mul-t22, add-t23
-    (λ c. let f = found-fits _ _ _ _ _ _ _ (c .before .before .before .before .before .step-once .ensures) in omega arith)
-    (λ c. let f = found-fits _ _ _ _ _ _ _ (c .before .before .before .before .before .step-once .ensures) in omega arith)
-    (λ c. let f = found-fits _ _ _ _ _ _ _ (c .before .before .before .before .before .step-once .ensures) in omega arith)
+    (λ c.
+    let gone = c .before .before in
+    let f = found-fits _ _ _ _ _ _ _ (gone .before .before .before .step-once .ensures) in
+    omega arith)
+    (λ c.
+    let gone = c .before .before in
+    let f = found-fits _ _ _ _ _ _ _ (gone .before .before .before .step-once .ensures) in
+    omega arith)
+    (λ c.
+    let gone = c .before .before in
+    let f = found-fits _ _ _ _ _ _ _ (gone .before .before .before .step-once .ensures) in
+    omega arith)
     (λ c κs. search needs)
     (λ c. search needs)
-    (λ c. let f = found-fits _ _ _ _ _ _ _ (c .before .before .before .before .before .before .step-once .ensures) in omega arith)
+    (λ c.
+    let gone = c .before .before .before in
+    let f = found-fits _ _ _ _ _ _ _ (gone .before .before .before .step-once .ensures) in
+    omega arith)
     -- mac-number-requires, returns-3
     (λ c κs. search needs)
     (λ c. search pack-goes))

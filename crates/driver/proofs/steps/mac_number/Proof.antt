@@ -11,7 +11,7 @@ pub mac-number-spec : {M : Type 1} → statement M
 mac-number-spec =
     tie.close
     (tie.spec
-    -- each byte read and widened, and the sums fit
+    -- array-read-wide to wide-requires-6, mul-first to mul-last, add-first to add-result: each byte is read and widened, and the sums fit
     (λ c. search needs)
     (λ c κs. search needs)
     (λ c. search needs)
@@ -35,4 +35,8 @@ mac-number-spec =
     (λ c. search needs)
     (λ c. search needs)
     -- returns
-    (λ c. let t = c .before .before .before .before .before .before .args .t1 in let l : length t ≡ 6 = search needs in omega (arith, mac-made t l)))
+    (λ c.
+    let read = c .before .before .before in
+    let t = read .before .before .before .args .t1 in
+    let l : length t ≡ 6 = search needs in
+    omega (arith, mac-made t l)))

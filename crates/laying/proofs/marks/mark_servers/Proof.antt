@@ -24,11 +24,17 @@ mark-servers-spec =
     -- mul-mark-server, shared-slice-read-mark-server, mark-server-requires: the next server
     (λ c. omega arith)
     (λ c. omega arith)
-    (λ c κs. let g = c .before .before .before .loop in (c .before .before .before .before .before .before .pre .0 (g .i) (omega arith), g .inv .marks .table))
+    (λ c κs.
+    let i = c .before .before .before in
+    let servers = i .before .before .before .pre .0 in
+    (servers (i .loop .i) (omega arith), i .loop .inv .marks .table))
     -- add-i, loop-less, loop-again
     (λ c. omega arith)
     (λ c. omega arith)
-    (λ c. let g = c .before .before .before .before .before .before .loop in among-step (g .inv) (omega arith) _ refl (c .before .before .mark-server .ensures))
+    (λ c.
+    let marked = c .before .before in
+    let i = marked .before .before .before .before .loop in
+    among-step (i .inv) (omega arith) _ refl (marked .mark-server .ensures))
     -- same-length, returns
     (λ c. omega arith)
     (λ c. among-done (c .before .loop .inv) (omega arith)))

@@ -24,7 +24,8 @@ mark-switch-spec =
     -- mark-requires, add-other, add-_value: one of them
     (λ c κs. search needs)
     (λ c.
-    let i = c .before .before .before .before .before in
+    let marked = c .before .before in
+    let i = marked .before .before .before in
     let made = i .before .before in
     let n = side-near (made .before .before .pre .0) (made .side-of .ensures) (i .before .loop .inv) (i .loop-test .taken) in
     omega arith)

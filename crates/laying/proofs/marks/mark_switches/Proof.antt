@@ -31,7 +31,9 @@ mark-switches-spec =
     (λ c. omega arith)
     (λ c κs. search needs)
     -- mark-switch-requires
-    (λ c κs. (search hop-link, c .before .before .before .before .before .loop .inv .1 .marks .table))
+    (λ c κs.
+    let i = c .before .before .before .before in
+    (search hop-link, i .before .loop .inv .1 .marks .table))
     -- add-i, loop-less, loop-again
     (λ c. omega arith)
     (λ c. omega arith)

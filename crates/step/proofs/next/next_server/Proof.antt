@@ -1,42 +1,62 @@
 -- `step::next::next_server` meets its contract. Assumes nothing.
+use Prim.Native.Nat.{_<_}
 use native.Mathlib.Omega.{arith}
 use borrow.Author.Needs.{needs}
-use mathlib.Core.Path.{sym, ap, _∙_}
-use Rattle.refusals.specs.declared.Refusal.{Refusal}
-use Rattle.path.proofs.HopLaws.{hop-number, hop-next, hop-known}
-use Rattle.step.specs.Steps.{entry, flagAt, stopped}
-use Rattle.step.proofs.StepLaws.{given-of, next-given, arrives, too-far, next-hop, next-closed, next-goes}
+use denote.Ref.{now}
+use lib.ListN.{getD}
+use Rattle.step.specs.Steps.{entry, flagAt}
+use Rattle.step.proofs.NextLaws.{refuses-given, byte-inside, entry-inside, arrives, too-far, refuses-hop, refuses-closed, goes-next}
 use Rattle.step.proofs.next.next_server.Statement.{statement}
 use Rattle.step.proofs.next.next_server.Tie as tie
+
+-- the path byte is less than 256
+byte-small : (c : tie.After-shared-slice-known3)
+    → (let tested = c .before .before .before in let a = tested .before .before .before .before .args in getD (now (a .path)) (a .index) 0 < 256)
+byte-small c =
+    let tested = c .before .before .before in
+    let a = tested .before .before .before .before .args in
+    omega (arith, c .shared-slice-known3 .given (a .index))
 
 pub next-server-spec : {M : Type 1} → statement M
 unfolding entry flagAt
 next-server-spec =
     tie.close
     (tie.spec
+    -- given-refusal-requires, plain-requires, stop-requires, returns: what is given is refused
     (λ c κs. search needs)
     (λ c κs. search needs)
     (λ c κs. search needs)
-    (λ c. c .stop .ensures ∙ ap stopped (c .before .plain .ensures) ∙ next-given _ _ _ _ _ _ _ (c .before .before .before .given-refusal .ensures) (c .before .before .if1 .taken))
+    (λ c. search refuses-given)
+    -- none-requires, stop-requires-2, returns-2: at the destination
     (λ c κs. search needs)
     (λ c κs. search needs)
     (λ c. search arrives)
+    -- plain-requires-2, stop-requires-3, returns-3: past the eighth byte
     (λ c κs. search needs)
     (λ c κs. search needs)
     (λ c. search too-far)
-    (λ c. let g = given-of _ _ _ _ _ (sym (c .before .before .before .before .given-refusal .ensures) ∙ c .before .before .before .if1 .left) in omega arith)
+    -- shared-slice-read-byte, hop-of-requires: the byte and its hop
+    (λ c. search byte-inside)
     (λ c κs. search needs)
+    -- add-at, at-requires, stop-requires-4, returns-4: the hop is refused
     (λ c. search needs)
     (λ c κs. search needs)
     (λ c κs. search needs)
-    (λ c. let g = given-of _ _ _ _ _ (sym (c .before .before .before .before .before .before .before .before .before .given-refusal .ensures) ∙ c .before .before .before .before .before .before .before .before .if1 .left) in c .stop4 .ensures ∙ ap stopped (c .before .at .ensures) ∙ next-hop _ _ _ _ _ _ (sym (c .before .before .before .before .before .before .before .before .if1 .left) ∙ c .before .before .before .before .before .before .before .before .before .given-refusal .ensures) (c .before .before .before .before .before .before .before .if2 .left) (c .before .before .before .before .before .before .if3 .left) _ (hop-number _ _ _ _ (hop-known (g .here) _ _ (c .before .before .before .before .hop-of .ensures))) (c .before .before .if4 .taken))
-    (λ c. let k = c .before .before .before .shared-slice-known3 .given (c .before .before .before .before .before .before .before .before .before .before .args .index) in omega arith)
-    (λ c. let k = c .before .before .before .shared-slice-known3 .given (c .before .before .before .before .before .before .before .before .before .before .args .index) in omega arith)
-    (λ c. let k = c .before .before .before .shared-slice-known3 .given (c .before .before .before .before .before .before .before .before .before .before .args .index) in omega arith)
-    (λ c. let g = given-of _ _ _ _ _ (sym (c .before .before .before .before .before .before .before .before .given-refusal .ensures) ∙ c .before .before .before .before .before .before .before .if1 .left) in let k = c .before .before .before .before .shared-slice-known3 .given (c .before .before .before .before .before .before .before .before .before .before .before .args .index) in omega arith)
+    (λ c. search refuses-hop)
+    -- cast-flag, mul-flag, add-flag, shared-slice-read-if5: the flag of the byte's entry
+    (λ c. let b = byte-small (c .before .before .before) in omega arith)
+    (λ c. let b = byte-small (c .before .before .before) in omega arith)
+    (λ c. let b = byte-small (c .before .before .before) in omega arith)
+    (λ c.
+    let byte = c .before .before .before .before in
+    let passed = byte .before .before .before in
+    let b = byte-small byte in
+    entry-inside _ _ _ _ _ _ (passed .before .given-refusal .ensures) (passed .if1 .left) _ (omega arith))
+    -- add-at-2, at-requires-2, stop-requires-5, returns-5: the neighbour is not available
     (λ c. search needs)
     (λ c κs. search needs)
     (λ c κs. search needs)
-    (λ c. let g = given-of _ _ _ _ _ (sym (c .before .before .before .before .before .before .before .before .before .before .before .given-refusal .ensures) ∙ c .before .before .before .before .before .before .before .before .before .before .if1 .left) in c .stop5 .ensures ∙ ap stopped (c .before .at2 .ensures) ∙ next-closed _ _ _ _ _ _ (sym (c .before .before .before .before .before .before .before .before .before .before .if1 .left) ∙ c .before .before .before .before .before .before .before .before .before .before .before .given-refusal .ensures) (c .before .before .before .before .before .before .before .before .before .if2 .left) (c .before .before .before .before .before .before .before .before .if3 .left) (sym (hop-number _ _ _ _ (hop-known (g .here) _ _ (c .before .before .before .before .before .before .hop-of .ensures))) ∙ c .before .before .before .before .if4 .left) (c .before .before .if5 .taken))
+    (λ c. search refuses-closed)
+    -- none-requires-2, returns-6: it goes
     (λ c κs. search needs)
-    (λ c. let g = given-of _ _ _ _ _ (sym (c .before .before .before .before .before .before .before .before .before .before .given-refusal .ensures) ∙ c .before .before .before .before .before .before .before .before .before .if1 .left) in let v = c .before .before .before .before .before .hop-of .result .next in ap (λ (r : Refusal). record { refusal = r; value = v }) (c .none2 .ensures) ∙ next-goes _ _ _ _ _ _ (sym (c .before .before .before .before .before .before .before .before .before .if1 .left) ∙ c .before .before .before .before .before .before .before .before .before .before .given-refusal .ensures) (c .before .before .before .before .before .before .before .before .if2 .left) (c .before .before .before .before .before .before .before .if3 .left) (sym (hop-number _ _ _ _ (hop-known (g .here) _ _ (c .before .before .before .before .before .hop-of .ensures))) ∙ c .before .before .before .if4 .left) v (c .before .if5 .left) (hop-next _ _ _ _ (hop-known (g .here) _ _ (c .before .before .before .before .before .hop-of .ensures)) (c .before .before .before .if4 .left))))
+    (λ c. search goes-next))

@@ -1,31 +1,53 @@
 -- `step::steps::step_once` meets its contract. Assumes nothing.
+use Prim.Native.Nat.{_<_}
 use native.Mathlib.Omega.{arith}
 use borrow.Author.Needs.{needs}
-use mathlib.Core.Path.{refl, ap, _∙_}
-use mathlib.Core.Bool.{true}
-use Rattle.refusals.specs.declared.Refusal.{Refusal}
-use Rattle.step.specs.Steps.{entry, portAt, standing}
-use Rattle.step.proofs.StepLaws.{step-refused, step-here, step-facts, step-made}
+use denote.Ref.{now}
+use lib.ListN.{getD}
+use Rattle.step.specs.Steps.{entry, portAt}
+use Rattle.step.proofs.NextLaws.{stays-refused, stays-delivered, step-byte, step-index, step-table, step-entry, step-forwards}
 use Rattle.step.proofs.steps.step_once.Statement.{statement}
 use Rattle.step.proofs.steps.step_once.Tie as tie
+
+-- the path byte is less than 256
+byte-small : (c : tie.After-shared-slice-known3)
+    → (let tested = c .before .before .before .before in let a = tested .before .before .before .before .args in getD (now (a .path)) (a .index) 0 < 256)
+byte-small c =
+    let tested = c .before .before .before .before in
+    let a = tested .before .before .before .before .args in
+    omega (arith, c .shared-slice-known3 .given (a .index))
 
 pub step-once-spec : {M : Type 1} → statement M
 unfolding entry portAt
 step-once-spec =
     tie.close
     (tie.spec
+    -- next-server-requires, stand-requires, returns: it is refused
     (λ c κs. search needs)
     (λ c κs. search needs)
-    (λ c. c .stand .ensures ∙ step-refused _ _ _ _ _ _ _ (c .before .before .before .before .next-server .ensures) (c .before .if1 .taken))
+    (λ c. search stays-refused)
+    -- none-requires, stand-requires-2, returns-2: it is delivered
     (λ c κs. search needs)
     (λ c κs. search needs)
-    (λ c. c .stand2 .ensures ∙ ap (λ (r : Refusal). standing r true) (c .before .none .ensures) ∙ step-here _ _ _ _ _ _ _ (c .before .before .before .before .before .before .next-server .ensures) (c .before .before .before .if1 .left) (c .before .before .if2 .taken))
-    (λ c. let g = step-facts _ _ _ _ _ _ _ (c .before .before .before .before .before .next-server .ensures) (c .before .before .if1 .left) (c .before .if2 .left) in omega arith)
-    (λ c. let k = c .shared-slice-known3 .given (c .before .before .before .before .before .before .before .before .args .index) in omega arith)
-    (λ c. let k = c .shared-slice-known3 .given (c .before .before .before .before .before .before .before .before .args .index) in omega arith)
-    (λ c. let k = c .shared-slice-known3 .given (c .before .before .before .before .before .before .before .before .args .index) in omega arith)
+    (λ c. search stays-delivered)
+    -- shared-slice-read-byte, cast-port, mul-port, add-port: the byte, and the place of its OutPort
+    (λ c. search step-byte)
+    (λ c. let b = byte-small c in omega arith)
+    (λ c. let b = byte-small c in omega arith)
+    (λ c. let b = byte-small c in omega arith)
+    -- none-requires-2, add-t15, mac-at-requires: the next index and the MAC
     (λ c κs. search needs)
-    (λ c. let g = step-facts _ _ _ _ _ _ _ (c .before .before .before .before .before .before .next-server .ensures) (c .before .before .before .if1 .left) (c .before .before .if2 .left) in omega arith)
-    (λ c κs. let g = step-facts _ _ _ _ _ _ _ (c .before .before .before .before .before .before .next-server .ensures) (c .before .before .before .if1 .left) (c .before .before .if2 .left) in g .given .table)
-    (λ c. let g = step-facts _ _ _ _ _ _ _ (c .before .before .before .before .before .before .before .before .next-server .ensures) (c .before .before .before .before .before .if1 .left) (c .before .before .before .before .if2 .left) in let k = c .before .before .before .shared-slice-known3 .given (c .before .before .before .before .before .before .before .before .before .before .before .args .index) in omega arith)
-    (λ c. step-made _ _ _ _ _ _ _ (c .before .before .before .before .before .before .before .before .next-server .ensures) (c .before .before .before .before .before .if1 .left) (c .before .before .before .before .if2 .left) _ _ _ _ (c .before .before .none2 .ensures) refl (c .before .mac-at .ensures) refl))
+    (λ c.
+    let away = c .before .before in
+    let found = away .before .before .before .before .next-server .ensures in
+    let i = step-index _ _ _ _ _ _ _ found (away .before .if1 .left) (away .if2 .left) in
+    omega arith)
+    (λ c κs. search step-table)
+    -- shared-slice-read-t14, returns-3: the OutPort; it goes
+    (λ c.
+    let byte = c .before .before .before in
+    let away = byte .before in
+    let found = away .before .before .before .before .next-server .ensures in
+    let b = byte-small byte in
+    step-entry _ _ _ _ _ _ _ found (away .before .if1 .left) (away .if2 .left) _ (omega arith))
+    (λ c. search step-forwards))
