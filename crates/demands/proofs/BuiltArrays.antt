@@ -166,21 +166,22 @@ module _ {s : Shape} {a d : ℕ} (h : Ends s a d) (i : ℕ) (p : i ≤ s .k) whe
         short = omega (arith, long, built-short s a d (h .source) (h .destination) (h .differ) i p);
       }
 
+-- the array of slot i in the set
+pub slot-array : {s : Shape} {a d : ℕ} → Ends s a d → (i : ℕ) → i ≤ s .k → arrayIn (s .k - i) (setOf (builtArrays s a d)) ≡ builtBytes s i a d
+slot-array {s} {a} {d} h i p =
+    let e : s .k - (s .k - i) ≡ i = omega arith in
+    set-array (builtArrays s a d) (arrays-eight h) (s .k - i) (omega (arith, arrays-count s a d))
+    ∙ arrays-at s a d (s .k - i) (omega arith)
+    ∙ ap (λ (j : ℕ). builtBytes s j a d) e
+
 built-set : {s : Shape} {a d : ℕ} → Ends s a d → BuiltSet s a d (setOf (builtArrays s a d))
 unfolding setOf
 built-set {s} {a} {d} h =
     record {
       count = arrays-count s a d ∙ sym (add-one (s .k));
-      slot = λ i p. subst (BuiltArray s a d i) (sym (at i p)) (array h i p);
+      slot = λ i p. subst (BuiltArray s a d i) (sym (slot-array h i p)) (array h i p);
       past = set-rest (builtArrays s a d) (arrays-eight h);
     }
-  where
-    at : (i : ℕ) → i ≤ s .k → arrayIn (s .k - i) (setOf (builtArrays s a d)) ≡ builtBytes s i a d
-    at i p =
-        let e : s .k - (s .k - i) ≡ i = omega arith in
-        set-array (builtArrays s a d) (arrays-eight h) (s .k - i) (omega (arith, arrays-count s a d))
-        ∙ arrays-at s a d (s .k - i) (omega arith)
-        ∙ ap (λ (j : ℕ). builtBytes s j a d) e
 
 pub built-exactly : BuiltExactly
 unfolding buildAnswer

@@ -15,6 +15,7 @@ pub mod Tables
 pub mod Slots
 pub mod BuiltArrays
 pub mod Picking
+pub mod Desk
 pub mod Demand3
 pub mod ShortRoutes
 pub mod ProvedTable

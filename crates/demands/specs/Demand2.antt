@@ -295,7 +295,8 @@ BrokenGivesWay = (s : Shape) (t : List ℕ) (a d : ℕ) (r : Selection) → Sele
 abbrev pub OneSelection : Type 0
 OneSelection = (s : Shape) (t : List ℕ) (a d : ℕ) (q r : Selection) → Selected s t a d q → Selected s t a d r → q .routes ≡ r .routes
 
--- selection says 16 exactly when refusals 1 to 6 do not apply, the ends and the table being the room's, and no route of eight hops or fewer crosses only live links
+-- selection says 16 exactly when refusals 1 to 6 do not apply, the ends and the table being the room's, and no route of eight hops or
+-- fewer crosses only live links
 abbrev pub NoRouteExactly : Type 0
 NoRouteExactly =
     (s : Shape) (t : List ℕ) (a d : ℕ) (r : Selection) →
