@@ -55,7 +55,7 @@ static void make_tables(struct question *q) {
 }
 
 static void make_questions(void) {
-    room = plain_room_of(N, K);
+    room = bcube_room_of(N, K);
     for (size_t i = 0; i < sizeof neighbours; i++) neighbours[i] = (uint8_t)(i % 8 == 7 ? 1 : i * 37 % 251);
     for (int i = 0; i < QUESTIONS; i++) {
         struct question *q = &question[i];

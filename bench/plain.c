@@ -14,12 +14,13 @@ static bcube_stepped taken(uint32_t next, uint64_t index, const uint8_t *entry) 
 
 /* with the tests of the rules, in their order */
 bcube_stepped tested_step(STEP_ARGUMENTS) {
-    uint32_t n = (uint32_t)(room.number & 255);
-    uint64_t k = room.number >> 8;
+    uint32_t n = (uint32_t)(room.number & 255), k = (uint32_t)(room.number >> 8 & 255);
+    uint64_t m = room.number >> 16;
     if (n < 2 || n > 64) return refused(1);
     if (k > 3) return refused(2);
+    if (m < 2 || m > n) return refused(26);
     uint32_t power[4] = {1, n, n * n, n * n * n};
-    uint32_t servers = power[k] * n;
+    uint32_t servers = power[k] * (uint32_t)m;
     if (servers > 4096) return refused(3);
     if (here >= servers || destination >= servers) return refused(4);
     if (neighbours_len != 2048) return refused(17);
@@ -29,7 +30,7 @@ bcube_stepped tested_step(STEP_ARGUMENTS) {
     uint32_t byte = path[index], level = byte >> 6, value = byte & 63;
     uint64_t hop = (index + 1) << 8;
     if (level > k) return refused(8 + hop);
-    if (value >= n) return refused(9 + hop);
+    if (value >= (level == k ? m : n)) return refused(9 + hop);
     uint32_t weight = power[level], own = (uint32_t)here / weight % n;
     if (own == value) return refused(10 + hop);
     const uint8_t *entry = neighbours + 8 * byte;

@@ -19,17 +19,21 @@ static const struct {
     a_find *find;
 } which[] = {{"none", no_find}, {"proved", bcube_find}, {"textbook", textbook_find}};
 
-enum { SERVERS = 4096, QUESTIONS = 16, FAILED = 8, HALF = 11357, RANDOM = 2000 };
+enum { SERVERS = 4096, QUESTIONS = 16, FAILED = 8, HALF = 11357, RANDOM = 3600 };
+
+struct shape {
+    uint32_t n, k, m;
+};
 
 /* In the worst cases all links of the destination are failed, so that every other server is met. HALF random
  * links, drawn with repetition, are about half of all 16,384. */
 static const struct {
     const char *name;
-    uint32_t n, k;
+    struct shape shape;
     int worst;
     uint32_t failed;
-} cases[] = {{"8,3-worst", 8, 3, 1, 0}, {"16,2-worst", 16, 2, 1, 0}, {"64,1-worst", 64, 1, 1, 0},
-             {"8,3-typical", 8, 3, 0, FAILED}, {"8,3-half", 8, 3, 1, HALF}};
+} cases[] = {{"8,3-worst", {8, 3, 8}, 1, 0}, {"16,2-worst", {16, 2, 16}, 1, 0}, {"64,1-worst", {64, 1, 64}, 1, 0},
+             {"8,3-typical", {8, 3, 8}, 0, FAILED}, {"8,3-half", {8, 3, 8}, 1, HALF}, {"8,3,4-worst", {8, 3, 4}, 1, 0}};
 
 static struct {
     uint32_t source, destination;
@@ -53,42 +57,48 @@ static void make_question(int i, uint32_t k, uint32_t servers, uint32_t failed, 
     if (worst) question[i].table[question[i].destination] = (uint8_t)((2u << k) - 1);
 }
 
-static uint32_t servers_of(uint32_t n, uint32_t k) {
-    uint32_t servers = n;
-    for (uint32_t i = 0; i < k; i++) servers *= n;
+static uint32_t servers_of(struct shape shape) {
+    uint32_t servers = shape.m;
+    for (uint32_t i = 0; i < shape.k; i++) servers *= shape.n;
     return servers;
 }
+
+static bcube_room room_of(struct shape shape) { return bcube_filled_room(shape.n, shape.k, shape.m); }
 
 static int make_case(size_t c) {
     int questions = cases[c].worst ? 1 : QUESTIONS;
     for (int i = 0; i < questions; i++)
-        make_question(i, cases[c].k, servers_of(cases[c].n, cases[c].k), cases[c].failed, cases[c].worst);
+        make_question(i, cases[c].shape.k, servers_of(cases[c].shape), cases[c].failed, cases[c].worst);
     return questions;
 }
 
 /* both searches on one question; gives the hops */
-static uint32_t compare(int i, uint32_t n, uint32_t k) {
+static uint32_t compare(int i, struct shape shape) {
     uint32_t a = question[i].source, d = question[i].destination;
     const uint8_t *table = question[i].table;
-    size_t servers = servers_of(n, k);
+    size_t servers = servers_of(shape);
     uint8_t proved[8], textbook[8];
-    bcube_room room = bcube_room_of(n, k);
+    bcube_room room = room_of(shape);
     bcube_answer answer = bcube_find(room, a, d, table, servers, proved);
     if (answer.word == textbook_find(room, a, d, table, servers, textbook).word && memcmp(proved, textbook, 8) == 0)
         return bcube_value(answer);
-    printf("the searches differ in room (%" PRIu32 ",%" PRIu32 ") from %" PRIu32 " to %" PRIu32 "\n", n, k, a, d);
+    printf("the searches differ in room (%" PRIu32 ",%" PRIu32 ",%" PRIu32 ") from %" PRIu32 " to %" PRIu32 "\n",
+           shape.n, shape.k, shape.m, a, d);
     exit(1);
 }
 
 static int check(void) {
-    static const uint32_t rooms[][2] = {{2, 0}, {2, 3}, {3, 2}, {4, 3}, {5, 1}, {8, 3}, {16, 2}, {64, 1}, {64, 0}};
+    static const struct shape rooms[] = {{2, 0, 2}, {2, 3, 2}, {3, 2, 3}, {4, 3, 4}, {5, 1, 5}, {8, 3, 8}, {16, 2, 16},
+                                         {64, 1, 64}, {64, 0, 64}, {4, 1, 2}, {3, 2, 2}, {8, 3, 4}, {9, 3, 5},
+                                         {12, 3, 2}, {45, 2, 2}, {64, 0, 2}};
     int compared = 0, lengths[9] = {0};
     for (size_t c = 0; c < sizeof cases / sizeof *cases; c++)
-        for (int i = 0, made = make_case(c); i < made; i++, compared++) compare(i, cases[c].n, cases[c].k);
+        for (int i = 0, made = make_case(c); i < made; i++, compared++) compare(i, cases[c].shape);
     for (int r = 0; r < RANDOM; r++, compared++) {
-        uint32_t n = rooms[r % 9][0], k = rooms[r % 9][1], servers = servers_of(n, k);
-        make_question(0, k, servers, below(2 * servers * (k + 1)), 0);
-        lengths[compare(0, n, k)]++;
+        struct shape shape = rooms[r % (int)(sizeof rooms / sizeof *rooms)];
+        uint32_t servers = servers_of(shape);
+        make_question(0, shape.k, servers, below(2 * servers * (shape.k + 1)), 0);
+        lengths[compare(0, shape)]++;
     }
     printf("both searches answer alike on %d tables; random ones, by hops from 0 (no route) to 8:", compared);
     for (int h = 0; h <= 8; h++) printf(" %d", lengths[h]);
@@ -106,8 +116,8 @@ int main(int count, char **words) {
     while (c < sizeof cases / sizeof *cases && strcmp(cases[c].name, words[2]) != 0) c++;
     if (!find || c == sizeof cases / sizeof *cases) return 2;
     int made = make_case(c);
-    bcube_room room = bcube_room_of(cases[c].n, cases[c].k);
-    size_t servers = servers_of(cases[c].n, cases[c].k);
+    bcube_room room = room_of(cases[c].shape);
+    size_t servers = servers_of(cases[c].shape);
     unsigned long times = strtoul(words[3], NULL, 10);
     uint8_t path[8];
     uint64_t sum = 0;

@@ -33,8 +33,9 @@ static uint32_t with_digit(uint32_t n, uint32_t weight, uint32_t value, uint32_t
     return server + (value - server / weight % n) * weight;
 }
 
-/* levels from k down, values from 0 up */
-static struct answer search(uint32_t n, uint32_t k, uint32_t source, uint32_t destination, const uint8_t *table) {
+/* levels from k down, values from 0 up: below m at level k, below n at every other */
+static struct answer search(uint32_t n, uint32_t k, uint32_t m, uint32_t source, uint32_t destination,
+                            const uint8_t *table) {
     struct search s;
     uint32_t weight[4] = {1, n, n * n, n * n * n}, head = 0, tail = 0;
     memset(s.visited, 0, sizeof s.visited);
@@ -43,7 +44,7 @@ static struct answer search(uint32_t n, uint32_t k, uint32_t source, uint32_t de
     while (head < tail) {
         uint32_t here = s.queue[head++];
         for (uint32_t level = k + 1; level-- > 0;)
-            for (uint32_t value = 0; value < n; value++) {
+            for (uint32_t value = 0, bound = level == k ? m : n; value < bound; value++) {
                 uint32_t next = with_digit(n, weight[level], value, here);
                 if (next == here) continue;
                 if (failed(table, here, level) || failed(table, next, level)) continue;
@@ -60,8 +61,8 @@ static struct answer search(uint32_t n, uint32_t k, uint32_t source, uint32_t de
 
 bcube_answer textbook_find(FIND_ARGUMENTS) {
     (void)table_len;
-    uint32_t n = (uint32_t)(room.number & 255), k = (uint32_t)(room.number >> 8);
-    struct answer found = search(n, k, (uint32_t)source, (uint32_t)destination, table);
+    uint32_t shape = (uint32_t)room.number, n = shape & 255, k = shape >> 8 & 255, m = shape >> 16;
+    struct answer found = search(n, k, m, (uint32_t)source, (uint32_t)destination, table);
     memcpy(path, found.bytes, HOPS);
     return (bcube_answer){(uint64_t)found.hops << 32};
 }

@@ -16,7 +16,8 @@
 #include <stdlib.h>
 #include <string.h>
 
-/* The room: switches of 4 ports, levels 0 and 1, so 16 servers. Server 7 is written 13: digit 1 is 1, digit 0 is 3. */
+/* The room: switches of 4 ports, levels 0 and 1, so 16 servers. Server 7 is written 13: digit 1 is 1, digit 0 is 3.
+ * (The half-filled room bcube_filled_room(N, K, 2) has the servers 0 to 7: with SERVERS 8 the program runs there too.) */
 enum { N = 4, K = 1, SERVERS = 16, SOURCE = 0, DESTINATION = 7 };
 static bcube_room room;
 
@@ -72,7 +73,7 @@ static int live(uint32_t server, uint32_t level) { return !(failed[server] >> le
 static void fill_table(uint32_t server, uint8_t table[BCUBE_NEIGHBOUR_TABLE_BYTES]) {
     memset(table, 0, BCUBE_NEIGHBOUR_TABLE_BYTES);
     for (uint32_t level = 0; level <= K; level++)
-        for (uint32_t value = 0; value < N; value++) {
+        for (uint32_t value = 0; value < granted(bcube_bound(room, level)); value++) {
             uint32_t neighbour = granted(bcube_neighbour(room, server, level, value));
             if (neighbour == server) continue; /* the value is the server's own digit */
             uint8_t *entry = table + BCUBE_NEIGHBOUR_ENTRY_BYTES * granted(bcube_path_byte(room, level, value));

@@ -5,13 +5,16 @@
  * nothing, and may be called from any thread, by many at once. What each call answers is proved for every
  * argument, so no argument has to be tested before a call: a call answers, or it refuses with a number.
  *
- * THE ROOM. Every call begins with the room, a value made once by bcube_room_of(n, k):
- *   n, k         n ports a switch (2 to 64), levels 0 to k (k is 0 to 3); N = n^(k+1), the number of
- *                servers, is at most 4,096
- *   a server     a number below N, its address: the sum of digit i times n^i, for i from 0 to k
- *   a level      0 to k
+ * THE ROOM. Every call begins with the room, a value made once: the full room by bcube_room_of(n, k), and one whose
+ * level k is filled in part only by bcube_filled_room(n, k, m):
+ *   n, k, m      n ports a switch (2 to 64), levels 0 to k (k is 0 to 3), and the fill m (2 to n): how many values
+ *                digit k has, which are all n in a full room. N = m * n^k, the number of servers, is at most 4,096
+ *   a server     a number below N, its address: the sum of digit i times n^i, for i from 0 to k; digit k is
+ *                below m, and every other digit below n
+ *   a level      0 to k; its bound is what a digit at that level is below: m at level k, n at every other
  *   a switch     a level l and a number: the digits of any of its servers with digit l struck out and the
- *                rest closed up; a server is at the port of its digit l
+ *                rest closed up, to the base n; a server is at the port of its digit l. A level has N divided by
+ *                its bound switches, and each has as many ports in use as the bound
  *   a link       a server and a level: the cable from that server to its switch at that level
  *   a hop        from one server to another that differs in one digit, at level l; it uses both servers'
  *                links at level l, and the switch between them
@@ -85,10 +88,10 @@ extern "C" {
 
 /* ---- the version: 10,000 times the first number, 100 times the second, and the third */
 
-#define BCUBE_VERSION 20000 /* 2.0.0; docs/CHANGES.md says what each version changed */
+#define BCUBE_VERSION 30000 /* 3.0.0; docs/CHANGES.md says what each version changed */
 
 /* The version of the library that the program runs with, to hold against BCUBE_VERSION, the header's. Another
- * first number says that the two do not fit. Cost: constant; 0 bytes of stack. */
+ * first number says that the two may not fit: docs/CHANGES.md says what it changed. Cost: constant; 0 bytes of stack. */
 BCUBE_RESULT uint64_t bcube_version(void);
 
 /* ---- limits and sizes */
@@ -96,6 +99,7 @@ BCUBE_RESULT uint64_t bcube_version(void);
 #define BCUBE_FEWEST_PORTS 2    /* n is 2 */
 #define BCUBE_MOST_PORTS 64     /* to 64 */
 #define BCUBE_MOST_LEVEL 3      /* k is 0 to 3 */
+#define BCUBE_LEAST_FILL 2      /* m is 2 to n */
 #define BCUBE_MOST_SERVERS 4096 /* N is at most this */
 #define BCUBE_MOST_HOPS 8       /* a route has 1 to 8 hops */
 
@@ -139,6 +143,7 @@ BCUBE_RESULT uint64_t bcube_version(void);
 #define BCUBE_REFUSED_DIGIT 21
 #define BCUBE_REFUSED_SERVER_COUNT 22
 #define BCUBE_REFUSED_NOT_NEIGHBOURS 23
+#define BCUBE_REFUSED_FILL 26 /* tested between 2 and 3 */
 
 /* What a refusal's number means, as a sentence. */
 static inline const char *bcube_refusal_text(uint64_t number) {
@@ -169,6 +174,7 @@ static inline const char *bcube_refusal_text(uint64_t number) {
         return "A digit, or a port, is not below its bound; or a place above k is not zero; or the level has no such switch.";
     case BCUBE_REFUSED_SERVER_COUNT: return "The servers to write are fewer than 2, or more than 9.";
     case BCUBE_REFUSED_NOT_NEIGHBOURS: return "Two servers in a row do not differ in exactly one digit.";
+    case BCUBE_REFUSED_FILL: return "m, the fill of the room, is not among 2 to n.";
     default: return "There is no such refusal.";
     }
 }
@@ -176,7 +182,7 @@ static inline const char *bcube_refusal_text(uint64_t number) {
 /* ---- the room, and the two forms of an answer: each is passed in registers, like plain numbers */
 
 typedef struct {
-    uint64_t number; /* n + 256 k; a call takes any number, and refuses what is no room */
+    uint64_t number; /* n + 256 k + 65536 m; a call takes any number, and refuses what is no room */
 } bcube_room;
 
 typedef struct {
@@ -201,90 +207,94 @@ static inline uint32_t bcube_hop(bcube_answer answer) { return (uint32_t)(answer
 /* The answer as a number; 0 on a refusal. */
 static inline uint32_t bcube_value(bcube_answer answer) { return (uint32_t)(answer.word >> 32); }
 
-/* The room of n ports a switch and levels 0 to k, whatever the two numbers: one above 255 counts as 255, which
- * every call refuses like it. Cost: constant; 0 bytes of stack. */
+/* The full room of n ports a switch and levels 0 to k, as in version 2: its fill m is n. It takes any two numbers: one
+ * above 255 counts as 255, which every call refuses like it. Cost: constant; 0 bytes of stack. */
 BCUBE_RESULT bcube_room bcube_room_of(uint64_t n, uint64_t k);
+
+/* The room of n ports a switch, levels 0 to k and fill m; the full one where m is n. It takes any three numbers, each
+ * as bcube_room_of does. Cost: constant; 0 bytes of stack. */
+BCUBE_RESULT bcube_room bcube_filled_room(uint64_t n, uint64_t k, uint64_t m);
 
 /* ---- shapes, addresses and switches */
 
-/* Whether there is such a room. Refuses 1, 2, 3. Value: 0. Cost: constant; 0 bytes of stack. */
+/* Whether there is such a room. Refuses 1, 2, 26, 3. Value: 0. Cost: constant; 0 bytes of stack. */
 BCUBE_RESULT bcube_answer bcube_shape(bcube_room room);
 
-/* How many servers the room has. Refuses 1, 2, 3. Value: N. Cost: constant; 0 bytes of stack. */
+/* How many servers the room has. Refuses 1, 2, 26, 3. Value: N. Cost: constant; 0 bytes of stack. */
 BCUBE_RESULT bcube_answer bcube_servers(bcube_room room);
 
-/* What a digit at this level is below, which is how many ports the level's switches have. Refuses 1, 2, 3, 20.
- * Value: that bound. Cost: constant; 0 bytes of stack. */
+/* What a digit at this level is below: m at level k, n at every other. The level's switches have as many ports in
+ * use. Refuses 1, 2, 26, 3, 20. Value: that bound. Cost: constant; 64 bytes of stack. */
 BCUBE_RESULT bcube_answer bcube_bound(bcube_room room, uint64_t level);
 
-/* How many switches a level has: their numbers are those below it. Refuses 1, 2, 3, 20. Value: that number.
- * Cost: constant; 0 bytes of stack. */
+/* How many switches a level has: their numbers are those below it. Refuses 1, 2, 26, 3, 20. Value: that number.
+ * Cost: constant; 64 bytes of stack. */
 BCUBE_RESULT bcube_answer bcube_switches(bcube_room room, uint64_t level);
 
-/* The digits of a server. Refuses 1, 2, 3, 4. Value: 0. Written: digits[i] is digit i, so the lowest comes
- * first; the places above k hold zero. Cost: constant; 0 bytes of stack. */
+/* The digits of a server. Refuses 1, 2, 26, 3, 4. Value: 0. Written: digits[i] is digit i, so the lowest comes
+ * first; the places above k hold zero. Cost: constant; 64 bytes of stack. */
 BCUBE_BUFFER(3) BCUBE_RESULT bcube_answer bcube_digits(bcube_room room, uint64_t server, uint64_t digits[4]);
 
-/* One digit of a server. Refuses 1, 2, 3, 4, 20. Value: the digit at the level.
+/* One digit of a server. Refuses 1, 2, 26, 3, 4, 20. Value: the digit at the level.
  * Cost: constant; 64 bytes of stack. */
 BCUBE_RESULT bcube_answer bcube_digit(bcube_room room, uint64_t server, uint64_t level);
 
 /* The server with these digits, d0 being digit 0; those at places above k have to be zero.
- * Refuses 1, 2, 3, 21. Value: its address. Cost: constant; 0 bytes of stack. */
+ * Refuses 1, 2, 26, 3, 21. Value: its address. Cost: constant; 64 bytes of stack. */
 BCUBE_RESULT bcube_answer bcube_address(bcube_room room, uint64_t d0, uint64_t d1, uint64_t d2, uint64_t d3);
 
-/* The switch that a server's link at this level leads to. Refuses 1, 2, 3, 4, 20. Value: the switch's
- * number; together with the level it names the switch. Cost: constant; 0 bytes of stack. */
+/* The switch that a server's link at this level leads to. Refuses 1, 2, 26, 3, 4, 20. Value: the switch's
+ * number; together with the level it names the switch. Cost: constant; 64 bytes of stack. */
 BCUBE_RESULT bcube_answer bcube_switch(bcube_room room, uint64_t server, uint64_t level);
 
 /* The server at a port of a switch: the one whose digit at the level is the port, and whose switch there has this
- * number. Refuses 1, 2, 3, 20, 21 (the level has no switch of that number, or the switch no such port).
- * Value: its address. Cost: constant; 0 bytes of stack. */
+ * number. Refuses 1, 2, 26, 3, 20, 21 (the level has no switch of that number, or the switch no server at that
+ * port). Value: its address. Cost: constant; 64 bytes of stack. */
 BCUBE_RESULT bcube_answer bcube_server_at(bcube_room room, uint64_t level, uint64_t number, uint64_t port);
 
 /* The server whose digit at the level is this value, and whose other digits are this server's; where the
- * value is the server's own digit, that is the server itself. Refuses 1, 2, 3, 4, 20, 21 (the value is not
+ * value is the server's own digit, that is the server itself. Refuses 1, 2, 26, 3, 4, 20, 21 (the value is not
  * below the bound). Value: its address. Cost: constant; 64 bytes of stack. */
 BCUBE_RESULT bcube_answer bcube_neighbour(bcube_room room, uint64_t server, uint64_t level, uint64_t value);
 
-/* Whether two servers are neighbours: they differ in one digit only. Refuses 1, 2, 3, 4. Value: the level at
+/* Whether two servers are neighbours: they differ in one digit only. Refuses 1, 2, 26, 3, 4. Value: the level at
  * which they differ, plus 1; 0 where they are no neighbours (a server is not its own).
- * Cost: constant; 0 bytes of stack. */
+ * Cost: constant; 128 bytes of stack. */
 BCUBE_RESULT bcube_answer bcube_between(bcube_room room, uint64_t one, uint64_t other);
 
 /* ---- the failed-link table (of N bytes, as above) */
 
-/* Whether a link is marked as failed. Refuses 1, 2, 3, 4, 20, 6. Value: 1 if it is, else 0.
- * Cost: the table; 0 bytes of stack. */
+/* Whether a link is marked as failed. Refuses 1, 2, 26, 3, 4, 20, 6. Value: 1 if it is, else 0.
+ * Cost: the table; 64 bytes of stack. */
 BCUBE_RESULT bcube_answer bcube_failed_link(bcube_room room, uint64_t server, uint64_t level, const uint8_t *table,
                                             size_t table_len);
 
-/* Marks a link as failed. Refuses 1, 2, 3, 4, 20, 6. Value: 0. The one bit of the table is set, and no other
- * changes; marking a marked link changes nothing. Cost: the table; 0 bytes of stack. */
+/* Marks a link as failed. Refuses 1, 2, 26, 3, 4, 20, 6. Value: 0. The one bit of the table is set, and no other
+ * changes; marking a marked link changes nothing. Cost: the table; 64 bytes of stack. */
 BCUBE_RESULT bcube_answer bcube_mark_link(bcube_room room, uint64_t server, uint64_t level, uint8_t *table,
                                           size_t table_len);
 
-/* Clears a link of its mark. Refuses 1, 2, 3, 4, 20, 6. Value: 0. The one bit of the table is reset, and no
+/* Clears a link of its mark. Refuses 1, 2, 26, 3, 4, 20, 6. Value: 0. The one bit of the table is reset, and no
  * other changes; clearing a link that is not marked changes nothing.
- * Cost: the table; 0 bytes of stack. */
+ * Cost: the table; 64 bytes of stack. */
 BCUBE_RESULT bcube_answer bcube_clear_link(bcube_room room, uint64_t server, uint64_t level, uint8_t *table,
                                            size_t table_len);
 
-/* Marks all links of a server, levels 0 to k, as failed: the server is dead. Refuses 1, 2, 3, 4, 6. Value: 0. No
- * other server's byte changes. Cost: the table; 0 bytes of stack. */
+/* Marks all links of a server, levels 0 to k, as failed: the server is dead. Refuses 1, 2, 26, 3, 4, 6. Value: 0. No
+ * other server's byte changes. Cost: the table; 64 bytes of stack. */
 BCUBE_RESULT bcube_answer bcube_mark_server(bcube_room room, uint64_t server, uint8_t *table, size_t table_len);
 
-/* Clears all links of a server of their marks. Refuses 1, 2, 3, 4, 6. Value: 0. No other server's byte changes.
- * Cost: the table; 0 bytes of stack. */
+/* Clears all links of a server of their marks. Refuses 1, 2, 26, 3, 4, 6. Value: 0. No other server's byte changes.
+ * Cost: the table; 64 bytes of stack. */
 BCUBE_RESULT bcube_answer bcube_clear_server(bcube_room room, uint64_t server, uint8_t *table, size_t table_len);
 
 /* ---- path bytes */
 
-/* The path byte of a hop at this level to this value. Refuses 1, 2, 3, 20, 21 (the value is not below the
- * bound). Value: the byte. Cost: constant; 0 bytes of stack. */
+/* The path byte of a hop at this level to this value. Refuses 1, 2, 26, 3, 20, 21 (the value is not below the
+ * bound). Value: the byte. Cost: constant; 64 bytes of stack. */
 BCUBE_RESULT bcube_answer bcube_path_byte(bcube_room room, uint64_t level, uint64_t value);
 
-/* The level and the value of a path byte. Refuses 1, 2, 3; then, at route 1 and hop 1, 8 (a number above 255
+/* The level and the value of a path byte. Refuses 1, 2, 26, 3; then, at route 1 and hop 1, 8 (a number above 255
  * too) and 9. Value: both; read it by the two functions below.
  * Cost: constant; 0 bytes of stack. */
 BCUBE_RESULT bcube_answer bcube_path_byte_parts(bcube_room room, uint64_t byte);
@@ -296,26 +306,26 @@ static inline uint32_t bcube_byte_level(bcube_answer parts) { return bcube_value
 static inline uint32_t bcube_byte_value(bcube_answer parts) { return bcube_value(parts) & 255; }
 
 /* Reads one array as a route from source to destination. It looks at no failed links.
- * Refuses 1, 2, 3, 4 (either end), 5, 7; then hop by hop 8, 9, 10, 12; 13 after the eighth hop; 14 on the
+ * Refuses 1, 2, 26, 3, 4 (either end), 5, 7; then hop by hop 8, 9, 10, 12; 13 after the eighth hop; 14 on the
  * arrival. Value: how many servers the route has, its hops + 1. Written: those servers in order, the
  * source first; zeros after the last. Cost: constant; 704 bytes of stack. */
 BCUBE_BUFFER(6) BCUBE_RESULT bcube_answer bcube_read(bcube_room room, uint64_t source, uint64_t destination,
                                                      const uint8_t *path, size_t path_len, uint64_t servers[9]);
 
 /* Writes a route as path bytes: the servers in order, the source first, servers_len of them (2 to 9).
- * Refuses 1, 2, 3, 22, 4 (any of them), 5 (the first is the last); then hop by hop 23, 12. Value: 0.
+ * Refuses 1, 2, 26, 3, 22, 4 (any of them), 5 (the first is the last); then hop by hop 23, 12. Value: 0.
  * Written: the 8 path bytes, zeros after the last hop. Cost: constant; 384 bytes of stack. */
 BCUBE_BUFFER(4) BCUBE_RESULT bcube_answer bcube_write(bcube_room room, const uint64_t *servers, size_t servers_len,
                                                       uint8_t path[8]);
 
 /* The same route backwards. `path` is a route from source to destination, and refusals are those of
  * bcube_read. Value: 0. Written: the path bytes of the route from destination to source that meets the same
- * servers. Twice gives the first bytes again. Cost: constant; 960 bytes of stack. */
+ * servers. Twice gives the first bytes again. Cost: constant; 1024 bytes of stack. */
 BCUBE_BUFFER(6) BCUBE_RESULT bcube_answer bcube_reverse(bcube_room room, uint64_t source, uint64_t destination,
                                                         const uint8_t *path, size_t path_len, uint8_t reversed[8]);
 
 /* Checks a list of 1 to k+1 routes from source to destination: each reads over live links, and every two are
- * parallel. Refuses 1, 2, 3, 4 (either end), 5, 6, 7 (an empty list too); then route by route, hop by hop 8, 9, 10,
+ * parallel. Refuses 1, 2, 26, 3, 4 (either end), 5, 6, 7 (an empty list too); then route by route, hop by hop 8, 9, 10,
  * 11, 12, with 13 after the eighth hop and 14 on the arrival; then 15, by first, then by second route.
  * Value: 0. Cost: the table; 2368 bytes of stack. */
 BCUBE_RESULT bcube_answer bcube_check(bcube_room room, uint64_t source, uint64_t destination, const uint8_t *table,
@@ -324,13 +334,13 @@ BCUBE_RESULT bcube_answer bcube_check(bcube_room room, uint64_t source, uint64_t
 /* ---- routes */
 
 /* The built routes of a room in which all links are live: k+1 parallel routes.
- * Refuses 1, 2, 3, 4 (either end), 5. Value: how many arrays are written, k+1. Written: the arrays, that of
+ * Refuses 1, 2, 26, 3, 4 (either end), 5. Value: how many arrays are written, k+1. Written: the arrays, that of
  * slot k first; zeros after them. Cost: constant; 512 bytes of stack. */
 BCUBE_BUFFER(4) BCUBE_RESULT bcube_answer bcube_build(bcube_room room, uint64_t source, uint64_t destination,
                                                       uint8_t routes[32]);
 
 /* The least route over live links: the fewest hops, and among equals, hop by hop from the source, the higher
- * level first, then the lower value. Refuses 1, 2, 3, 4 (either end), 5, 6. Value: its hops; 0 where no
+ * level first, then the lower value. Refuses 1, 2, 26, 3, 4 (either end), 5, 6. Value: its hops; 0 where no
  * route of eight hops or fewer crosses only live links, which is no refusal. Written: its path bytes; zeros
  * where there is none. (The array of a route may be all zeros too: ask the value.)
  * Cost: the table and a search; 41216 bytes of stack. */
@@ -341,17 +351,17 @@ BCUBE_BUFFER(6) BCUBE_RESULT bcube_answer bcube_find(bcube_room room, uint64_t s
  * are live; if not, its place is taken by the least route, in the order of bcube_find, over live links that shares
  * no switch and no middle server with the routes already settled or with the built routes of the lower
  * slots. Where there is none of eight hops or fewer, the slot gets nothing.
- * Refuses 1, 2, 3, 4 (either end), 5, 6; and last 16, when no route at all of eight hops or fewer crosses
+ * Refuses 1, 2, 26, 3, 4 (either end), 5, 6; and last 16, when no route at all of eight hops or fewer crosses
  * only live links. Value: how many arrays are written, 1 to k+1. Written: the arrays in slot order, closed
  * up; zeros after them.
- * Cost: the table, and a search for each broken route; 45824 bytes of stack. */
+ * Cost: the table, and a search for each broken route; 45888 bytes of stack. */
 BCUBE_BUFFER(6) BCUBE_RESULT bcube_answer bcube_select(bcube_room room, uint64_t source, uint64_t destination,
                                                        const uint8_t *table, size_t table_len, uint8_t routes[32]);
 
 /* ---- picking */
 
 /* Picks one route: the first usable one of the fresh list, else the first usable one of the kept list. Usable
- * means that bcube_check would take it as a list of one. Either list may be empty. Refuses 1, 2, 3, 4 (either
+ * means that bcube_check would take it as a list of one. Either list may be empty. Refuses 1, 2, 26, 3, 4 (either
  * end), 5, 6, 7 (either list; an empty list is allowed); and last 16, when no route of either list is usable.
  * Value: which route it is; read it by the three functions below.
  * Cost: the table; 704 bytes of stack. */
@@ -392,9 +402,9 @@ static inline size_t bcube_pick_offset(bcube_answer answer) {
  * here is this server, destination the packet's; index, its next hop index, says which path byte names the
  * next hop; path are the packet's path bytes, and neighbours this server's neighbour table: 256 entries of 8 bytes,
  * indexed by path byte, each six bytes MAC, one OutPort, one StatusFlag. A flag of 1 is available, and every
- * other value is not.
+ * other value is not. An entry whose byte leads to no other server is never looked at, and may hold anything.
  *
- * Refuses 1, 2, 3, 4 (here or the destination), 17, 7, 18, 8, 9, 10, 19. Between 7 and 18 it is asked whether the
+ * Refuses 1, 2, 26, 3, 4 (here or the destination), 17, 7, 18, 8, 9, 10, 19. Between 7 and 18 it is asked whether the
  * packet has arrived, and an arrived packet is delivered with any index. On a refusal all but the refusal and
  * its hop is 0. At a delivery all but the 1 that says so is 0. A stored MAC may be 0 too.
  * Cost: constant; 64 bytes of stack. */

@@ -31,6 +31,7 @@ static answer a_step(bcube_stepped given) { return given; }
 
 BOTH(number, version, ())
 BOTH(a_room, room_of, (NUMBER(0), NUMBER(1)))
+BOTH(a_room, filled_room, (NUMBER(0), NUMBER(1), NUMBER(2)))
 BOTH(a_word, shape, (ROOM))
 BOTH(a_word, servers, (ROOM))
 BOTH(a_word, bound, (ROOM, NUMBER(0)))
@@ -61,11 +62,11 @@ BOTH(a_step, step, (ROOM, NUMBER(0), NUMBER(1), NUMBER(2), LENT(0), LENT(1)))
 
 /* sets of refusals; 0, no refusal, is in each */
 #define R(number) (UINT64_C(1) << (number))
-#define SHAPED (R(0) | R(1) | R(2) | R(3))
+#define SHAPED (R(0) | R(1) | R(2) | R(26) | R(3))
 #define ENDS (SHAPED | R(4) | R(5))
 #define HOPS_READ (R(8) | R(9) | R(10) | R(12) | R(13) | R(14))
 
-enum { IN_PLACE = -1, REFUSALS = 64 };
+enum { IN_PLACE = -1, REFUSALS = 64, LEAST = 100 };
 
 static const struct {
     const char *name;
@@ -78,6 +79,7 @@ static const struct {
 #define CALL(name, gives, out) #name, proved_##name, plainly_##name, gives, out
     [VERSION] = {CALL(version, R(0), 0), {0}, {0}},
     [ROOM_OF] = {CALL(room_of, R(0), 0), {"n", "k"}, {0}},
+    [FILLED_ROOM] = {CALL(filled_room, R(0), 0), {"n", "k", "m"}, {0}},
     [SHAPE] = {CALL(shape, SHAPED, 0), {0}, {0}},
     [SERVERS] = {CALL(servers, SHAPED, 0), {0}, {0}},
     [BOUND] = {CALL(bound, SHAPED | R(20), 0), {"level"}, {0}},
@@ -109,7 +111,7 @@ static const struct {
 };
 
 /* the refusal of what a call gave back, which is the lowest byte of a word */
-static uint32_t refusal_of(enum call call, answer given) { return call <= ROOM_OF ? 0 : (uint32_t)(given.word & 255); }
+static uint32_t refusal_of(enum call call, answer given) { return call <= FILLED_ROOM ? 0 : (uint32_t)(given.word & 255); }
 
 /* ---- the buffers */
 
@@ -161,7 +163,8 @@ static void print_lent(const struct question *q, int i) {
 }
 
 static void print_question(const struct question *q) {
-    printf("%s (%" PRIu64 ",%" PRIu64 ")", calls[q->call].name, q->room.number & 255, q->room.number >> 8);
+    printf("%s (%" PRIu64 ",%" PRIu64 ",%" PRIu64 ")", calls[q->call].name, q->room.number & 255,
+           q->room.number >> 8 & 255, q->room.number >> 16);
     for (int i = 0; i < 4 && calls[q->call].number[i]; i++)
         printf(" %s %" PRIu64, calls[q->call].number[i], q->number[i]);
     printf("\n");
@@ -175,7 +178,7 @@ static void print_answer(const char *whose, answer given, enum call call, const 
         printf(" %012" PRIx64 " (refusal %" PRIu32 ", hop %" PRIu32 ", delivered %d, index %" PRIu32 ", next %" PRIu32 ")",
                given.mac, bcube_step_refusal(given), bcube_step_hop(given), bcube_step_delivered(given),
                bcube_step_index(given), bcube_step_next(given));
-    else if (call > ROOM_OF)
+    else if (call > FILLED_ROOM)
         printf(" (refusal %" PRIu32 ", route %" PRIu32 ", hop %" PRIu32 ", value %" PRIu32 ")", bcube_refusal(word),
                bcube_route(word), bcube_hop(word), bcube_value(word));
     if (size) printf(" left");
@@ -292,10 +295,11 @@ int print_counts(void) {
     for (int call = 0; call < CALLS; call++) {
         printf("%-15s %10lu ", calls[call].name, count[call][0]);
         for (uint32_t r = 0; r < REFUSALS; r++) {
-            int can = (calls[call].gives & R(r)) != 0, reached = count[call][r] != 0;
-            if (r != 0 && (can || reached)) printf(" %" PRIu32 ":%lu", r, count[call][r]);
-            if (can == reached) continue;
-            printf(can ? " (not reached)" : " (not this call's)");
+            int can = (calls[call].gives & R(r)) != 0;
+            if (r != 0 && (can || count[call][r] != 0)) printf(" %" PRIu32 ":%lu", r, count[call][r]);
+            if (can ? count[call][r] >= LEAST : count[call][r] == 0) continue;
+            if (can) printf(" (fewer than %d)", LEAST);
+            else printf(" (not this call's)");
             amiss++;
         }
         printf("\n");

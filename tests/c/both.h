@@ -6,7 +6,7 @@
 #include "bcube.h"
 
 enum call {
-    VERSION, ROOM_OF,
+    VERSION, ROOM_OF, FILLED_ROOM,
     SHAPE, SERVERS, BOUND, SWITCHES, DIGITS, DIGIT, ADDRESS, SWITCH, SERVER_AT, NEIGHBOUR, BETWEEN,
     PATH_BYTE, PATH_BYTE_PARTS,
     FAILED_LINK, MARK_LINK, CLEAR_LINK, MARK_SERVER, CLEAR_SERVER,
@@ -50,7 +50,7 @@ unsigned long comparisons(void);
 unsigned long differences(void);
 
 /* Prints the counts by call and by refusal, and gives how many of these are amiss: a refusal that the call can
- * give and that was never reached, or one that it cannot give. */
+ * give and that was met fewer than 100 times, or one that it cannot give. */
 int print_counts(void);
 
 #endif

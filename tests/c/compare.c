@@ -1,11 +1,15 @@
 /* compare [ROUNDS]: puts the same questions to the proved library and to the plain implementation of plain.c,
  * and compares the answers and every buffer, byte for byte.
  *
- * First come the numbers worked by hand, and for each lent buffer a null pointer with no length; then every room
- * of at most 64 servers: each server, level, value, switch and port, each ordered pair under several failed-link
- * tables, each path byte as a hop; then as many rounds (1 if not said) of questions of any kind in rooms of
- * every size, with arguments and buffers damaged in every way that the rules name, and numbers of up to 64 bits. The same numbers give the same run. Prints the counts by call and by refusal; status 1 if
- * anything differs, or a refusal was never reached. */
+ * First come the numbers worked by hand, and for each lent buffer a null pointer with no length; then rooms made of
+ * any two and of any three numbers, every shape of up to 69 ports, and every call in rooms of damaged shapes; then
+ * every room of at most 64 servers, full and half-filled: each server, level, value, switch and port, each link, each
+ * ordered pair under several failed-link tables, each path byte as a hop; but only some of the one-level half-filled
+ * rooms for links, pairs and path bytes, some of the two-level ones for pairs and path bytes, and some of the one-level
+ * full rooms for path bytes; in half-filled rooms each vacant port; then as many rounds (1 if not said) of questions
+ * of any kind in rooms of every size, with arguments and buffers damaged in every way that the rules name, and numbers
+ * of up to 64 bits. The same numbers give the same run. Prints the counts by call and by refusal; status 1 if anything
+ * differs, or a refusal was met fewer than 100 times by a call that can give it. */
 #include "both.h"
 
 #include "bcube.h"
@@ -42,7 +46,7 @@ static uint64_t odd(void) {
 
 /* ---- the room that the questions are about, and its failed-link table */
 
-static uint32_t n, k, servers;
+static uint32_t n, k, m, servers;
 static bcube_room room;
 static uint8_t failed[MOST + ARRAY];
 static uint8_t neighbours[BCUBE_NEIGHBOUR_TABLE_BYTES + ARRAY];
@@ -53,13 +57,32 @@ static uint32_t power(uint32_t base, uint32_t exponent) {
     return result;
 }
 
-static void enter(uint32_t ports, uint32_t levels) {
+static void enter(uint32_t ports, uint32_t levels, uint32_t fill) {
     n = ports;
     k = levels;
-    servers = power(n, k + 1);
-    room = plain_room_of(n, k);
+    m = fill;
+    servers = m * power(n, k);
+    room = plain_filled_room(n, k, m);
     memset(failed, 0, sizeof failed);
 }
+
+static void enter_full(uint32_t ports, uint32_t levels) { enter(ports, levels, ports); }
+
+/* rooms of every form: full ones, and half-filled ones, some of which would have more than 4,096 servers if full */
+static const uint32_t chosen[][3] = {{8, 3, 8}, {16, 2, 16}, {64, 1, 64}, {64, 0, 64}, {7, 3, 7}, {6, 3, 6}, {5, 3, 5},
+                                     {4, 3, 4}, {3, 3, 3}, {2, 3, 2}, {8, 3, 4}, {8, 3, 2}, {9, 3, 5}, {12, 3, 2},
+                                     {17, 2, 14}, {45, 2, 2}, {64, 0, 2}, {4, 1, 2}, {3, 2, 2}, {4, 2, 3}};
+enum { CHOSEN = sizeof chosen / sizeof *chosen };
+
+static void enter_chosen(uint32_t i) { enter(chosen[i][0], chosen[i][1], chosen[i][2]); }
+
+/* full as often as not */
+static uint32_t any_fill(uint32_t ports) { return any(2) ? ports : 2 + any(ports - 1); }
+
+static void enter_any(uint32_t ports, uint32_t levels) { enter(ports, levels, any_fill(ports)); }
+
+/* how many values a digit at this level has */
+static uint32_t bound(uint32_t level) { return level == k ? m : n; }
 
 static uint32_t digit_of(uint32_t server, uint32_t level) { return server / power(n, level) % n; }
 
@@ -180,27 +203,93 @@ static struct question with(struct question q, const void *at, size_t len) {
 
 static void worked_addresses(void) {
     static const uint64_t digits[4] = {1, 1, 0, 1}, top[4] = {7, 7, 7, 7};
-    enter(8, 3);
+    enter_full(8, 3);
     worked(about(ADDRESS, 1, 0, 0, 0), valued(1), "", 0);
     worked(about(ADDRESS, 1, 1, 0, 1), valued(521), "", 0);
     worked(about(DIGITS, 521, 0, 0, 0), 0, digits, sizeof digits);
     worked(about(DIGITS, 4095, 0, 0, 0), 0, top, sizeof top);
     worked(about(DIGITS, 4096, 0, 0, 0), refused(4, 0, 0), "", 0);
-    static const struct { uint32_t n, k, why; } shapes[] = {{8, 3, 0}, {16, 2, 0}, {64, 1, 0}, {64, 0, 0}, {2, 0, 0},
-        {9, 3, 3}, {17, 2, 3}, {65, 0, 1}, {1, 2, 1}, {2, 4, 2}, {65, 4, 1}, {64, 4, 2}};
-    for (size_t i = 0; i < sizeof shapes / sizeof *shapes; i++) {
-        room = plain_room_of(shapes[i].n, shapes[i].k);
-        worked(about(SHAPE, 0, 0, 0, 0), shapes[i].why, "", 0);
-        worked(about(ROOM_OF, shapes[i].n, shapes[i].k, 0, 0), shapes[i].n + 256 * shapes[i].k, "", 0);
-    }
-    worked(about(ROOM_OF, 256, 3, 0, 0), 255 + 256 * 3, "", 0);
-    worked(about(ROOM_OF, UINT64_C(1) << 32 | 8, UINT64_MAX, 0, 0), 255 + 256 * 255, "", 0);
     worked(about(VERSION, 0, 0, 0, 0), BCUBE_VERSION, "", 0);
+}
+
+/* the last that are rooms, the first that are none, and where more than one of 1, 2, 26 and 3 applies the first */
+static void worked_shapes(void) {
+    static const struct { uint32_t n, k, m, why; } shapes[] = {
+        {8, 3, 8, 0}, {16, 2, 16, 0}, {64, 1, 64, 0}, {64, 0, 64, 0}, {2, 0, 2, 0}, {9, 3, 9, 3}, {17, 2, 17, 3},
+        {65, 0, 65, 1}, {1, 2, 1, 1}, {2, 4, 2, 2}, {65, 4, 65, 1}, {64, 4, 64, 2},
+        {8, 3, 4, 0}, {8, 3, 2, 0}, {9, 3, 5, 0}, {12, 3, 2, 0}, {17, 2, 14, 0}, {45, 2, 2, 0}, {64, 0, 2, 0},
+        {9, 3, 6, 3}, {13, 3, 2, 3}, {17, 2, 15, 3}, {46, 2, 2, 3}, {64, 3, 2, 3}, {8, 3, 1, 26}, {8, 3, 0, 26},
+        {8, 3, 9, 26}, {2, 0, 1, 26}, {2, 0, 3, 26}, {64, 0, 65, 26}, {9, 3, 10, 26}, {64, 3, 65, 26}, {64, 3, 1, 26},
+        {64, 4, 65, 2}, {8, 4, 1, 2}, {64, 4, 0, 2}, {65, 4, 66, 1}, {65, 3, 66, 1}, {1, 0, 2, 1}, {0, 4, 0, 1}};
+    for (size_t i = 0; i < sizeof shapes / sizeof *shapes; i++) {
+        uint64_t number = shapes[i].n + 256 * shapes[i].k + 65536 * shapes[i].m;
+        worked(about(FILLED_ROOM, shapes[i].n, shapes[i].k, shapes[i].m, 0), number, "", 0);
+        if (shapes[i].m == shapes[i].n) worked(about(ROOM_OF, shapes[i].n, shapes[i].k, 0, 0), number, "", 0);
+        room.number = number;
+        worked(about(SHAPE, 0, 0, 0, 0), shapes[i].why, "", 0);
+    }
+    worked(about(ROOM_OF, 256, 3, 0, 0), 255 + 256 * 3 + 65536 * 255, "", 0);
+    worked(about(ROOM_OF, 8, 256, 0, 0), 8 + 256 * 255 + 65536 * 8, "", 0);
+    worked(about(ROOM_OF, UINT64_C(1) << 32 | 8, UINT64_MAX, 0, 0), 255 + 256 * 255 + 65536 * 255, "", 0);
+    worked(about(FILLED_ROOM, 256, 3, 4, 0), 255 + 256 * 3 + 65536 * 4, "", 0);
+    worked(about(FILLED_ROOM, UINT64_C(1) << 32 | 8, UINT64_MAX, 256, 0), 255 + 256 * 255 + 65536 * 255, "", 0);
+    worked(about(FILLED_ROOM, 8, 3, UINT64_MAX, 0), 8 + 256 * 3 + 65536 * 255, "", 0);
+    /* no fill, as in a number of version 2; and fills above 255, some so large that 64^3 times them is 2^64 */
+    static const uint64_t none[] = {0, 256, 258, UINT64_C(1) << 46, (UINT64_C(1) << 46) + 2, (UINT64_C(1) << 48) - 1};
+    for (size_t i = 0; i < sizeof none / sizeof *none; i++) {
+        room.number = 64 + 256 * 3 + (none[i] << 16);
+        worked(about(SHAPE, 0, 0, 0, 0), 26, "", 0);
+    }
+}
+
+/* half-filled rooms: 256 switches on each of the levels 0 to 2 of (8,3,4), and 512 on level 3; digits, addresses */
+static void worked_half_filled(void) {
+    static const uint64_t top[4] = {7, 7, 7, 3};
+    enter(8, 3, 4);
+    worked(about(SERVERS, 0, 0, 0, 0), valued(2048), "", 0);
+    for (uint32_t level = 0; level < 4; level++) {
+        worked(about(BOUND, level, 0, 0, 0), valued(level < 3 ? 8 : 4), "", 0);
+        worked(about(SWITCHES, level, 0, 0, 0), valued(level < 3 ? 256 : 512), "", 0);
+    }
+    worked(about(DIGITS, 2047, 0, 0, 0), 0, top, sizeof top);
+    worked(about(DIGITS, 2048, 0, 0, 0), refused(4, 0, 0), "", 0);
+    worked(about(ADDRESS, 0, 0, 4, 0), valued(256), "", 0);
+    worked(about(ADDRESS, 0, 0, 0, 4), refused(21, 0, 0), "", 0);
+    worked(about(SERVER_AT, 3, 511, 3, 0), valued(2047), "", 0);
+    worked(about(SERVER_AT, 3, 511, 4, 0), refused(21, 0, 0), "", 0);
+    worked(about(SERVER_AT, 0, 256, 0, 0), refused(21, 0, 0), "", 0);
+    enter(12, 3, 2);
+    worked(about(SERVERS, 0, 0, 0, 0), valued(3456), "", 0);
+    worked(about(SWITCH, 3455, 3, 0, 0), valued(1727), "", 0);
+    worked(about(SWITCH, 3455, 0, 0, 0), valued(287), "", 0);
+    enter(64, 0, 2);
+    worked(about(BOUND, 0, 0, 0, 0), valued(2), "", 0);
+    worked(about(SWITCHES, 0, 0, 0, 0), valued(1), "", 0);
+}
+
+/* and routes there: the detour at level k goes from 3 to 0 in (8,3,4), and to the other half and back in (8,3,2) */
+static void worked_half_filled_routes(void) {
+    static const uint8_t to_0[32] = {0xc0, 0x41, 0xc3, 0, 0, 0, 0, 0, 0x81, 0x41, 0x80, 0, 0, 0, 0, 0,
+                                     0x41, 0, 0, 0, 0, 0, 0, 0, 0x02, 0x41, 0x01};
+    static const uint8_t other[32] = {0xc0, 0x02, 0xc1, 0, 0, 0, 0, 0, 0x81, 0x02, 0x80, 0, 0, 0, 0, 0,
+                                      0x41, 0x02, 0x40, 0, 0, 0, 0, 0, 0x02};
+    static const uint8_t by_2[8] = {0x42, 3, 0x40}, both[16] = {0x41, 3, 0, 0, 0, 0, 0, 0, 3, 0x41};
+    static const uint64_t met[9] = {0, 8, 11, 3};
+    enter(8, 3, 4);
+    worked(about(BUILD, 1537, 1545, 0, 0), valued(4), to_0, 32);
+    enter(8, 3, 2);
+    worked(about(BUILD, 513, 514, 0, 0), valued(4), other, 32);
+    enter_full(4, 1);
+    worked(with(about(READ, 0, 3, 0, 0), by_2, 8), valued(4), met, sizeof met);
+    enter(4, 1, 2);
+    worked(with(about(READ, 0, 3, 0, 0), by_2, 8), refused(9, 1, 1), "", 0);
+    worked(with(with(about(CHECK, 0, 7, 0, 0), failed, 8), both, 16), 0, "", 0);
+    worked(with(with(about(CHECK, 0, 7, 0, 0), failed, 16), both, 16), refused(6, 0, 0), "", 0);
 }
 
 /* the switch of server 521 at level 1 is 65, where it is at port 1; byte c1 is level 3, value 1 */
 static void worked_wiring(void) {
-    enter(8, 3);
+    enter_full(8, 3);
     worked(about(SWITCHES, 1, 0, 0, 0), valued(512), "", 0);
     worked(about(SWITCH, 521, 1, 0, 0), valued(65), "", 0);
     worked(about(SERVER_AT, 1, 65, 1, 0), valued(521), "", 0);
@@ -213,7 +302,7 @@ static void worked_wiring(void) {
     worked(about(PATH_BYTE_PARTS, 0xc1, 0, 0, 0), valued(256 * 3 + 1), "", 0);
     worked(about(PATH_BYTE_PARTS, 8, 0, 0, 0), refused(9, 1, 1), "", 0);
     worked(about(PATH_BYTE_PARTS, 256, 0, 0, 0), refused(8, 1, 1), "", 0);
-    enter(4, 1);
+    enter_full(4, 1);
     static const uint8_t dead[16] = {0, 0, 0, 3}, one[16] = {0, 0, 0, 2};
     worked(with(about(MARK_SERVER, 3, 0, 0, 0), one, 16), 0, dead, 16);
     worked(with(about(CLEAR_SERVER, 3, 0, 0, 0), dead, 16), 0, (const uint8_t[16]){0}, 16);
@@ -223,7 +312,7 @@ static void worked_wiring(void) {
 /* each lent buffer as a null pointer with no length, the others as they should be: a good empty buffer */
 static void worked_nothing(void) {
     static const uint8_t list[8] = {0x41, 3};
-    enter(4, 1);
+    enter_full(4, 1);
     worked(about(FAILED_LINK, 0, 0, 0, 0), refused(6, 0, 0), "", 0);
     worked(about(MARK_LINK, 0, 0, 0, 0), refused(6, 0, 0), "", 0);
     worked(about(CLEAR_LINK, 0, 0, 0, 0), refused(6, 0, 0), "", 0);
@@ -264,14 +353,14 @@ static void worked_routes(void) {
     static const uint8_t back[8] = {0x40, 0xc0}, built[32] = {0x41, 3, 0, 0, 0, 0, 0, 0, 3, 0x41};
     static const uint8_t around[32] = {0x41, 3, 0, 0, 0, 0, 0, 0, 1, 0x42, 3, 0x41}, zero[32] = {0};
     static const uint64_t last_two[9] = {1, 0};
-    enter(8, 3);
+    enter_full(8, 3);
     worked(about(BUILD, 1, 521, 0, 0), valued(4), figure4, 32);
     worked(with(about(REVERSE, 1, 521, 0, 0), figure4, 8), 0, back, 8);
-    enter(4, 1);
+    enter_full(4, 1);
     worked(about(BUILD, 0, 7, 0, 0), valued(2), built, 32);
     kill_server(3);
     worked(with(about(SELECT, 0, 7, 0, 0), failed, servers), valued(2), around, 32);
-    enter(2, 0);
+    enter_full(2, 0);
     worked(about(BUILD, 1, 0, 0, 0), valued(1), zero, 32);
     worked(with(about(READ, 1, 0, 0, 0), zero, 8), valued(2), last_two, sizeof last_two);
     worked(about(BUILD, 0, 0, 0, 0), refused(5, 0, 0), "", 0);
@@ -279,13 +368,13 @@ static void worked_routes(void) {
 
 static void worked_refusals(void) {
     static const uint8_t twice[16] = {3, 0, 0, 0, 0, 0, 0, 0, 3}, same[8] = {1, 3}, eight[8] = {8}, level[8] = {0x80};
-    enter(4, 1);
+    enter_full(4, 1);
     worked(with(about(READ, 0, 3, 0, 0), same, 8), refused(12, 1, 2), "", 0);
     worked(with(with(about(CHECK, 0, 3, 0, 0), failed, servers), twice, 16), refused(15, 2, 0), "", 0);
     worked(with(about(READ, 0, 3, 0, 0), level, 8), refused(8, 1, 1), "", 0);
     worked(with(with(about(STEP, 3, 3, 8, 0), twice, 8), neighbours, BCUBE_NEIGHBOUR_TABLE_BYTES), 1 << 16, "", 0);
     worked(with(with(about(STEP, 0, 3, 8, 0), twice, 8), neighbours, BCUBE_NEIGHBOUR_TABLE_BYTES), 18, "", 0);
-    enter(8, 3);
+    enter_full(8, 3);
     worked(with(about(READ, 0, 3, 0, 0), eight, 8), refused(9, 1, 1), "", 0);
 }
 
@@ -298,7 +387,7 @@ static void picked(bcube_answer given, uint32_t list, uint32_t route, size_t off
 /* picking, read by its accessors: the second of the kept list, the first of the fresh list, and none */
 static void worked_picking(void) {
     static const uint8_t unusable[8] = {3, 1}, lists[16] = {0x80, 0, 0, 0, 0, 0, 0, 0, 3};
-    enter(4, 1);
+    enter_full(4, 1);
     picked(ask_pick(0, 3, unusable, 8, lists, 16), BCUBE_KEPT, 2, 8);
     picked(ask_pick(0, 3, lists + 8, 8, lists, 0), BCUBE_FRESH, 1, 0);
     picked(ask_pick(0, 3, unusable, 8, lists, 8), 0, 0, 0);
@@ -375,7 +464,7 @@ static void every_link(void) {
 
 static uint8_t any_hop(uint32_t here) {
     uint32_t level = any(k + 1);
-    return (uint8_t)(64 * level + (digit_of(here, level) + 1 + any(n - 1)) % n);
+    return (uint8_t)(64 * level + (digit_of(here, level) + 1 + any(bound(level) - 1)) % bound(level));
 }
 
 /* some hops anywhere, then the digits corrected in any order, as far as eight bytes go */
@@ -552,36 +641,116 @@ static void every_hop(void) {
     for (uint32_t a = 0; a < servers; a++) every_byte(a, another(a));
 }
 
+/* ---- half-filled rooms: the vacant ports of level k, m to n - 1, where a full room has servers */
+
+/* an array whose byte at this hop names a vacant port; all links are live */
+static void vacant_hop(uint32_t source, uint32_t destination, const uint8_t array[ARRAY], uint32_t hop) {
+    uint8_t routes[BCUBE_LIST_BYTES], list[2 * ARRAY];
+    uint32_t here = hop == 1 ? source : after(source, array[0]);
+    worked(with(about(READ, source, destination, 0, 0), array, ARRAY), refused(9, 1, hop), "", 0);
+    worked(with(about(REVERSE, source, destination, 0, 0), array, ARRAY), refused(9, 1, hop), "", 0);
+    struct question check = with(about(CHECK, source, destination, 0, 0), failed, servers);
+    worked(with(check, array, ARRAY), refused(9, 1, hop), "", 0);
+    struct question step = with(about(STEP, here, destination, hop - 1, 0), array, ARRAY);
+    worked(with(step, neighbours, BCUBE_NEIGHBOUR_TABLE_BYTES), 9 | hop << 8, "", 0);
+    if (k == 0) return;
+    plain_build(room, source, destination, routes);
+    memcpy(list, routes, ARRAY);
+    memcpy(list + ARRAY, array, ARRAY);
+    worked(with(check, list, 2 * ARRAY), refused(9, 2, hop), "", 0);
+}
+
+/* a vacant port is 21 as a digit, a value and a port, and 9 in a path byte, at the first hop and at a later one */
+static void vacant_port(uint32_t port) {
+    uint32_t source = any(servers), met, destination;
+    uint8_t byte = (uint8_t)(64 * k + port), first[ARRAY] = {byte}, second[ARRAY] = {any_hop(source), byte};
+    uint64_t digits[4] = {0};
+    digits[k] = port;
+    neighbours[BCUBE_NEIGHBOUR_ENTRY_BYTES * byte + BCUBE_NEIGHBOUR_FLAG] = BCUBE_NEIGHBOUR_AVAILABLE;
+    worked(about(ADDRESS, digits[0], digits[1], digits[2], digits[3]), refused(21, 0, 0), "", 0);
+    worked(about(NEIGHBOUR, source, k, port, 0), refused(21, 0, 0), "", 0);
+    worked(about(SERVER_AT, k, any(servers / m), port, 0), refused(21, 0, 0), "", 0);
+    worked(about(PATH_BYTE, k, port, 0, 0), refused(21, 0, 0), "", 0);
+    worked(about(PATH_BYTE_PARTS, byte, 0, 0, 0), refused(9, 1, 1), "", 0);
+    vacant_hop(source, another(source), first, 1);
+    if (servers == 2) return;
+    met = after(source, second[0]);
+    do destination = another(source);
+    while (destination == met);
+    vacant_hop(source, destination, second, 2);
+}
+
+static void every_vacant_port(void) {
+    for (uint32_t port = m; port < n; port++) vacant_port(port);
+}
+
 /* ---- all small rooms */
 
 static void part(const char *what) {
     static unsigned long before;
-    printf("%-58s %10lu comparisons\n", what, comparisons() - before);
+    printf("%-67s %9lu comparisons\n", what, comparisons() - before);
     fflush(stdout);
     before = comparisons();
 }
 
-/* every room of at most 64 servers; of those with one level, of 2 to 64 ports, only those so far apart */
-static void small_rooms(void (*what)(void), uint32_t apart) {
+/* every full room of at most 64 servers; of those with one level, of 2 to 64 ports, only those so far apart */
+static void small_full_rooms(void (*what)(void), uint32_t apart) {
     for (uint32_t levels = 0; levels <= 3; levels++)
         for (uint32_t ports = 2; power(ports, levels + 1) <= SMALL; ports += levels == 0 ? apart : 1) {
-            enter(ports, levels);
+            enter_full(ports, levels);
             what();
         }
 }
 
+/* every half-filled room of at most 64 servers; but of those with one level, and of those with two, one in so many */
+static void small_half_filled_rooms(void (*what)(void), uint32_t of_one_level, uint32_t of_two_levels) {
+    for (uint32_t levels = 0; levels <= 3; levels++) {
+        uint32_t one_in = levels == 0 ? of_one_level : levels == 1 ? of_two_levels : 1, number = 0;
+        for (uint32_t ports = 3; ports <= 64 && 2 * power(ports, levels) <= SMALL; ports++)
+            for (uint32_t fill = 2; fill < ports && fill * power(ports, levels) <= SMALL; fill++) {
+                if (number++ % one_in != 0) continue;
+                enter(ports, levels, fill);
+                what();
+            }
+    }
+}
+
+/* the calls that ask for nothing but the shape, and a level */
+static void one_shape(void) {
+    bcube_answer shape = ask_numbers(SHAPE, 0, 0, 0, 0);
+    ask_numbers(SERVERS, 0, 0, 0, 0);
+    for (uint64_t level = 0; level < (bcube_refusal(shape) ? 1 : 5); level++) {
+        ask_numbers(BOUND, level, 0, 0, 0);
+        ask_numbers(SWITCHES, level, 0, 0, 0);
+    }
+}
+
+/* a number on either side of 255, or an odd one */
+static uint64_t around_255(void) { return any(2) ? any(260) : odd(); }
+
+/* rooms made of every two numbers up to 259, and of any two and any three */
+static void rooms_of_any_numbers(void) {
+    for (uint64_t ports = 0; ports < 260; ports++)
+        for (uint64_t levels = 0; levels < 260; levels++) ask_numbers(ROOM_OF, ports, levels, 0, 0);
+    for (uint32_t i = 0; i < 100000; i++) {
+        uint64_t ports = around_255(), levels = around_255();
+        ask_numbers(ROOM_OF, ports, levels, 0, 0);
+        ask_numbers(FILLED_ROOM, ports, levels, any(4) ? around_255() : ports, 0);
+    }
+}
+
 static void every_shape(void) {
     for (uint32_t ports = 0; ports < 70; ports++)
-        for (uint32_t levels = 0; levels < 8; levels++) {
-            uint64_t p = ports == 69 ? odd() : ports, l = levels == 7 ? odd() : levels;
-            ask_numbers(ROOM_OF, p, l, 0, 0);
-            room = plain_room_of(p, l);
-            ask_numbers(SHAPE, 0, 0, 0, 0);
-            ask_numbers(SERVERS, 0, 0, 0, 0);
-            ask_numbers(BOUND, any(5), 0, 0, 0);
-            room.number = odd(); /* no room that bcube_room_of makes */
-            ask_numbers(SERVERS, 0, 0, 0, 0);
-        }
+        for (uint32_t levels = 0; levels < 8; levels++)
+            for (uint32_t fill = 0; fill < 70; fill++) {
+                uint64_t p = ports == 69 ? odd() : ports, l = levels == 7 ? odd() : levels;
+                uint64_t f = fill == 69 ? odd() : fill;
+                ask_numbers(FILLED_ROOM, p, l, f, 0);
+                room = plain_filled_room(p, l, f);
+                one_shape();
+                room.number = odd();
+                ask_numbers(SERVERS, 0, 0, 0, 0);
+            }
 }
 
 /* ---- questions of any kind, and what is done to them */
@@ -615,15 +784,16 @@ static struct question any_question(enum call call) {
     uint8_t routes[BCUBE_LIST_BYTES];
     struct question q = about(call, source, destination, 0, 0);
     if (call <= PATH_BYTE_PARTS || call == BUILD) {
-        if (call == ROOM_OF) q.number[0] = any(70), q.number[1] = any(6);
-        if (call == BOUND || call == SWITCHES || call == SERVER_AT || call == PATH_BYTE) q.number[0] = any(k + 1);
-        if (call == SERVER_AT) q.number[1] = any(servers / n), q.number[2] = any(n);
-        if (call == PATH_BYTE) q.number[1] = any(n);
+        uint32_t level = any(k + 1);
+        if (call == ROOM_OF || call == FILLED_ROOM) q.number[0] = any(70), q.number[1] = any(6), q.number[2] = any(70);
+        if (call == BOUND || call == SWITCHES || call == SERVER_AT || call == PATH_BYTE) q.number[0] = level;
+        if (call == SERVER_AT) q.number[1] = any(servers / bound(level)), q.number[2] = any(bound(level));
+        if (call == PATH_BYTE) q.number[1] = any(bound(level));
         if (call == PATH_BYTE_PARTS) q.number[0] = any(256);
         if (call == ADDRESS)
-            for (uint32_t i = 0; i < 4; i++) q.number[i] = i <= k ? any(n) : 0;
-        if (call == DIGIT || call == SWITCH || call == NEIGHBOUR) q.number[1] = any(k + 1);
-        if (call == NEIGHBOUR) q.number[2] = any(n);
+            for (uint32_t i = 0; i < 4; i++) q.number[i] = i <= k ? any(bound(i)) : 0;
+        if (call == DIGIT || call == SWITCH || call == NEIGHBOUR) q.number[1] = level;
+        if (call == NEIGHBOUR) q.number[2] = any(bound(level));
         if (call == BETWEEN && any(2)) q.number[1] = after(source, any_hop(source));
     } else if (call == READ || call == REVERSE) {
         make_array(source, destination, path);
@@ -647,12 +817,21 @@ static struct question any_question(enum call call) {
     return q;
 }
 
+/* n, k or m as it should not be, too many servers, or any number */
+static bcube_room damaged_room(void) {
+    uint32_t ports = 13 + any(52), levels = 2 + any(2);
+    switch (any(5)) {
+    case 0: return any(2) ? plain_room_of(odd(), k) : plain_filled_room(odd(), k, m);
+    case 1: return plain_filled_room(n, odd(), m);
+    case 2: return plain_filled_room(n, k, any(2) ? odd() : any(2) ? any(2) : n + 1 + any(3));
+    case 3: return plain_filled_room(ports, levels, 2 + any(64));
+    default: return (bcube_room){any(2) ? odd() : room.number + (UINT64_C(1) << any(64))};
+    }
+}
+
 static void damage_number(struct question *q) {
     switch (any(10)) {
-    case 0: q->room = plain_room_of(odd(), k); break;
-    case 1: q->room = plain_room_of(n, odd()); break;
-    case 2: q->room = plain_room_of(9 + any(56), 2 + any(2)); break;
-    case 3: q->room.number = any(2) ? odd() : q->room.number + (UINT64_C(1) << any(64)); break;
+    case 0: case 1: case 2: case 3: q->room = damaged_room(); break;
     case 4: q->number[1] = q->number[0]; break;
     case 5: q->number[any(4)] = servers + any(2); break;
     case 6: q->number[any(4)] += UINT64_C(1) << (8 + any(56)); break;
@@ -696,18 +875,18 @@ static void damage_buffer(struct question *q) {
 }
 
 static void any_room(void) {
-    static const uint32_t large[][2] = {{8, 3}, {16, 2}, {64, 1}, {64, 0}, {7, 3}, {6, 3}, {5, 3}, {4, 3}, {3, 3}, {2, 3}};
-    uint32_t ports, levels;
+    uint32_t ports, levels, fill, size;
     if (any(4) == 0) {
-        uint32_t i = any(10);
-        enter(large[i][0], large[i][1]);
+        enter_chosen(any(CHOSEN));
         return;
     }
     do {
         levels = any(8) ? 1 + any(3) : 0;
-        ports = 2 + any(levels == 1 ? 63 : levels == 2 ? 15 : levels == 3 ? 7 : 63);
-    } while (any(2) && power(ports, levels + 1) > 256);
-    enter(ports, levels);
+        ports = 2 + any(levels == 2 ? 44 : levels == 3 ? 11 : 63);
+        fill = any_fill(ports);
+        size = fill * power(ports, levels);
+    } while (size > MOST || (any(2) && size > 256));
+    enter(ports, levels, fill);
 }
 
 /* questions of every call; the searches are fewer in large rooms, where each takes long */
@@ -722,6 +901,27 @@ static void any_questions(uint32_t count) {
             for (uint32_t times = 1 + any(3); times > 0; times--) (any(2) ? damage_number : damage_buffer)(&q);
         ask(&q);
     }
+}
+
+/* every call in rooms of damaged shapes, each of 1, 2, 26 and 3 alone and together with each other: n, k and m at
+ * and past their limits, as bcube_filled_room makes the room of them and as the bytes of a number, where m has all that
+ * is above k */
+static void damaged_shapes(void) {
+    static const uint64_t ports[] = {0, 1, 2, 8, 9, 13, 46, 64, 65, 255}, levels[] = {0, 1, 2, 3, 4, 255};
+    static const uint64_t fills[] = {0, 1, 2, 3, 8, 9, 10, 63, 64, 65, 66, 255, 256, 258, 65535, UINT64_C(1) << 32,
+                                     UINT64_C(1) << 46, (UINT64_C(1) << 46) + 2, UINT64_MAX};
+    for (uint32_t call = SHAPE; call < CALLS; call++)
+        for (size_t p = 0; p < sizeof ports / sizeof *ports; p++)
+            for (size_t l = 0; l < sizeof levels / sizeof *levels; l++)
+                for (size_t f = 0; f < sizeof fills / sizeof *fills; f++) {
+                    uint32_t small = 2 + any(3);
+                    enter_any(small, any(3));
+                    struct question q = any_question((enum call)call);
+                    q.room = plain_filled_room(ports[p], levels[l], fills[f]);
+                    ask(&q);
+                    q.room.number = ports[p] | levels[l] << 8 | fills[f] << 16;
+                    ask(&q);
+                }
 }
 
 /* lengths that are right in their low 32 bits, over memory that is there */
@@ -746,9 +946,8 @@ static void vast_lengths(void) {
     }
 }
 
-/* a large room: pairs, with every path byte at one of them */
-static void large_room(uint32_t ports, uint32_t levels, uint32_t pairs) {
-    enter(ports, levels);
+/* pairs of a room, with every path byte at one of them */
+static void some_pairs(uint32_t pairs) {
     fill_neighbours();
     for (uint32_t i = 0; i < pairs; i++) {
         uint32_t source = any_server(), destination = another(source);
@@ -763,7 +962,7 @@ static void large_room(uint32_t ports, uint32_t levels, uint32_t pairs) {
 static void any_lists(uint32_t lists) {
     for (uint32_t i = 0; i < lists; i++) {
         uint8_t routes[BCUBE_LIST_BYTES], list[BCUBE_LIST_BYTES] = {0};
-        if (i % 16 == 0) enter(2 + any(2), 3);
+        if (i % 16 == 0) enter_any(2 + any(2), 3);
         uint32_t source = any_server(), destination = another(source), count = 2 + any(3);
         plain_build(room, source, destination, routes);
         if (any(2))
@@ -775,17 +974,14 @@ static void any_lists(uint32_t lists) {
 }
 
 static void one_round(void) {
-    any_questions(30000);
+    any_questions(200000);
     any_lists(10000);
     vast_lengths();
-    large_room(8, 3, 12);
-    large_room(16, 2, 8);
-    large_room(64, 1, 8);
-    large_room(64, 0, 8);
-    for (int i = 0; i < 6; i++) large_room(3 + any(5), 3, 8);
-    for (int i = 0; i < 6; i++) large_room(5 + any(11), 2, 8);
-    for (int i = 0; i < 6; i++) large_room(9 + any(55), 1, 8);
-    enter(2 + any(3), 2);
+    for (uint32_t i = 0; i < CHOSEN; i++) enter_chosen(i), some_pairs(12);
+    for (int i = 0; i < 6; i++) enter_any(3 + any(5), 3), some_pairs(8);
+    for (int i = 0; i < 6; i++) enter_any(5 + any(11), 2), some_pairs(8);
+    for (int i = 0; i < 6; i++) enter_any(9 + any(55), 1), some_pairs(8);
+    enter_any(2 + any(3), 2);
     fail_links(2 + any(12));
     every_pair(1);
 }
@@ -807,23 +1003,44 @@ int main(int count, char **words) {
     open_both();
     fill_neighbours();
     worked_addresses();
+    worked_shapes();
+    worked_half_filled();
+    worked_half_filled_routes();
     worked_wiring();
     worked_nothing();
     worked_routes();
     worked_refusals();
     worked_picking();
     part("worked by hand");
+    rooms_of_any_numbers();
+    part("rooms made of any numbers");
     every_shape();
     part("every shape and more");
-    small_rooms(every_server, 1);
-    small_rooms(every_digit, 1);
-    small_rooms(every_port, 1);
-    small_rooms(every_link, 1);
-    part("rooms of at most 64 servers: every server, level, value");
-    small_rooms(pairs_under_tables, 1);
-    part("rooms of at most 64 servers: every ordered pair");
-    small_rooms(every_hop, 31);
-    part("rooms of at most 64 servers: every path byte");
+    damaged_shapes();
+    part("every call in rooms of damaged shapes");
+    small_full_rooms(every_server, 1);
+    small_full_rooms(every_digit, 1);
+    small_full_rooms(every_port, 1);
+    small_full_rooms(every_link, 1);
+    part("full rooms of at most 64 servers: every server, level, value");
+    small_full_rooms(pairs_under_tables, 1);
+    part("full rooms of at most 64 servers: every ordered pair");
+    small_full_rooms(every_hop, 31);
+    part("full rooms of at most 64 servers: every path byte");
+    small_half_filled_rooms(every_server, 1, 1);
+    small_half_filled_rooms(every_digit, 1, 1);
+    small_half_filled_rooms(every_port, 1, 1);
+    small_half_filled_rooms(every_link, 31, 1);
+    part("half-filled rooms of at most 64 servers: every server, level, value");
+    small_half_filled_rooms(pairs_under_tables, 31, 7);
+    enter(4, 1, 2);
+    pairs_under_tables();
+    part("half-filled rooms of at most 64 servers: every ordered pair");
+    small_half_filled_rooms(every_hop, 311, 7);
+    part("half-filled rooms of at most 64 servers: every path byte");
+    small_half_filled_rooms(every_vacant_port, 1, 1);
+    for (uint32_t i = 0; i < CHOSEN; i++) enter_chosen(i), every_vacant_port();
+    part("half-filled rooms: every vacant port");
     for (unsigned long round = 1; round <= rounds; round++) {
         one_round();
         if (rounds > 1) progress(round, rounds);

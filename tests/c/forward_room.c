@@ -1,14 +1,15 @@
-/* Forwards packets over whole small rooms with the proved step, as a driver would, and holds every step to
- * the plain step of plain.c.
+/* Forwards packets over whole rooms, full and half-filled, with the proved step, as a driver would, and holds every
+ * step to the plain step of plain.c.
  *
  * For each room and each of several failed-link tables: neighbour tables for every server are made from the
- * failed-link table; then for every pair of different servers every built route is forwarded. A route that
- * crosses no failed link must be delivered after exactly its hops; any other must be refused with 19 at its
- * first hop over one. Then the library selects routes for the pair under the failed-link table, and every
- * selected route must be delivered after exactly its hops; where it has none to give, no built route may be
+ * failed-link table, with anything in the entries that name no neighbour; then for every pair of different servers
+ * (in a large room, for every server and one other) every built route is forwarded. A route that crosses no failed
+ * link must be delivered after exactly its hops; any other must be refused with 19 at its first hop over one.
+ * Then the library selects routes for the pair (in a large room, for one pair in eight) under the failed-link table,
+ * and every selected route must be delivered after exactly its hops; where it has none to give, no built route may be
  * unbroken. Then paths are damaged, one byte at a time, and every step of each must be as the plain step
- * says. Last come steps with any numbers and lengths. Prints what was done; status 1 if anything was not as
- * it must be. */
+ * says; a hop to a vacant port of level k, m to n - 1, must be refused with 9. Last come steps with any numbers
+ * and lengths. Prints what was done; status 1 if anything was not as it must be. */
 #include "plain.h"
 
 #include <inttypes.h>
@@ -19,10 +20,14 @@
 
 /* ---- a room, its failed links and its neighbour tables */
 
-static uint32_t n, k, servers;
+static uint32_t n, k, m, servers;
 static bcube_room room;
 static uint8_t failed[BCUBE_MOST_SERVERS]; /* bit l: that server's link at level l */
 static uint8_t (*tables)[BCUBE_NEIGHBOUR_TABLE_BYTES];
+enum { LARGE = 256 }; /* in rooms of more servers not every pair is taken */
+
+/* how many values a digit at this level has */
+static uint32_t bound(uint32_t level) { return level == k ? m : n; }
 
 static uint32_t digit_of(uint32_t address, uint32_t level) {
     while (level-- > 0) address /= n;
@@ -48,8 +53,8 @@ static unsigned long failures;
 __attribute__((format(printf, 5, 6)))
 static void wrong(bcube_room of, uint64_t here, uint64_t destination, uint64_t index, const char *given, ...) {
     if (failures++ >= 20) return;
-    printf("wrong: shape (%" PRIu64 ",%" PRIu64 "), at %" PRIu64 " for %" PRIu64 ", index %" PRIu64 ": ", of.number & 255,
-           of.number >> 8, here, destination, index);
+    printf("wrong: shape (%" PRIu64 ",%" PRIu64 ",%" PRIu64 "), at %" PRIu64 " for %" PRIu64 ", index %" PRIu64 ": ",
+           of.number & 255, of.number >> 8 & 255, of.number >> 16, here, destination, index);
     va_list words;
     va_start(words, given);
     vprintf(given, words);
@@ -87,6 +92,7 @@ static int live(uint32_t from, uint32_t to, uint32_t level) {
     return !(failed[from] >> level & 1) && !(failed[to] >> level & 1);
 }
 
+/* an entry that names no neighbour holds anything, and says available as often as not */
 static void make_tables(void) {
     static const uint8_t closed[] = {0, 2, 3, 128, 255};
     for (uint32_t a = 0; a < servers; a++)
@@ -94,8 +100,10 @@ static void make_tables(void) {
             uint8_t *entry = tables[a] + 8 * byte;
             uint32_t level = byte / 64, value = byte % 64;
             for (int i = 0; i < 8; i++) entry[i] = (uint8_t)any(256);
-            if (level <= k && value < n && digit_of(a, level) != value)
+            if (level <= k && value < bound(level) && digit_of(a, level) != value)
                 entry[7] = live(a, with_digit(a, level, value), level) ? 1 : closed[any(5)];
+            else if (any(2))
+                entry[7] = 1;
         }
 }
 
@@ -122,7 +130,7 @@ static struct route built(uint32_t source, uint32_t destination, uint32_t slot) 
     memset(&r, 0, sizeof r);
     r.met[0] = source;
     if (digit_of(source, slot) == digit_of(destination, slot)) {
-        hop(&r, slot, (digit_of(source, slot) + 1) % n);
+        hop(&r, slot, (digit_of(source, slot) + 1) % bound(slot));
         for (uint32_t j = 1; j <= k + 1; j++) correct(&r, destination, (slot + (k + 1) - j) % (k + 1));
     } else {
         for (uint32_t j = 0; j <= k; j++) correct(&r, destination, (slot + (k + 1) - j) % (k + 1));
@@ -143,7 +151,7 @@ static struct route taken(uint32_t source, uint32_t destination, const uint8_t *
 
 /* ---- forwarding */
 
-static unsigned long delivered, broken, selected, unreached, damaged;
+static unsigned long delivered, broken, selected, unreached, damaged, vacant;
 
 /* the first hop over a failed link, counted from 1; 0 if there is none */
 static uint32_t first_failed(const struct route *r) {
@@ -205,11 +213,22 @@ static void forward_selected(uint32_t source, uint32_t destination, uint32_t unb
     }
 }
 
+/* whether a path byte names a port of level k at which a full room would have a server, and this one has none */
+static int is_vacant(uint8_t byte) { return byte / 64 == k && byte % 64 >= m && byte % 64 < n; }
+
+/* the step to a vacant port has to be refused as such */
+static void refused_vacant(bcube_stepped s, uint32_t here, uint32_t destination, uint32_t index) {
+    vacant++;
+    if (bcube_step_refusal(s) != BCUBE_REFUSED_VALUE || bcube_step_hop(s) != index + 1)
+        wrong(room, here, destination, index, "%016" PRIx64 " at a vacant port, wanted refusal 9", s.word);
+}
+
 /* Follows any path until it is refused or delivered, which it must be within nine steps. */
 static void follow(const uint8_t *path, uint32_t source, uint32_t destination) {
     uint32_t here = source, index = 0;
     for (int i = 0; i < 9; i++) {
         bcube_stepped s = held_step(room, here, destination, index, path, 8, tables[here], BCUBE_NEIGHBOUR_TABLE_BYTES);
+        if (here != destination && index < 8 && is_vacant(path[index])) refused_vacant(s, here, destination, index);
         if (bcube_step_refusal(s) != 0 || bcube_step_delivered(s)) return;
         here = bcube_step_next(s);
         index = bcube_step_index(s);
@@ -221,13 +240,13 @@ static void damage(const struct route *r, uint32_t destination) {
     uint8_t path[8];
     for (uint32_t i = 0; i < 8; i++) {
         memcpy(path, r->path, 8);
-        path[i] = (uint8_t)any(256);
+        path[i] = (uint8_t)(any(2) ? any(256) : 64 * k + any(n));
         follow(path, r->met[0], destination);
         damaged++;
     }
 }
 
-static void forward_pair(uint32_t source, uint32_t destination) {
+static void forward_pair(uint32_t source, uint32_t destination, int with_selected) {
     uint32_t unbroken = 0;
     for (uint32_t slot = 0; slot <= k; slot++) {
         struct route r = built(source, destination, slot);
@@ -238,21 +257,31 @@ static void forward_pair(uint32_t source, uint32_t destination) {
         if (any(4) == 0) damage(&r, destination);
     }
     delivered += unbroken;
-    forward_selected(source, destination, unbroken);
+    if (with_selected) forward_selected(source, destination, unbroken);
+}
+
+/* to every other server; in a large room to one, and by selected routes one time in eight */
+static void forward_from(uint32_t source) {
+    if (servers > LARGE) {
+        uint32_t destination = (source + 1 + any(servers - 1)) % servers;
+        forward_pair(source, destination, any(8) == 0);
+        return;
+    }
+    for (uint32_t d = 0; d < servers; d++)
+        if (d != source) forward_pair(source, d, 1);
 }
 
 static void forward_all(void) {
     make_tables();
-    for (uint32_t a = 0; a < servers; a++)
-        for (uint32_t d = 0; d < servers; d++)
-            if (a != d) forward_pair(a, d);
+    for (uint32_t a = 0; a < servers; a++) forward_from(a);
 }
 
-static void whole_room(uint32_t ports, uint32_t levels) {
+static void whole_room(uint32_t ports, uint32_t levels, uint32_t fill) {
     n = ports;
     k = levels;
-    servers = power(n, k + 1);
-    room = bcube_room_of(n, k);
+    m = fill;
+    servers = m * power(n, k);
+    room = bcube_filled_room(n, k, m);
     memset(failed, 0, sizeof failed);
     forward_all(); /* every link live */
     failed[any(servers)] = (uint8_t)(power(2, k + 1) - 1);
@@ -280,7 +309,7 @@ static void any_steps(unsigned long count) {
     static const size_t lengths[] = {0, 7, 9, 16, 2040, 2047, 2049, 2056};
     static uint8_t path[2100], table[2100];
     while (count-- > 0) {
-        bcube_room of = bcube_room_of(odd(70), odd(5));
+        bcube_room of = bcube_filled_room(odd(70), odd(5), odd(70));
         uint64_t here = odd(4200), destination = any(4) == 0 ? here : odd(4200);
         for (int i = 0; i < 16; i++) path[i] = (uint8_t)any(256);
         for (int i = 0; i < 8; i++) table[8 * path[any(8)] + i] = (uint8_t)any(256);
@@ -288,23 +317,21 @@ static void any_steps(unsigned long count) {
         size_t path_len = any(8) == 0 ? lengths[any(8)] : 8, table_len = any(8) == 0 ? lengths[any(8)] : 2048;
         held_step(of, here, destination, odd(10), path, path_len, table, table_len);
         /* and in a room, so that most tests are passed */
-        uint32_t p = 2 + any(7), l = any(4), size = power(p, l + 1);
+        uint32_t p = 2 + any(7), l = any(4), f = 2 + any(p - 1), size = f * power(p, l);
         uint32_t a = any(size);
         path[any(8)] = (uint8_t)(64 * any(l + 1) + any(p));
-        held_step(bcube_room_of(p, l), a, any(8) == 0 ? a : any(size), any(9), path, 8, table, 2048);
+        held_step(bcube_filled_room(p, l, f), a, any(8) == 0 ? a : any(size), any(9), path, 8, table, 2048);
     }
 }
 
 int main(void) {
-    tables = malloc((size_t)256 * sizeof *tables);
+    static const uint32_t rooms[][3] = {{2, 0, 2}, {5, 0, 5}, {4, 1, 4}, {2, 3, 2}, {3, 2, 3}, {3, 3, 3}, {9, 1, 9},
+                                        {5, 0, 2}, {64, 0, 3}, {64, 0, 2}, {4, 1, 2}, {9, 1, 5}, {3, 2, 2}, {4, 2, 3},
+                                        {3, 3, 2}, {8, 3, 4}, {9, 3, 5}, {12, 3, 2}, {45, 2, 2}};
+    tables = malloc((size_t)BCUBE_MOST_SERVERS * sizeof *tables);
     if (!tables) return 2;
-    whole_room(2, 0);
-    whole_room(5, 0);
-    whole_room(4, 1);
-    whole_room(2, 3);
-    whole_room(3, 2);
-    whole_room(3, 3);
-    whole_room(9, 1);
+    const size_t count = sizeof rooms / sizeof *rooms;
+    for (size_t i = 0; i < count; i++) whole_room(rooms[i][0], rooms[i][1], rooms[i][2]);
     unsigned long routed = steps;
     any_steps(200000);
     /* the worked numbers: at the destination any index, elsewhere 18 */
@@ -313,12 +340,13 @@ int main(void) {
     bcube_stepped at = bcube_step(four, 3, 3, 8, path, 8, table, 2048), away = bcube_step(four, 0, 3, 8, path, 8, table, 2048);
     if (!bcube_step_delivered(at)) wrong(four, 3, 3, 8, "%016" PRIx64 ", wanted a delivery", at.word);
     if (bcube_step_refusal(away) != BCUBE_REFUSED_HOP_INDEX) wrong(four, 0, 3, 8, "%016" PRIx64 ", wanted refusal 18", away.word);
-    printf("rooms (2,0) (5,0) (4,1) (2,3) (3,2) (3,3) (9,1), six failed-link tables each: %lu packets on built routes\n"
-           "delivered after exactly their hops, %lu refused at their first failed link; %lu packets on selected routes\n"
-           "delivered after exactly their hops, %lu pairs with no route; %lu damaged paths followed, %lu steps; %lu steps\n"
-           "of any numbers\n",
-           delivered, broken, selected, unreached, damaged, routed, steps - routed);
+    printf("rooms");
+    for (size_t i = 0; i < count; i++) printf(" (%" PRIu32 ",%" PRIu32 ",%" PRIu32 ")", rooms[i][0], rooms[i][1], rooms[i][2]);
+    printf("\nsix failed-link tables each: %lu packets on built routes delivered after exactly their hops, %lu refused at their\n"
+           "first failed link; %lu packets on selected routes delivered after exactly their hops, %lu pairs with no route;\n"
+           "%lu damaged paths followed, %lu to a vacant port and refused there, %lu steps; %lu steps of any numbers\n",
+           delivered, broken, selected, unreached, damaged, vacant, routed, steps - routed);
     printf("%lu steps held to the rules, %lu wrong\n", steps, failures);
     free(tables);
-    return failures != 0;
+    return failures != 0 || vacant == 0;
 }

@@ -29,6 +29,18 @@ static void rooms(bcube_room room) {
     holds(bcube_refusal(bcube_digit(room, (UINT64_C(1) << 32) + 1, 0)) == BCUBE_REFUSED_ADDRESS, "a number is cut");
     holds(bcube_refusal(bcube_shape(bcube_room_of(UINT64_C(1) << 32 | 8, 3))) == BCUBE_REFUSED_PORTS, "n is cut");
     holds(bcube_refusal(bcube_shape(bcube_room_of(8, 256))) == BCUBE_REFUSED_LEVELS, "k is cut");
+    holds(bcube_refusal(bcube_shape(bcube_filled_room(8, 3, UINT64_C(1) << 32 | 8))) == BCUBE_REFUSED_FILL, "m is cut");
+}
+
+static void half_filled(bcube_room room) {
+    holds(bcube_value(bcube_servers(room)) == 2048, "servers of a half-filled room");
+    holds(bcube_value(bcube_bound(room, 2)) == 8 && bcube_value(bcube_bound(room, 3)) == 4, "its bounds");
+    holds(bcube_value(bcube_switches(room, 2)) == 256 && bcube_value(bcube_switches(room, 3)) == 512, "its switches");
+    holds(bcube_refusal(bcube_address(room, 0, 0, 0, 4)) == BCUBE_REFUSED_DIGIT, "a digit that is not below m");
+    holds(bcube_refusal(bcube_shape(bcube_filled_room(8, 3, BCUBE_LEAST_FILL))) == BCUBE_NOT_REFUSED, "the least fill");
+    holds(bcube_refusal(bcube_shape(bcube_filled_room(8, 3, BCUBE_LEAST_FILL - 1))) == BCUBE_REFUSED_FILL, "below the least fill");
+    holds(bcube_filled_room(8, 3, 8).number == bcube_room_of(8, 3).number, "a full room");
+    holds(bcube_room_of(8, 3).number == 8 + 256 * 3 + 65536 * 8, "its number");
 }
 
 static void links(bcube_room room) {
@@ -82,16 +94,17 @@ static void steps(bcube_room room) {
 /* every number has a sentence of its own, and every other number one that says so */
 static void texts(void) {
     const char *none = bcube_refusal_text(UINT64_MAX);
-    holds(strcmp(bcube_refusal_text(BCUBE_REFUSED_NOT_NEIGHBOURS + 1), none) == 0, "a text too many");
-    for (uint64_t i = 0; i <= BCUBE_REFUSED_NOT_NEIGHBOURS; i++) {
-        holds(strcmp(bcube_refusal_text(i), none) != 0, "a number without a text");
-        for (uint64_t j = 0; j < i; j++) holds(strcmp(bcube_refusal_text(i), bcube_refusal_text(j)) != 0, "two texts are the same");
+    for (uint64_t i = 0; i < 256; i++) {
+        int given = i <= BCUBE_REFUSED_NOT_NEIGHBOURS || i == BCUBE_REFUSED_FILL;
+        holds((strcmp(bcube_refusal_text(i), none) != 0) == given, "a number without a text, or a text too many");
+        for (uint64_t j = 0; j < i && given; j++) holds(strcmp(bcube_refusal_text(i), bcube_refusal_text(j)) != 0, "two texts are the same");
     }
 }
 
 int main(void) {
     bcube_room room = bcube_room_of(8, BCUBE_MOST_LEVEL);
     rooms(room);
+    half_filled(bcube_filled_room(8, BCUBE_MOST_LEVEL, 4));
     links(room);
     paths(room);
     steps(room);

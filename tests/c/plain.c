@@ -32,7 +32,7 @@ static int is_refused(bcube_answer answer) { return (answer.word & 255) != 0; }
 /* ---- rooms, places and switches */
 
 struct room {
-    uint32_t n, k, servers;
+    uint32_t n, k, m, servers;
 };
 
 /* a server by its digits; those above k are zero */
@@ -40,19 +40,24 @@ struct place {
     uint32_t digit[LEVELS];
 };
 
-/* opens the room, and gives the refusal of its shape, or 0 */
+/* opens the room, and gives the refusal of its shape, or 0; m is all that stands above k */
 static uint32_t enter(struct room *room, bcube_room value) {
-    uint64_t n = value.number & 255, k = value.number >> 8;
+    uint64_t n = value.number & 255, k = value.number >> 8 & 255, m = value.number >> 16;
     if (n < 2 || n > 64) return 1;
     if (k > 3) return 2;
-    uint64_t servers = 1;
-    for (uint64_t level = 0; level <= k; level++) servers *= n;
+    if (m < 2 || m > n) return 26;
+    uint64_t servers = m;
+    for (uint64_t level = 0; level < k; level++) servers *= n;
     if (servers > MOST_SERVERS) return 3;
     room->n = (uint32_t)n;
     room->k = (uint32_t)k;
+    room->m = (uint32_t)m;
     room->servers = (uint32_t)servers;
     return 0;
 }
+
+/* how many values a digit at this level has */
+static uint32_t bound(const struct room *room, uint32_t level) { return level == room->k ? room->m : room->n; }
 
 static struct place place_of(const struct room *room, uint64_t address) {
     struct place place = {{0}};
@@ -199,7 +204,7 @@ static uint32_t hop_refusal(const struct room *room, const uint8_t *table, struc
     uint32_t level = byte / 64, value = byte % 64;
     struct place from = last(route);
     if (level > room->k) return 8;
-    if (value >= room->n) return 9;
+    if (value >= bound(room, level)) return 9;
     if (from.digit[level] == value) return 10;
     struct place to = moved(from, level, value);
     if (table && (link_failed(room, table, &from, level) || link_failed(room, table, &to, level))) return 11;
@@ -237,7 +242,7 @@ static struct route built_route(const struct room *room, const struct place *sou
     begin(&route, *source);
     int detour = source->digit[slot] == goal->digit[slot];
     if (detour)
-        append(&route, slot, (source->digit[slot] + 1) % room->n);
+        append(&route, slot, (source->digit[slot] + 1) % bound(room, slot));
     else
         correct(&route, goal, slot);
     for (uint32_t level = slot; level-- > 0;) correct(&route, goal, level);
@@ -293,7 +298,7 @@ static void spread(struct search *search, uint32_t address, uint8_t distance) {
     struct place here = place_of(search->room, address);
     for (uint32_t level = 0; level <= search->room->k; level++) {
         if (!open_at(search, &here, level)) continue;
-        for (uint32_t value = 0; value < search->room->n; value++) {
+        for (uint32_t value = 0; value < bound(search->room, level); value++) {
             struct place there = moved(here, level, value);
             uint8_t *known = &search->distance[address_of(search->room, &there)];
             if (*known == FAR && may_enter(search, &there, level)) *known = distance;
@@ -323,7 +328,7 @@ static int extend(const struct search *search, struct route *route, uint32_t lef
     if (fewest_left(search, &here) > left) return 0;
     for (uint32_t level = search->room->k + 1; level-- > 0;) {
         if (!open_at(search, &here, level) || uses_switch(route, &here, level)) continue;
-        for (uint32_t value = 0; value < search->room->n; value++) {
+        for (uint32_t value = 0; value < bound(search->room, level); value++) {
             struct place there = moved(here, level, value);
             if (value == here.digit[level] || !may_enter(search, &there, level) || meets(route, &there)) continue;
             append(route, level, value);
@@ -348,11 +353,15 @@ static int least_route(struct search *search, uint64_t source, struct route *rou
 
 /* ---- the calls: the room, addresses and switches */
 
-uint64_t plain_version(void) { return 20000; }
+uint64_t plain_version(void) { return 30000; }
 
-bcube_room plain_room_of(uint64_t n, uint64_t k) {
-    return (bcube_room){(n > 255 ? 255 : n) | (k > 255 ? 255 : k) << 8};
+static uint64_t held(uint64_t number) { return number > 255 ? 255 : number; }
+
+bcube_room plain_filled_room(uint64_t n, uint64_t k, uint64_t m) {
+    return (bcube_room){held(n) | held(k) << 8 | held(m) << 16};
 }
+
+bcube_room plain_room_of(uint64_t n, uint64_t k) { return plain_filled_room(n, k, n); }
 
 bcube_answer plain_shape(bcube_room value) {
     struct room room;
@@ -371,7 +380,7 @@ bcube_answer plain_bound(bcube_room value, uint64_t level) {
     uint32_t why = enter(&room, value);
     if (why) return refused(why);
     if (level > room.k) return refused(20);
-    return answered(room.n);
+    return answered(bound(&room, (uint32_t)level));
 }
 
 /* one more than the highest number of a switch that any server has at the level */
@@ -419,7 +428,7 @@ bcube_answer plain_address(bcube_room value, uint64_t d0, uint64_t d1, uint64_t 
     uint32_t why = enter(&room, value);
     if (why) return refused(why);
     for (uint32_t level = 0; level < LEVELS; level++) {
-        if (level <= room.k ? digit[level] >= room.n : digit[level] != 0) return refused(21);
+        if (level <= room.k ? digit[level] >= bound(&room, level) : digit[level] != 0) return refused(21);
         place.digit[level] = (uint32_t)digit[level];
     }
     return answered(address_of(&room, &place));
@@ -454,7 +463,7 @@ bcube_answer plain_neighbour(bcube_room value, uint64_t server, uint64_t level, 
     if (why) return refused(why);
     if (server >= room.servers) return refused(4);
     if (level > room.k) return refused(20);
-    if (digit >= room.n) return refused(21);
+    if (digit >= bound(&room, (uint32_t)level)) return refused(21);
     struct place there = moved(place_of(&room, server), (uint32_t)level, (uint32_t)digit);
     return answered(address_of(&room, &there));
 }
@@ -523,7 +532,7 @@ bcube_answer plain_path_byte(bcube_room value, uint64_t level, uint64_t digit) {
     uint32_t why = enter(&room, value);
     if (why) return refused(why);
     if (level > room.k) return refused(20);
-    if (digit >= room.n) return refused(21);
+    if (digit >= bound(&room, (uint32_t)level)) return refused(21);
     return answered((uint32_t)(64 * level + digit));
 }
 
@@ -533,7 +542,7 @@ bcube_answer plain_path_byte_parts(bcube_room value, uint64_t byte) {
     if (why) return refused(why);
     uint64_t level = byte >> 6, digit = byte & 63;
     if (level > room.k) return refused_at(8, 1, 1);
-    if (digit >= room.n) return refused_at(9, 1, 1);
+    if (digit >= bound(&room, (uint32_t)level)) return refused_at(9, 1, 1);
     return answered((uint32_t)(level << 8 | digit));
 }
 
@@ -723,7 +732,7 @@ bcube_stepped plain_step(bcube_room value, uint64_t here, uint64_t destination, 
     uint32_t level = path[index] / 64, digit = path[index] % 64;
     struct place from = place_of(&room, here);
     if (level > room.k) return step_refused(8, index + 1);
-    if (digit >= room.n) return step_refused(9, index + 1);
+    if (digit >= bound(&room, level)) return step_refused(9, index + 1);
     if (from.digit[level] == digit) return step_refused(10, index + 1);
     const uint8_t *entry = neighbours + 8 * path[index];
     if (entry[7] != 1) return step_refused(19, index + 1);

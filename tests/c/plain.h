@@ -9,6 +9,7 @@
 uint64_t plain_version(void);
 
 bcube_room plain_room_of(uint64_t n, uint64_t k);
+bcube_room plain_filled_room(uint64_t n, uint64_t k, uint64_t m);
 bcube_answer plain_shape(bcube_room room);
 bcube_answer plain_servers(bcube_room room);
 bcube_answer plain_bound(bcube_room room, uint64_t level);

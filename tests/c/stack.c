@@ -26,12 +26,13 @@ static struct {
 } q;
 static uint64_t digits[4], servers[BCUBE_ROUTE_SERVERS];
 static uint8_t table[BCUBE_MOST_SERVERS], path[BCUBE_PATH_BYTES], routes[BCUBE_LIST_BYTES];
-enum { QUESTIONS = 400 };
+enum { QUESTIONS = 630 };
 
 static void next_question(int i) {
-    static const uint32_t shapes[][2] = {{8, 3}, {16, 2}, {64, 1}, {64, 0}, {4, 1}, {2, 3}, {3, 3}, {2, 0}, {9, 3}};
-    const uint32_t *shape = shapes[i % 9];
-    q.room = plain_room_of(shape[0], shape[1]);
+    static const uint32_t shapes[][3] = {{8, 3, 8}, {16, 2, 16}, {64, 1, 64}, {64, 0, 64}, {4, 1, 4}, {2, 3, 2}, {3, 3, 3},
+                                         {2, 0, 2}, {9, 3, 9}, {8, 3, 4}, {12, 3, 2}, {45, 2, 2}, {64, 0, 2}, {8, 3, 9}};
+    const uint32_t *shape = shapes[i % (int)(sizeof shapes / sizeof *shapes)];
+    q.room = plain_filled_room(shape[0], shape[1], shape[2]);
     q.servers = bcube_value(plain_servers(q.room));
     uint32_t most = q.servers ? (uint32_t)q.servers : 4096;
     q.source = any(most);
@@ -51,7 +52,8 @@ static void next_question(int i) {
     memset(q.neighbours, any(2), sizeof q.neighbours);
 }
 
-/* ---- the calls: each by a pointer that is the call, or an empty one */
+/* ---- the calls: each by a pointer that is the call, or an empty one, from deeper on the stack than what runs there
+ * once it has returned, which would hide the first bytes of a call */
 
 #define ENDS q.source, q.destination
 #define TABLE q.failed, q.servers
@@ -59,7 +61,8 @@ static void next_question(int i) {
 #define PATH q.path, sizeof q.path
 #define CALLS                                                                      \
     CALL(uint64_t, version, (), (void))                                            \
-    CALL(bcube_room, room_of, (q.value, q.level), (uint64_t, uint64_t))            \
+    CALL(bcube_room, room_of, (q.value, q.level), (uint64_t, uint64_t))           \
+    CALL(bcube_room, filled_room, (q.value, q.level, q.value), (uint64_t, uint64_t, uint64_t)) \
     CALL(bcube_answer, shape, (q.room), (bcube_room))                              \
     CALL(bcube_answer, servers, (q.room), (bcube_room))                            \
     CALL(bcube_answer, bound, (q.room, q.level), (bcube_room, uint64_t))           \
@@ -91,7 +94,7 @@ static void next_question(int i) {
 #define CALL(form, name, arguments, parameters)                                       \
     __attribute__((noipa)) static form empty_##name parameters { form nothing; memset(&nothing, 0, sizeof nothing); return nothing; } \
     static form(*volatile call_##name) parameters;                                    \
-    static void run_##name(void) { form given = call_##name arguments; (void)given; }
+    static void run_##name(void) { volatile uint8_t deeper[256]; deeper[0] = 0; form given = call_##name arguments; (void)given, (void)deeper[0]; }
 #pragma GCC diagnostic ignored "-Wunused-parameter"
 CALLS
 #undef CALL

@@ -111,6 +111,8 @@ def groups():
     yield 'refusal 1', [b'1 0 0 1\n', b'0 0 0 0\n', b'65 0 0 1\n', b'65 4 0 0\n', b'1 4 9 9\n', b'1 0 0 1']
     yield 'refusal 2', [b'2 4 0 1\n', b'64 4 0 0\n', b'8 4 1 521\n', b'2 4 65535 65535\n']
     yield 'refusal 3', [b'9 3 0 1\n', b'17 2 0 1\n', b'64 2 0 0\n', b'64 3 5000 5000\n']
+    yield 'full rooms alone: no half-filled one takes the place of a room that is too large, and five numbers are no line', [
+        b'12 3 0 1\n', b'45 2 0 1\n', b'9 3 3644 0\n', b'8 3 2048 4095\n', b'8 3 4 1537 1545\n', b'8 3 8 1 521\n']
     yield 'refusal 4', [b'8 3 4096 0\n', b'8 3 0 4096\n', b'8 3 4096 4096\n', b'2 0 2 0\n', b'2 0 0 2\n', b'4 1 16 15\n']
     yield 'refusal 5', [b'8 3 1 1\n', b'2 0 0 0\n', b'8 3 4095 4095\n', b'2 0 0 00\n']
     yield 'the ends of every kind of room', [b'%d %d %d %d\n' % (n, k, a, d) for n, k in SHAPES for a, d in ((0, n ** (k + 1) - 1), (n ** (k + 1) - 1, 0), (0, 1))]

@@ -4,14 +4,20 @@
   tests/worked/model.py            recompute every row of crates/worked_*/stdout and say which differ
   tests/worked/model.py FILE..     the same for other files of rows
 
-A row is a question, ' = ' and an answer. The model shares nothing with the library: digits are lists, neighbours are found
-by comparing digits, and an alternate is found by trying all routes in order.
+A row is a question, ' = ' and an answer. A question names its room by (n,k) where the room is full, and by (n,k,m) where it is
+not. The model shares nothing with the library: digits are lists, switches are counted one by one, neighbours are found by
+comparing digits, and an alternate is found by trying all routes in order.
 """
+import collections
 import glob
 import itertools
+import math
 import os
 import re
 import sys
+
+# n ports a switch, levels 0 to k, and m values of digit k
+Shape = collections.namedtuple('Shape', 'n k m')
 
 
 class Refused(Exception):
@@ -24,76 +30,93 @@ class Refused(Exception):
         return f'refused {n}' + (f' route {r} hop {h}' if r else '')
 
 
-def digits(n, k, a):
-    return [a // n ** i % n for i in range(k + 1)]
+def bounds(s):
+    """What each digit is below, digit 0 first."""
+    return [s.n] * s.k + [s.m]
 
 
-def address(n, ds):
-    return sum(d * n ** i for i, d in enumerate(ds))
+def room(s):
+    """All servers: as many as there are ways to choose the digits."""
+    return range(math.prod(bounds(s)))
 
 
-def test_shape(n, k):
-    if not 2 <= n <= 64:
+def digits(s, a):
+    return [a // s.n ** i % s.n for i in range(s.k + 1)]
+
+
+def address(s, ds):
+    return sum(d * s.n ** i for i, d in enumerate(ds))
+
+
+def test_shape(s):
+    if not 2 <= s.n <= 64:
         raise Refused(1)
-    if k > 3:
+    if s.k > 3:
         raise Refused(2)
-    if n ** (k + 1) > 4096:
+    if not 2 <= s.m <= s.n:
+        raise Refused(26)
+    if len(room(s)) > 4096:
         raise Refused(3)
 
 
-def test_server(n, k, *servers):
-    test_shape(n, k)
+def test_server(s, *servers):
+    test_shape(s)
     for a in servers:
-        if a >= n ** (k + 1):
+        if a not in room(s):
             raise Refused(4)
 
 
-def test_level(n, k, level):
-    if level > k:
+def test_level(s, level):
+    if level > s.k:
         raise Refused(20)
 
 
-def test_ends(n, k, a, d):
-    test_server(n, k, a, d)
+def test_value(s, level, value):
+    if value >= bounds(s)[level]:
+        raise Refused(21)
+
+
+def test_ends(s, a, d):
+    test_server(s, a, d)
     if a == d:
         raise Refused(5)
 
 
-def test_table(n, k, table):
-    if len(table) != n ** (k + 1) or any(x >= 2 ** (k + 1) for x in table):
+def test_table(s, table):
+    if len(table) != len(room(s)) or any(x >= 2 ** (s.k + 1) for x in table):
         raise Refused(6)
 
 
-def switch(n, k, a, level):
-    ds = digits(n, k, a)
-    return level, address(n, ds[:level] + ds[level + 1:])
+def switch(s, a, level):
+    ds = digits(s, a)
+    return level, address(s, ds[:level] + ds[level + 1:])
 
 
 def live(table, level, a, b):
     return not table or not (table[a] >> level & 1 or table[b] >> level & 1)
 
 
-def differing(n, k, a, b):
-    return [i for i, (x, y) in enumerate(zip(digits(n, k, a), digits(n, k, b))) if x != y]
+def differing(s, a, b):
+    return [i for i, (x, y) in enumerate(zip(digits(s, a), digits(s, b))) if x != y]
 
 
-def walk(n, k, table, a, d, path, route=1):
+def walk(s, table, a, d, path, route=1):
     """The servers met and the switches used."""
     met, used, here = [a], [], a
     for h, byte in enumerate(path, 1):
         level, value = divmod(byte, 64)
-        if level > k:
+        if level > s.k:
             raise Refused(8, route, h)
-        if value >= n:
+        if value >= bounds(s)[level]:
             raise Refused(9, route, h)
-        ds = digits(n, k, here)
+        ds = digits(s, here)
         if ds[level] == value:
             raise Refused(10, route, h)
         ds[level] = value
-        there = address(n, ds)
+        there = address(s, ds)
         if not live(table, level, here, there):
             raise Refused(11, route, h)
-        sw = switch(n, k, here, level)
+        sw = switch(s, here, level)
         if there in met or sw in used:
             raise Refused(12, route, h)
         met.append(there)
@@ -107,39 +130,39 @@ def walk(n, k, table, a, d, path, route=1):
     raise Refused(13, route, 8)
 
 
-def encode(n, k, servers):
+def encode(s, servers):
     out = []
     for a, b in zip(servers, servers[1:]):
-        level = differing(n, k, a, b)[0]
-        out.append(64 * level + digits(n, k, b)[level])
+        level = differing(s, a, b)[0]
+        out.append(64 * level + digits(s, b)[level])
     return out + [0] * (8 - len(out))
 
 
-def write(n, k, servers):
-    test_shape(n, k)
+def write(s, servers):
+    test_shape(s)
     if not 2 <= len(servers) <= 9:
         raise Refused(22)
-    test_server(n, k, *servers)
+    test_server(s, *servers)
     if servers[0] == servers[-1]:
         raise Refused(5)
     met, used = [servers[0]], []
     for h, (a, b) in enumerate(zip(servers, servers[1:]), 1):
-        apart = differing(n, k, a, b)
+        apart = differing(s, a, b)
         if len(apart) != 1:
             raise Refused(23, 1, h)
-        sw = switch(n, k, a, apart[0])
+        sw = switch(s, a, apart[0])
         if b in met or sw in used:
             raise Refused(12, 1, h)
         met.append(b)
         used.append(sw)
-    return encode(n, k, servers)
+    return encode(s, servers)
 
 
-def read(n, k, a, d, path):
-    test_ends(n, k, a, d)
+def read(s, a, d, path):
+    test_ends(s, a, d)
     if len(path) != 8:
         raise Refused(7)
-    return walk(n, k, [], a, d, path)[0]
+    return walk(s, [], a, d, path)[0]
 
 
 def parallel(one, other):
@@ -150,78 +173,78 @@ def arrays(data):
     return [data[i:i + 8] for i in range(0, len(data), 8)]
 
 
-def check(n, k, table, a, d, data):
-    test_ends(n, k, a, d)
-    test_table(n, k, table)
-    if len(data) % 8 or not data or len(data) > 8 * (k + 1):
+def check(s, table, a, d, data):
+    test_ends(s, a, d)
+    test_table(s, table)
+    if len(data) % 8 or not data or len(data) > 8 * (s.k + 1):
         raise Refused(7)
-    routes = [walk(n, k, table, a, d, x, i) for i, x in enumerate(arrays(data), 1)]
+    routes = [walk(s, table, a, d, x, i) for i, x in enumerate(arrays(data), 1)]
     for i, j in itertools.combinations(range(len(routes)), 2):
         if not parallel(routes[i], routes[j]):
             raise Refused(15, j + 1, 0)
 
 
-def pick(n, k, table, a, d, fresh, kept):
-    test_ends(n, k, a, d)
-    test_table(n, k, table)
+def pick(s, table, a, d, fresh, kept):
+    test_ends(s, a, d)
+    test_table(s, table)
     for data in (fresh, kept):
-        if len(data) % 8 or len(data) > 8 * (k + 1):
+        if len(data) % 8 or len(data) > 8 * (s.k + 1):
             raise Refused(7)
     for data in (fresh, kept):
         for x in arrays(data):
             try:
-                check(n, k, table, a, d, x)
+                check(s, table, a, d, x)
                 return bytes(x).hex()
             except Refused:
                 pass
     raise Refused(16)
 
 
-def built(n, k, a, d, i):
+def built(s, a, d, i):
     """The servers of built route i."""
-    here, want, out = digits(n, k, a), digits(n, k, d), [a]
+    here, want, out = digits(s, a), digits(s, d), [a]
     if here[i] != want[i]:
-        order = list(range(i, -1, -1)) + list(range(k, i, -1))
+        order = list(range(i, -1, -1)) + list(range(s.k, i, -1))
     else:
-        here[i] = (here[i] + 1) % n
-        out.append(address(n, here))
-        order = list(range(i - 1, -1, -1)) + list(range(k, i - 1, -1))
+        here[i] = (here[i] + 1) % bounds(s)[i]
+        out.append(address(s, here))
+        order = list(range(i - 1, -1, -1)) + list(range(s.k, i - 1, -1))
     for level in order:
         if here[level] != want[level]:
             here[level] = want[level]
-            out.append(address(n, here))
+            out.append(address(s, here))
     return out
 
 
-def build(n, k, a, d):
-    test_ends(n, k, a, d)
-    return [built(n, k, a, d, i) for i in range(k, -1, -1)]
+def build(s, a, d):
+    test_ends(s, a, d)
+    return [built(s, a, d, i) for i in range(s.k, -1, -1)]
 
 
-def switches(n, k, servers):
-    return [switch(n, k, a, differing(n, k, a, b)[0]) for a, b in zip(servers, servers[1:])]
+def switches(s, servers):
+    return [switch(s, a, differing(s, a, b)[0]) for a, b in zip(servers, servers[1:])]
 
 
-def alternate(n, k, table, a, d, routes):
+def alternate(s, table, a, d, routes):
     """The least route that shares no switch and no middle server with the given ones."""
     shut = {x for r in routes for x in r[1:-1]}
-    off = {x for r in routes for x in switches(n, k, r)}
+    off = {x for r in routes for x in switches(s, r)}
 
     def go(met, used, left):
         here = met[-1]
         if here == d:
             return met if left == 0 else None
-        if left == 0 or len(differing(n, k, here, d)) > left:
+        if left == 0 or len(differing(s, here, d)) > left:
             return None
-        for level in range(k, -1, -1):
-            sw = switch(n, k, here, level)
+        for level in range(s.k, -1, -1):
+            sw = switch(s, here, level)
             if sw in used or sw in off or table[here] >> level & 1:
                 continue
-            ds = digits(n, k, here)
-            for value in range(n):
+            ds = digits(s, here)
+            for value in range(bounds(s)[level]):
                 if value == ds[level]:
                     continue
-                there = address(n, ds[:level] + [value] + ds[level + 1:])
+                there = address(s, ds[:level] + [value] + ds[level + 1:])
                 if there in met or there in shut or table[there] >> level & 1:
                     continue
                 found = go(met + [there], used + [sw], left - 1)
@@ -236,18 +259,18 @@ def alternate(n, k, table, a, d, routes):
     return None
 
 
-def whole(n, k, table, servers):
-    return all(live(table, differing(n, k, a, b)[0], a, b) for a, b in zip(servers, servers[1:]))
+def whole(s, table, servers):
+    return all(live(table, differing(s, a, b)[0], a, b) for a, b in zip(servers, servers[1:]))
 
 
-def select(n, k, table, a, d):
-    test_ends(n, k, a, d)
-    test_table(n, k, table)
+def select(s, table, a, d):
+    test_ends(s, a, d)
+    test_table(s, table)
     settled = []
-    for i in range(k, -1, -1):
-        route = built(n, k, a, d, i)
-        if not whole(n, k, table, route):
-            route = alternate(n, k, table, a, d, settled + [built(n, k, a, d, j) for j in range(i)])
+    for i in range(s.k, -1, -1):
+        route = built(s, a, d, i)
+        if not whole(s, table, route):
+            route = alternate(s, table, a, d, settled + [built(s, a, d, j) for j in range(i)])
         if route:
             settled.append(route)
     if not settled:
@@ -255,8 +278,8 @@ def select(n, k, table, a, d):
     return settled
 
 
-def step(n, k, here, d, index, path, table):
-    test_server(n, k, here, d)
+def step(s, here, d, index, path, table):
+    test_server(s, here, d)
     if len(table) != 2048:
         raise Refused(17)
     if len(path) != 8:
@@ -267,10 +290,10 @@ def step(n, k, here, d, index, path, table):
         raise Refused(18)
     byte = path[index]
     level, value = divmod(byte, 64)
-    ds = digits(n, k, here)
-    if level > k:
+    ds = digits(s, here)
+    if level > s.k:
         raise Refused(8, 1, index + 1)
-    if value >= n:
+    if value >= bounds(s)[level]:
         raise Refused(9, 1, index + 1)
     if ds[level] == value:
         raise Refused(10, 1, index + 1)
@@ -278,16 +301,16 @@ def step(n, k, here, d, index, path, table):
     if entry[7] != 1:
         raise Refused(19, 1, index + 1)
     ds[level] = value
-    return f'next {address(n, ds)} index {index + 1} mac {bytes(entry[:6]).hex()} port {entry[6]}'
+    return f'next {address(s, ds)} index {index + 1} mac {bytes(entry[:6]).hex()} port {entry[6]}'
 
 
-def accepted_from(n, k, a):
+def accepted_from(s, a):
     """How many destinations have a built list that a check in a healthy room takes."""
     count = 0
-    for d in range(n ** (k + 1)):
+    for d in room(s):
         if d != a:
-            data = [x for r in build(n, k, a, d) for x in encode(n, k, r)]
-            check(n, k, [0] * n ** (k + 1), a, d, data)
+            data = [x for r in build(s, a, d) for x in encode(s, r)]
+            check(s, [0] * len(room(s)), a, d, data)
             count += 1
     return count
 
@@ -298,80 +321,111 @@ def hexed(word):
     return [] if word == '-' else list(bytes.fromhex(word))
 
 
-def shown(routes, n, k):
-    return ' '.join(bytes(encode(n, k, r)).hex() for r in routes)
+def shown(s, routes):
+    return ' '.join(bytes(encode(s, r)).hex() for r in routes)
 
 
-def answer(name, n, k, words):
+def answer(name, s, words):
     num = [int(w) for w in words if w.isdigit()] if not re.fullmatch('failed|mark|clear|read|reverse|check|picked|select|step', name) else []
     if name == 'servers':
-        test_shape(n, k)
-        return n ** (k + 1)
+        test_shape(s)
+        return len(room(s))
     if name == 'bound':
-        test_shape(n, k)
-        test_level(n, k, num[0])
-        return n
+        test_shape(s)
+        test_level(s, num[0])
+        return bounds(s)[num[0]]
     if name == 'digits':
-        test_server(n, k, num[0])
-        return ' '.join(map(str, (digits(n, k, num[0]) + [0] * 4)[:4]))
+        test_server(s, num[0])
+        return ' '.join(map(str, (digits(s, num[0]) + [0] * 4)[:4]))
     if name == 'digit':
-        test_server(n, k, num[0])
-        test_level(n, k, num[1])
-        return digits(n, k, num[0])[num[1]]
+        test_server(s, num[0])
+        test_level(s, num[1])
+        return digits(s, num[0])[num[1]]
     if name == 'address':
-        test_shape(n, k)
-        if any(x >= (n if i <= k else 1) for i, x in enumerate(num)):
+        test_shape(s)
+        if any(x >= most for x, most in zip(num, bounds(s) + [1] * 3)):
             raise Refused(21)
-        return address(n, num)
+        return address(s, num)
     if name == 'switch':
-        test_server(n, k, num[0])
-        test_level(n, k, num[1])
-        return 'level %d number %d' % switch(n, k, num[0], num[1])
+        test_server(s, num[0])
+        test_level(s, num[1])
+        return 'level %d number %d' % switch(s, num[0], num[1])
+    if name == 'switches':
+        test_shape(s)
+        test_level(s, num[0])
+        return len({switch(s, a, num[0]) for a in room(s)})
+    if name == 'server':
+        test_shape(s)
+        test_level(s, num[0])
+        for a in room(s):
+            if switch(s, a, num[0]) == (num[0], num[1]) and digits(s, a)[num[0]] == num[2]:
+                return a
+        raise Refused(21)
     if name == 'neighbour':
-        test_server(n, k, num[0])
-        test_level(n, k, num[1])
-        if num[2] >= n:
-            raise Refused(21)
-        ds = digits(n, k, num[0])
+        test_server(s, num[0])
+        test_level(s, num[1])
+        test_value(s, num[1], num[2])
+        ds = digits(s, num[0])
         ds[num[1]] = num[2]
-        return address(n, ds)
+        return address(s, ds)
     if name == 'between':
-        test_server(n, k, num[0], num[1])
-        apart = differing(n, k, num[0], num[1])
+        test_server(s, num[0], num[1])
+        apart = differing(s, num[0], num[1])
         return f'level {apart[0]}' if len(apart) == 1 else 'no neighbours'
     if name in ('failed', 'mark', 'clear'):
         table, a, level = hexed(words[0]), int(words[1]), int(words[2])
-        test_server(n, k, a)
-        test_level(n, k, level)
-        test_table(n, k, table)
+        test_server(s, a)
+        test_level(s, level)
+        test_table(s, table)
         if name == 'failed':
             return 'yes' if table[a] >> level & 1 else 'no'
         table[a] = table[a] | 1 << level if name == 'mark' else table[a] & ~(1 << level)
         return bytes(table).hex()
+    if name == 'byte':
+        test_shape(s)
+        test_level(s, num[0])
+        test_value(s, num[0], num[1])
+        return 64 * num[0] + num[1]
+    if name == 'parts':
+        test_shape(s)
+        level, value = divmod(num[0], 64)
+        if level > s.k:
+            raise Refused(8, 1, 1)
+        if value >= bounds(s)[level]:
+            raise Refused(9, 1, 1)
+        return f'level {level} value {value}'
     if name == 'write':
-        return bytes(write(n, k, num)).hex()
+        return bytes(write(s, num)).hex()
     if name in ('read', 'reverse'):
         a, d, path = int(words[0]), int(words[1]), hexed(words[2])
-        met = read(n, k, a, d, path)
-        return ' '.join(map(str, met)) if name == 'read' else bytes(encode(n, k, met[::-1])).hex()
+        met = read(s, a, d, path)
+        return ' '.join(map(str, met)) if name == 'read' else bytes(encode(s, met[::-1])).hex()
     if name == 'check':
-        check(n, k, hexed(words[0]), int(words[1]), int(words[2]), hexed(words[3]))
+        check(s, hexed(words[0]), int(words[1]), int(words[2]), hexed(words[3]))
         return 'accepted'
     if name == 'picked':
-        return pick(n, k, hexed(words[0]), int(words[1]), int(words[2]), hexed(words[3]), hexed(words[4]))
+        return pick(s, hexed(words[0]), int(words[1]), int(words[2]), hexed(words[3]), hexed(words[4]))
     if name == 'build':
-        return shown(build(n, k, num[0], num[1]), n, k)
+        return shown(s, build(s, num[0], num[1]))
     if name == 'accepted':
-        return ' '.join(str(accepted_from(n, k, a)) for a in range(n ** (k + 1)))
+        return ' '.join(str(accepted_from(s, a)) for a in room(s))
     if name == 'select':
-        return shown(select(n, k, hexed(words[0]), int(words[1]), int(words[2])), n, k)
+        return shown(s, select(s, hexed(words[0]), int(words[1]), int(words[2])))
     if name == 'step':
         here, d, index, path, count, byte, entry = words
         table = [0] * int(count)
         at = 8 * int(byte)
         table[at:at + 8] = hexed(entry)
-        return step(n, k, int(here), int(d), int(index), hexed(path), table[:int(count)])
+        return step(s, int(here), int(d), int(index), hexed(path), table[:int(count)])
     raise SystemExit(f'no such question: {name}')
+
+
+def shape_in(text):
+    """n and k of a full room, n, k and m of any other."""
+    n, k, *m = map(int, text.split(','))
+    if m == [n]:
+        raise SystemExit(f'a full room with three numbers: ({text})')
+    return Shape(n, k, *(m or [n]))
 
 
 def recompute(file):
@@ -379,9 +433,9 @@ def recompute(file):
     rows = differ = 0
     for line in open(file, encoding='ascii'):
         question, got = line.rstrip('\n').split(' = ')
-        m = re.match(r'(\w+) \((\d+),(\d+)\)(.*)', question)
+        name, shape, words = re.fullmatch(r'(\w+) \(([\d,]+)\)(.*)', question).groups()
         try:
-            want = str(answer(m[1], int(m[2]), int(m[3]), m[4].split()))
+            want = str(answer(name, shape_in(shape), words.split()))
         except Refused as r:
             want = str(r)
         rows += 1

@@ -32,6 +32,16 @@ pub plus-lt : {s : Shape} → Valid s → (l x : ℕ) → plusOne s l x < bound 
 unfolding plusOne
 plus-lt {s} v l x = let p : 0 < bound s l = omega (arith, bound-two v l) in mod-lt _ p
 
+-- y is the bound that the program found
+module _ (s : Shape) (l x y : ℕ) (e : y ≡ bound s l) where
+  pub plus-below : x + 1 < y → x + 1 ≡ plusOne s l x
+  unfolding plusOne
+  plus-below h = sym (ap (λ (z : ℕ). (x + 1) % z) (sym e) ∙ mod-eq-of-lt h)
+
+  pub plus-round : (x + 1) % y ≡ plusOne s l x
+  unfolding plusOne
+  plus-round = ap (λ (z : ℕ). (x + 1) % z) e
+
 pub plus-other : {s : Shape} → Valid s → (l x : ℕ) → x ≢ plusOne s l x
 unfolding plusOne
 plus-other {s} v l x q =

@@ -14,6 +14,6 @@ noBuilding r = record { refusal = plain r; routes = emptySet }
 abbrev pub aBuilding : RouteSet → Building
 aBuilding x = record { refusal = none; routes = x }
 
--- 1 to 3, 4, 5; else the built routes, slots k down to 0
+-- 1, 2, 26, 3, 4, 5; else the built routes, slots k down to 0
 unfoldable pub buildAnswer : Shape → ℕ → ℕ → Building
 buildAnswer s a d = answer (endsRefusal s a d) noBuilding (aBuilding (setOf (builtArrays s a d)))

@@ -7,7 +7,7 @@ ghost use Rattle.room.specs.Addresses.{digits};
 ghost use Rattle.path.specs.Routes.{byteOf};
 ghost use Rattle.build.specs.Built.{next, plusOne};
 use room::Shape;
-use room::bound_of;
+use room::digit_bound;
 use room::digits_of;
 
 // The digits of a server in four places, digit 0 at place 0.
@@ -23,8 +23,12 @@ pub(crate) fn value_after(shape: Shape, level: usize, value: usize) -> usize
     requires { ⌜ Valid shape × (level ≤ shape .k) × (value < 64) ⌝ }
     ensures { λ r. ⌜ r ≡ plusOne shape level value ⌝ }
 {
-    let most = bound_of(shape, level).value;
-    (value + 1) % most
+    let most = digit_bound(shape, level);
+    let after = value + 1;
+    if after < most {
+        return after;
+    }
+    after % most
 }
 
 // The level after a level in the order of correcting: the next lower one, and k after 0.

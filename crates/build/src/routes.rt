@@ -42,7 +42,7 @@ fn all_routes(shape: Shape, source: usize, destination: usize) -> RouteSet
     set
 }
 
-// The built routes from one server to another, slots k down to 0. Refusals 1, 2, 3, 4, 5.
+// The built routes from one server to another, slots k down to 0. Refusals 1, 2, 26, 3, 4, 5.
 pub fn build_routes(shape: Shape, source: usize, destination: usize) -> Building
     ensures { λ r. ⌜ r ≡ buildAnswer shape source destination ⌝ }
 {

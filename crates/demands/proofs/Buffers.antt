@@ -25,13 +25,28 @@ use Rattle.driver.proofs.PickSmall.{pick-small}
 use Rattle.driver.specs.Packed.{flagOf, macNumber, stepWord, packed, stepIn, unpacked}
 use Rattle.driver.proofs.PackLaws as packs
 use Rattle.driver.proofs.PackLaws.{word-fields, unpack-packed, mac-made, step-small, step-unpacks}
-use Rattle.driver.proofs.ShapeLaws.{room-refused, room-shape}
+use Rattle.room.proofs.RefusalLaws.{valid-of}
+use Rattle.driver.specs.declared.Room.{Room}
+use Rattle.driver.specs.Rooms.{roomOf, shapeIn}
+use Rattle.driver.proofs.ShapeLaws.{held-is, room-refused, room-shape}
 use Rattle.demands.specs.Buffers.{Holds, EveryBuffer, EveryRoom, Tells, TellsStep, EveryWord}
 
 -- ---- the rooms
 
+room-number : (n k m : ℕ) → n ≤ 255 → k ≤ 255 → m ≤ 255 → roomOf n k m .number ≡ n + (256 * k + 65536 * m)
+unfolding roomOf
+room-number n k m a b d = omega (arith, held-is n a, held-is k b, held-is m d)
+
+room-only : (r : Room) → shapeRefusal (shapeIn r) ≡ 0 → roomOf (shapeIn r .n) (shapeIn r .k) (shapeIn r .m) ≡ r
+unfolding shapeIn
+room-only r z =
+    let v = valid-of (shapeIn r) z in
+    let e : roomOf (r .number % 256) (r .number / 256 % 256) (r .number / 65536) .number ≡ r .number =
+    room-number (r .number % 256) (r .number / 256 % 256) (r .number / 65536) (omega (arith, v .ports)) (omega (arith, v .levels)) (omega (arith, v .ports, v .most)) ∙ omega arith in
+    ap (λ (x : ℕ). record { number = x }) e
+
 pub every-room : EveryRoom
-every-room = record { refused = room-refused; shape = room-shape }
+every-room = record { refused = room-refused; shape = room-shape; number = room-number; only = room-only }
 
 -- ---- the words
 

@@ -17,7 +17,7 @@ use Rattle.refusals.proofs.AnswerLaws.{answered}
 use Rattle.room.specs.declared.Shape.{Shape}
 use Rattle.room.specs.Shapes.{bound, Ends}
 use Rattle.room.specs.Addresses.{digits, digit}
-use Rattle.room.proofs.RoomLaws.{digits-long, digit-lt}
+use Rattle.room.proofs.RoomLaws.{bound-two, digits-long, digit-lt}
 use Rattle.room.specs.Refusals.{endsRefusal}
 use Rattle.room.proofs.RefusalLaws.{ends-of}
 use Rattle.path.specs.Routes.{byteOf}
@@ -140,11 +140,11 @@ module _ {s : Shape} {a d : ℕ} (h : Ends s a d) (i : ℕ) (p : i ≤ s .k) whe
       ∙ ap (λ (ls : List ℕ). filled 8 (bytesOf (correct eqb 0 ls (digits s a) (digits s d)))) (order .first)
       ∙ ap (filled 8) (corrected s a d (i ∷ others (s .k) i))
 
-  detour : digit s i a ≡ digit s i d → builtBytes s i a d ≡ filled 8 ((64 * i + (digit s i a + 1) % s .n) ∷ (corrections s d (wrong s a d (others (s .k) i)) ++ ((64 * i + digit s i d) ∷ [])))
-  unfolding builtBytes builtHops bytesOf byteOf digit plusOne bound
+  detour : digit s i a ≡ digit s i d → builtBytes s i a d ≡ filled 8 ((64 * i + (digit s i a + 1) % bound s i) ∷ (corrections s d (wrong s a d (others (s .k) i)) ++ ((64 * i + digit s i d) ∷ [])))
+  unfolding builtBytes builtHops bytesOf byteOf digit plusOne
   detour e =
-      let v : ℕ = (digit s i a + 1) % s .n in
-      let n : v ≢ digit s i d = λ q. other-value (s .n) (digit s i a) (h .source .valid .two) (digit-lt (h .source) i p) (q ∙ sym e) in
+      let v : ℕ = (digit s i a + 1) % bound s i in
+      let n : v ≢ digit s i d = λ q. other-value (bound s i) (digit s i a) (bound-two (h .source .valid) i) (digit-lt (h .source) i p) (q ∙ sym e) in
       ap (λ (b : Bool). filled 8 (bytesOf (cond b ((i, v) ∷ correct eqb 0 (lastIn (s .k) i) (set (digits s a) i v) (digits s d)) (correct eqb 0 (firstIn (s .k) i) (digits s a) (digits s d))))) (eq-eqb (digit s i a) (digit s i d) e)
       ∙ ap (λ (ls : List ℕ). filled 8 ((64 * i + v) ∷ bytesOf (correct eqb 0 ls (set (digits s a) i v) (digits s d)))) (order .last)
       ∙ ap (λ (x : List ℕ). filled 8 ((64 * i + v) ∷ x)) (corrected-last s a d i v (others (s .k) i) p n (order .once))

@@ -5,6 +5,7 @@ use mathlib.Core.Logic.{_↔_, _⊎_, inl, inr}
 use mathlib.Core.Bool.{Bool, true, false, _||_}
 use mathlib.Core.List.{List, [], _∷_, List·Memᴰ·head, List·Memᴰ·eq-of-singleton}
 use native.Mathlib.Omega.{arith}
+use native.Mathlib.Nat.{le-refl}
 use lib.ListN.{length, getD, set}
 use lib.Seq.{set-set}
 use Rattle.lists.specs.Lists.{isIn, middle}
@@ -12,12 +13,13 @@ use Rattle.lists.proofs.ListLaws.{in-exactly, at-in, turn-at, length-turn, leng
 use Rattle.refusals.specs.declared.Refusal.{Refusal}
 use Rattle.refusals.proofs.AnswerLaws.{answer-none}
 use Rattle.room.specs.declared.Shape.{Shape}
+use Rattle.room.specs.declared.Number.{Number}
 use Rattle.room.specs.Shapes.{bound, Valid, Server, Link}
 use Rattle.room.specs.Addresses.{switchOf, switchesAt, Beside, Neighbours}
 use Rattle.room.specs.Answers.{aNumber}
 use Rattle.room.specs.Wiring.{serverAt, Port, switchesAnswer, serverAtAnswer}
 use Rattle.room.proofs.RefusalLaws.{level-none}
-use Rattle.room.proofs.RoomLaws.{switches-power, switch-same, same-switch}
+use Rattle.room.proofs.RoomLaws.{switches-top, switches-below, switch-same, same-switch}
 use Rattle.room.proofs.WiringLaws.{port-none, port-server, port-switch, port-digit, port-back}
 use Rattle.links.specs.Table.{failed, TableOf}
 use Rattle.links.specs.Servers.{markedServer, clearedServer, allBits}
@@ -37,13 +39,18 @@ use Rattle.demands.specs.Calls.{EveryPort, WholeServer, EveryByte, Takes
 port-at : {s : Shape} {l w v : ℕ} → Valid s → l ≤ s .k → w < switchesAt s l → v < bound s l → Port s l w v
 port-at valid p q h = record { valid = valid; level = p; switch = q; port = h }
 
+counted : {s : Shape} {l : ℕ} → Valid s → l ≤ s .k → switchesAnswer s l ≡ aNumber (switchesAt s l)
+unfolding switchesAnswer
+counted v p = answer-none _ _ _ (level-none v p)
+
 pub every-port : EveryPort
-unfolding switchesAnswer serverAtAnswer
+unfolding serverAtAnswer
 every-port =
     record {
-      switches = λ s l v p. answer-none _ _ _ (level-none v p) ∙ ap aNumber (switches-power v l);
+      switches-top = λ s v. counted v (le-refl (s .k)) ∙ ap aNumber (switches-top v);
+      switches-below = λ s l v p. counted v (omega arith) ∙ ap aNumber (switches-below v l (s .k - 1) (omega arith) (omega arith));
       there = λ s l w v h p q o.
-          let n : w < switchesAt s l = omega (arith, switches-power h l) in
+          let n : w < switchesAt s l = subst (λ (x : Number). w < x .value) (counted h p) q in
           let k = port-at h p n o in
           (serverAt s l w v, answer-none _ _ _ (port-none k), record { server = port-server k; switch = port-switch k; port = port-digit k });
       back = λ s a l h. let p = port-back h in answer-none _ _ _ (port-none (p .0)) ∙ ap aNumber (p .1);

@@ -22,6 +22,14 @@ pub front : (A B : Tests) → Hold (A ++ B) → Hold A
 front [] B h = tt
 front (t ∷ A) B h = (h .0, front A B (h .1))
 
+pub back : (A B : Tests) → Hold (A ++ B) → Hold B
+back [] B h = h
+back (t ∷ A) B h = back A B (h .1)
+
+pub hold-both : (A B : Tests) → Hold A → Hold B → Hold (A ++ B)
+hold-both [] B h k = k
+hold-both (t ∷ A) B h k = (h .0, hold-both A B (h .1) k)
+
 module _ {R : Type 0} (refused : ℕ → R) where
   module _ (Else : R → Type 0) where
     -- all hold

@@ -13,6 +13,7 @@ use Rattle.lists.proofs.ListLaws.{length-turn}
 use Rattle.refusals.specs.declared.Refusal.{Refusal}
 use Rattle.refusals.specs.Refusals.{none, plain, refusedAt, _or-else_, answer, OneOf, listed}
 use Rattle.room.specs.declared.Shape.{Shape}
+use Rattle.room.specs.Shapes.{serversOf}
 use Rattle.room.specs.Refusals.{shapeRefusal, levelRefusal, serverRefusal, pairRefusal, linkRefusal, valueRefusal, placesRefusal, endsRefusal}
 use Rattle.room.specs.Addresses.{differing}
 use Rattle.room.specs.Answers.{onlyLevel, serversAnswer, boundAnswer, digitsAnswer, digitAnswer, addressAnswer, switchAnswer, neighbourAnswer, betweenAnswer}
@@ -41,7 +42,7 @@ use Rattle.step.specs.Steps.{stepRefusal, withPlace, noStep, delivery, forwarde
 use Rattle.demands.specs.Tests.{Refused, Exactly}
 use Rattle.demands.specs.Demand1.{ofAHop, at-hop, no-arrival, later, PartsOf, WalkedOf, ReadingOf, WritingOf, FoundOf, SelectionOf, PlaceOf, StepOf, RefusalOf, HopOf, EveryCall}
 use Rattle.demands.specs.Refusals.{shapeTests, levelTests, serverTests, pairTests, linkTests, valueTests, portTests, madeTests, partsTests, placesTests, tableTests, tableLinkTests, tableServerTests, endsTests, roomTests, arrayTests, layTests, checkTests, selectTests, pickTests, endOf, hopTests, readTests, writeTests, serversTests, givenTests, stepTests, Stops, hop-fails, never-arrives, goes-on, Reads, Writes, Checks, Steps}
-use Rattle.demands.proofs.Chains.{all, one-listed, fails}
+use Rattle.demands.proofs.Chains.{back, all, one-listed, fails}
 use Rattle.demands.proofs.Refusing.{Of, none-of, some-of, hop-of, chain-of, whole-of, bare-none, bare-is, bare-answer, refuses, answer-refuses}
 use Rattle.demands.proofs.Numbers.{read-number, plain-numbers}
 use Rattle.demands.proofs.Hops.{stops-walk}
@@ -81,18 +82,18 @@ module _ (s : Shape) (t F B : List ℕ) (hops : all ofAHop F ≡ true) (some : a
       let e = stops-walk h .3 in
       subst (Of 1 B) (ap (λ (x : Refusal). refusedAt (x .number) 1 (x .hop)) (sym e) ∙ e) (stops-of 1 1 (omega arith) (omega arith) l h)
 
-  array-of : {a d : ℕ} {bs : List ℕ} {r : Refusal} → all (λ x. isIn x B) (1 ∷ 2 ∷ 3 ∷ 4 ∷ 5 ∷ 7 ∷ []) ≡ true → Refused plain (arrayTests s a d bs) (Reads s t a d bs) r → Of 1 B r
-  array-of {a} {d} {bs} {r} u h = whole-of 1 B (arrayTests s a d bs) (Reads s t a d bs) r refl u (λ k. reads-of (k .1 .1 .1 .1 .1 .0)) h
+  array-of : {a d : ℕ} {bs : List ℕ} {r : Refusal} → all (λ x. isIn x B) (1 ∷ 2 ∷ 26 ∷ 3 ∷ 4 ∷ 5 ∷ 7 ∷ []) ≡ true → Refused plain (arrayTests s a d bs) (Reads s t a d bs) r → Of 1 B r
+  array-of {a} {d} {bs} {r} u h = whole-of 1 B (arrayTests s a d bs) (Reads s t a d bs) r refl u (λ k. reads-of (back (endsTests s a d) ((7, length bs ≡ 8) ∷ []) k .0)) h
 
 module _ (s : Shape) where
-  parts-of : (b : ℕ) → PartsOf (1 ∷ 2 ∷ 3 ∷ 8 ∷ 9 ∷ []) (partsAnswer s b)
+  parts-of : (b : ℕ) → PartsOf (1 ∷ 2 ∷ 26 ∷ 3 ∷ 8 ∷ 9 ∷ []) (partsAnswer s b)
   unfolding partsAnswer isIn
   parts-of b =
       let Else : Refusal → Type 0 = Refused (λ n. refusedAt n 1 1) (partsTests s b) (λ r. r ≡ none) in
       refuses _ _ (λ r. refl) 1 _ (partsAnswer s b)
       (whole-of 1 _ (shapeTests s) Else _ refl refl
       (λ k. chain-of (λ n. refusedAt n 1 1) 1 _ (partsTests s b) (λ r. r ≡ none) _
-      (λ n e. hop-of (8 ∷ 9 ∷ []) (1 ∷ 2 ∷ 3 ∷ 8 ∷ 9 ∷ []) n 1 1 refl refl e (omega arith) (omega arith) (omega arith) (omega arith)) (λ h. none-of))
+      (λ n e. hop-of (8 ∷ 9 ∷ []) (1 ∷ 2 ∷ 26 ∷ 3 ∷ 8 ∷ 9 ∷ []) n 1 1 refl refl e (omega arith) (omega arith) (omega arith) (omega arith)) (λ h. none-of))
       (meets (refused-exactly .parts-of s b)))
       (bare-answer (λ x. x .refusal) noParts (λ r. refl) plain (shapeRefusal s) _
       (bare-answer (λ x. x .refusal) noParts (λ r. refl) (λ r. refusedAt r 1 1) (partsRefusal s b) (someParts (levelOf b) (valueOf b)) (bare-none (λ x. x .refusal) noParts (λ r. refl) (someParts (levelOf b) (valueOf b)) refl)))
@@ -105,25 +106,25 @@ module _ (s : Shape) where
   bare-reversed (stopped r h) n = refl
   bare-reversed (arrived vs ws) n = absurd (n refl)
 
-  walk-of : (t : List ℕ) (a d : ℕ) (bs : List ℕ) → WalkedOf (1 ∷ 2 ∷ 3 ∷ 4 ∷ 5 ∷ 7 ∷ 8 ∷ 9 ∷ 10 ∷ 11 ∷ 12 ∷ 13 ∷ 14 ∷ []) (walkAnswer s t a d bs)
+  walk-of : (t : List ℕ) (a d : ℕ) (bs : List ℕ) → WalkedOf (1 ∷ 2 ∷ 26 ∷ 3 ∷ 4 ∷ 5 ∷ 7 ∷ 8 ∷ 9 ∷ 10 ∷ 11 ∷ 12 ∷ 13 ∷ 14 ∷ []) (walkAnswer s t a d bs)
   unfolding walkAnswer isIn
   walk-of t a d bs =
       refuses _ _ (λ r. refl) 1 _ (walkAnswer s t a d bs) (array-of s t (8 ∷ 9 ∷ 10 ∷ 11 ∷ 12 ∷ []) _ refl refl refl refl (fault-numbers s t) refl (meets (refused-exactly .walk s t a d bs)))
       (bare-answer (λ x. x .refusal) noWalk (λ r. refl) plain (arrayRefusal s a d bs) (walked (walk s t a d bs)) (bare-walked (walk s t a d bs)))
 
-  read-path : (a d : ℕ) (bs : List ℕ) → ReadingOf (1 ∷ 2 ∷ 3 ∷ 4 ∷ 5 ∷ 7 ∷ 8 ∷ 9 ∷ 10 ∷ 12 ∷ 13 ∷ 14 ∷ []) (readAnswer s a d bs)
+  read-path : (a d : ℕ) (bs : List ℕ) → ReadingOf (1 ∷ 2 ∷ 26 ∷ 3 ∷ 4 ∷ 5 ∷ 7 ∷ 8 ∷ 9 ∷ 10 ∷ 12 ∷ 13 ∷ 14 ∷ []) (readAnswer s a d bs)
   unfolding readAnswer isIn
   read-path a d bs =
       refuses _ _ (λ r. refl) 1 _ (readAnswer s a d bs) (array-of s [] (8 ∷ 9 ∷ 10 ∷ 12 ∷ []) _ refl refl refl refl (plain-numbers s) refl (meets (refused-exactly .read-path s a d bs)))
       (λ n. ap reading (walk-of [] a d bs .nothing-else n))
 
-  reverse-path : (a d : ℕ) (bs : List ℕ) → WritingOf (1 ∷ 2 ∷ 3 ∷ 4 ∷ 5 ∷ 7 ∷ 8 ∷ 9 ∷ 10 ∷ 12 ∷ 13 ∷ 14 ∷ []) (reverseAnswer s a d bs)
+  reverse-path : (a d : ℕ) (bs : List ℕ) → WritingOf (1 ∷ 2 ∷ 26 ∷ 3 ∷ 4 ∷ 5 ∷ 7 ∷ 8 ∷ 9 ∷ 10 ∷ 12 ∷ 13 ∷ 14 ∷ []) (reverseAnswer s a d bs)
   unfolding reverseAnswer isIn
   reverse-path a d bs =
       refuses _ _ (λ r. refl) 1 _ (reverseAnswer s a d bs) (array-of s [] (8 ∷ 9 ∷ 10 ∷ 12 ∷ []) _ refl refl refl refl (plain-numbers s) refl (meets (refused-exactly .reverse-path s a d bs)))
       (bare-answer (λ x. x .refusal) noWriting (λ r. refl) plain (arrayRefusal s a d bs) (reversed s (walk s [] a d bs)) (bare-reversed (walk s [] a d bs)))
 
-  hop-one : (a b : ℕ) → HopOf (1 ∷ 2 ∷ 3 ∷ 4 ∷ 8 ∷ 9 ∷ 10 ∷ []) (hopAnswer s a b)
+  hop-one : (a b : ℕ) → HopOf (1 ∷ 2 ∷ 26 ∷ 3 ∷ 4 ∷ 8 ∷ 9 ∷ 10 ∷ []) (hopAnswer s a b)
   unfolding hopAnswer
   hop-one a b = record { number = one-listed (serverTests s a ++ hopTests s a b) _ (meets (refused-exactly .hop-of s a b)); nothing-else = go (serverRefusal s a or-else hopRefusal s a b) }
     where
@@ -131,21 +132,21 @@ module _ (s : Shape) where
       go zero n = absurd (n refl)
       go (suc q) n = refl
 
-  lay-route : (t : List ℕ) (a d : ℕ) (bs : List ℕ) (r : Refusal) (u : List ℕ) → Lays s t a d bs r u → RefusalOf 1 (1 ∷ 2 ∷ 3 ∷ 4 ∷ 5 ∷ 6 ∷ 7 ∷ 8 ∷ 9 ∷ 10 ∷ 12 ∷ 13 ∷ 14 ∷ []) r
+  lay-route : (t : List ℕ) (a d : ℕ) (bs : List ℕ) (r : Refusal) (u : List ℕ) → Lays s t a d bs r u → RefusalOf 1 (1 ∷ 2 ∷ 26 ∷ 3 ∷ 4 ∷ 5 ∷ 6 ∷ 7 ∷ 8 ∷ 9 ∷ 10 ∷ 12 ∷ 13 ∷ 14 ∷ []) r
   unfolding isIn
   lay-route t a d bs r u h =
       alone _ _ _ (whole-of 1 _ (layTests s t a d bs) (Reads s [] a d bs) r refl refl
-      (λ k. reads-of s [] (8 ∷ 9 ∷ 10 ∷ 12 ∷ []) _ refl refl refl refl (plain-numbers s) (k .1 .1 .1 .1 .1 .1 .0)) (meets (refused-exactly .lay-route s t a d bs r u h)))
+      (λ k. reads-of s [] (8 ∷ 9 ∷ 10 ∷ 12 ∷ []) _ refl refl refl refl (plain-numbers s) (back (roomTests s t a d) ((7, length bs ≡ 8) ∷ []) k .0)) (meets (refused-exactly .lay-route s t a d bs r u h)))
 
   -- ---- writing
 
-  writes-of : {vs : List ℕ} {r : Refusal} → length vs ≤ 9 → Writes s vs r → Of 1 (1 ∷ 2 ∷ 3 ∷ 22 ∷ 4 ∷ 5 ∷ 23 ∷ 12 ∷ []) r
+  writes-of : {vs : List ℕ} {r : Refusal} → length vs ≤ 9 → Writes s vs r → Of 1 (1 ∷ 2 ∷ 26 ∷ 3 ∷ 22 ∷ 4 ∷ 5 ∷ 23 ∷ 12 ∷ []) r
   unfolding isIn
   writes-of l (inl h) = none-of (h .1)
   writes-of {vs} {r} l (inr h) =
       let count = ap length (h .servers) ∙ length-append (h .before) (h .next ∷ h .rest) in
       chain-of (λ n. refusedAt n 1 (length (h .before))) 1 _ (writeTests s (h .before) (h .next)) (λ x. ⊥) r
-      (λ n e. hop-of (23 ∷ 12 ∷ []) (1 ∷ 2 ∷ 3 ∷ 22 ∷ 4 ∷ 5 ∷ 23 ∷ 12 ∷ []) n 1 (length (h .before)) refl refl e (omega arith) (omega arith) (h .way .some) (omega arith)) (λ k z. absurd z) (h .refused)
+      (λ n e. hop-of (23 ∷ 12 ∷ []) (1 ∷ 2 ∷ 26 ∷ 3 ∷ 22 ∷ 4 ∷ 5 ∷ 23 ∷ 12 ∷ []) n 1 (length (h .before)) refl refl e (omega arith) (omega arith) (h .way .some) (omega arith)) (λ k z. absurd z) (h .refused)
 
   bare-written : (vs : List ℕ) (r : Refusal) → written s vs r .refusal .number ≢ 0 → written s vs r ≡ noWriting (written s vs r .refusal)
   bare-written vs r = go (eqb (r .number) 0)
@@ -154,15 +155,15 @@ module _ (s : Shape) where
       go true n = absurd (n refl)
       go false n = refl
 
-  write-path : (vs : List ℕ) → WritingOf (1 ∷ 2 ∷ 3 ∷ 22 ∷ 4 ∷ 5 ∷ 23 ∷ 12 ∷ []) (writeAnswer s vs)
+  write-path : (vs : List ℕ) → WritingOf (1 ∷ 2 ∷ 26 ∷ 3 ∷ 22 ∷ 4 ∷ 5 ∷ 23 ∷ 12 ∷ []) (writeAnswer s vs)
   unfolding writeAnswer isIn
   write-path vs =
-      refuses _ _ (λ r. refl) 1 _ (writeAnswer s vs) (whole-of 1 _ (serversTests s vs) (Writes s vs) _ refl refl (λ k. writes-of (k .1 .1 .1 .0 .1)) (meets (refused-exactly .write-path s vs)))
+      refuses _ _ (λ r. refl) 1 _ (writeAnswer s vs) (whole-of 1 _ (serversTests s vs) (Writes s vs) _ refl refl (λ k. writes-of (back (shapeTests s) ((22, (2 ≤ length vs) × (length vs ≤ 9)) ∷ (4, (i : ℕ) → i < length vs → getD vs i 0 < serversOf s) ∷ (5, getD vs 0 0 ≢ endOf vs) ∷ []) k .0 .1)) (meets (refused-exactly .write-path s vs)))
       (bare-answer (λ x. x .refusal) noWriting (λ r. refl) plain (writeRefusal s vs) (written s vs (onTheWay s vs)) (bare-written vs (onTheWay s vs)))
 
   -- ---- lists
 
-  checks-of : {t : List ℕ} {a d : ℕ} {bs : List ℕ} {r : Refusal} → Checks s t a d bs r → Of (length bs / 8) (1 ∷ 2 ∷ 3 ∷ 4 ∷ 5 ∷ 6 ∷ 7 ∷ 8 ∷ 9 ∷ 10 ∷ 11 ∷ 12 ∷ 13 ∷ 14 ∷ 15 ∷ []) r
+  checks-of : {t : List ℕ} {a d : ℕ} {bs : List ℕ} {r : Refusal} → Checks s t a d bs r → Of (length bs / 8) (1 ∷ 2 ∷ 26 ∷ 3 ∷ 4 ∷ 5 ∷ 6 ∷ 7 ∷ 8 ∷ 9 ∷ 10 ∷ 11 ∷ 12 ∷ 13 ∷ 14 ∷ 15 ∷ []) r
   unfolding isIn
   checks-of (inl h) = none-of (h .1)
   checks-of {t} {a} {d} {bs} {r} (inr (inl h)) =
@@ -171,11 +172,11 @@ module _ (s : Shape) where
   checks-of {t} {a} {d} {bs} {r} (inr (inr h)) =
       subst (Of (length bs / 8) _) (sym (h .here)) (listed refl, later (omega (arith, h .order)) (h .within))
 
-  check-list : (t : List ℕ) (a d : ℕ) (bs : List ℕ) → RefusalOf (length bs / 8) (1 ∷ 2 ∷ 3 ∷ 4 ∷ 5 ∷ 6 ∷ 7 ∷ 8 ∷ 9 ∷ 10 ∷ 11 ∷ 12 ∷ 13 ∷ 14 ∷ 15 ∷ []) (checkAnswer s t a d bs)
+  check-list : (t : List ℕ) (a d : ℕ) (bs : List ℕ) → RefusalOf (length bs / 8) (1 ∷ 2 ∷ 26 ∷ 3 ∷ 4 ∷ 5 ∷ 6 ∷ 7 ∷ 8 ∷ 9 ∷ 10 ∷ 11 ∷ 12 ∷ 13 ∷ 14 ∷ 15 ∷ []) (checkAnswer s t a d bs)
   unfolding isIn
   check-list t a d bs = alone _ _ _ (whole-of _ _ (checkTests s t a d bs) (Checks s t a d bs) _ refl refl (λ k. checks-of) (meets (refused-exactly .check-list s t a d bs)))
 
-  find-route : (t : List ℕ) (a d : ℕ) (x : Found) → Finding s t a d x → FoundOf (1 ∷ 2 ∷ 3 ∷ 4 ∷ 5 ∷ 6 ∷ []) x
+  find-route : (t : List ℕ) (a d : ℕ) (x : Found) → Finding s t a d x → FoundOf (1 ∷ 2 ∷ 26 ∷ 3 ∷ 4 ∷ 5 ∷ 6 ∷ []) x
   unfolding isIn
   find-route t a d x f =
       refuses _ _ (λ r. refl) 0 _ x (whole-of 0 _ (roomTests s t a d) (λ r. r ≡ none) _ refl refl (λ k. none-of) (meets (refused-exactly .find-route s t a d x f)))
@@ -194,7 +195,7 @@ module _ (s : Shape) where
   bare-selection [] n = refl
   bare-selection (vs ∷ vss) n = absurd (n refl)
 
-  select-routes : (t : List ℕ) (a d : ℕ) (x : Selection) → Selecting s t a d x → SelectionOf (1 ∷ 2 ∷ 3 ∷ 4 ∷ 5 ∷ 6 ∷ 16 ∷ []) x
+  select-routes : (t : List ℕ) (a d : ℕ) (x : Selection) → Selecting s t a d x → SelectionOf (1 ∷ 2 ∷ 26 ∷ 3 ∷ 4 ∷ 5 ∷ 6 ∷ 16 ∷ []) x
   unfolding isIn
   select-routes t a d x f =
       refuses _ _ (λ r. refl) 0 _ x (whole-of 0 _ (selectTests s t a d) (λ r. r ≡ none) _ refl refl (λ k. none-of) (meets (refused-exactly .select-routes s t a d x f)))
@@ -203,7 +204,7 @@ module _ (s : Shape) where
         | yes z ↦ subst (λ (y : Selection). y .refusal .number ≢ 0 → y ≡ record { refusal = y .refusal; routes = emptySet }) (sym (f .given z .answer)) (bare-selection (f .given z .routes))
       ])
 
-  pick-refusal : (t : List ℕ) (a d : ℕ) (fs ks : List ℕ) → RefusalOf 0 (1 ∷ 2 ∷ 3 ∷ 4 ∷ 5 ∷ 6 ∷ 7 ∷ 16 ∷ []) (pickAnswer s t a d fs ks)
+  pick-refusal : (t : List ℕ) (a d : ℕ) (fs ks : List ℕ) → RefusalOf 0 (1 ∷ 2 ∷ 26 ∷ 3 ∷ 4 ∷ 5 ∷ 6 ∷ 7 ∷ 16 ∷ []) (pickAnswer s t a d fs ks)
   unfolding isIn
   pick-refusal t a d fs ks = alone _ _ _ (whole-of 0 _ (pickTests s t a d fs ks) (λ r. r ≡ none) _ refl refl (λ k. none-of) (meets (refused-exactly .pick-refusal s t a d fs ks)))
 
@@ -212,7 +213,7 @@ module _ (s : Shape) where
   bare-place r (inKept i) n = absurd (n refl)
   bare-place r nowhere n = refl
 
-  pick-place : (t : List ℕ) (a d : ℕ) (fs ks : List ℕ) → PlaceOf (1 ∷ 2 ∷ 3 ∷ 4 ∷ 5 ∷ 6 ∷ 7 ∷ 16 ∷ []) (placeAnswer s t a d fs ks)
+  pick-place : (t : List ℕ) (a d : ℕ) (fs ks : List ℕ) → PlaceOf (1 ∷ 2 ∷ 26 ∷ 3 ∷ 4 ∷ 5 ∷ 6 ∷ 7 ∷ 16 ∷ []) (placeAnswer s t a d fs ks)
   unfolding placeAnswer isIn
   pick-place t a d fs ks =
       refuses _ _ (λ r. refl) 0 _ (placeAnswer s t a d fs ks) (whole-of 0 _ (pickTests s t a d fs ks) (λ r. r ≡ none) _ refl refl (λ k. none-of) (meets (refused-exactly .pick-place s t a d fs ks)))
@@ -221,16 +222,16 @@ module _ (s : Shape) where
   -- ---- a step
 
   module _ (a d i : ℕ) (bs e : List ℕ) where
-    steps-of : {r : Refusal} → Steps s a d i bs e r → Of 1 (1 ∷ 2 ∷ 3 ∷ 4 ∷ 17 ∷ 7 ∷ 18 ∷ 8 ∷ 9 ∷ 10 ∷ 19 ∷ []) r
+    steps-of : {r : Refusal} → Steps s a d i bs e r → Of 1 (1 ∷ 2 ∷ 26 ∷ 3 ∷ 4 ∷ 17 ∷ 7 ∷ 18 ∷ 8 ∷ 9 ∷ 10 ∷ 19 ∷ []) r
     unfolding isIn
     steps-of (inl h) = none-of (h .1)
     steps-of {r} (inr h) =
         whole-of 1 _ ((18, i < 8) ∷ []) (Refused (λ n. refusedAt n 1 (i + 1)) (stepTests s a e (getD bs i 0)) (λ x. x ≡ none)) r refl refl
         (λ k. chain-of (λ n. refusedAt n 1 (i + 1)) 1 _ (stepTests s a e (getD bs i 0)) (λ x. x ≡ none) r
-        (λ n z. hop-of (8 ∷ 9 ∷ 10 ∷ 19 ∷ []) (1 ∷ 2 ∷ 3 ∷ 4 ∷ 17 ∷ 7 ∷ 18 ∷ 8 ∷ 9 ∷ 10 ∷ 19 ∷ []) n 1 (i + 1) refl refl z (omega arith) (omega arith) (omega arith) (omega (arith, k .0))) (λ j. none-of))
+        (λ n z. hop-of (8 ∷ 9 ∷ 10 ∷ 19 ∷ []) (1 ∷ 2 ∷ 26 ∷ 3 ∷ 4 ∷ 17 ∷ 7 ∷ 18 ∷ 8 ∷ 9 ∷ 10 ∷ 19 ∷ []) n 1 (i + 1) refl refl z (omega arith) (omega arith) (omega arith) (omega (arith, k .0))) (λ j. none-of))
         (h .1)
 
-    step-once : StepOf (1 ∷ 2 ∷ 3 ∷ 4 ∷ 17 ∷ 7 ∷ 18 ∷ 8 ∷ 9 ∷ 10 ∷ 19 ∷ []) (stepAnswer s a d i bs e)
+    step-once : StepOf (1 ∷ 2 ∷ 26 ∷ 3 ∷ 4 ∷ 17 ∷ 7 ∷ 18 ∷ 8 ∷ 9 ∷ 10 ∷ 19 ∷ []) (stepAnswer s a d i bs e)
     unfolding stepAnswer isIn
     step-once =
         refuses _ _ (λ r. refl) 1 _ (stepAnswer s a d i bs e) (whole-of 1 _ (givenTests s a d bs e) (Steps s a d i bs e) _ refl refl (λ k. steps-of) (meets (refused-exactly .step-once s a d i bs e)))

@@ -31,6 +31,7 @@ use Rattle.desk_line.specs.Numbers.{digitsOnly, valueFrom, noWord, aWord, wordO
 use Rattle.desk_line.specs.Texts.{inputLine, refusedLine, routeLine}
 use Rattle.desk_line.specs.Answers.{slotLine, routesText, builtText, deskText}
 use Rattle.desk_line.proofs.LineLaws.{before-stop, before-more, before-le, size-stop, size-on}
+use Rattle.desk_line.proofs.InputLaws.{desk-never-26}
 use Rattle.desk_line.proofs.AnswerLaws.{slot-read}
 use Rattle.demands.specs.Desk.{Each, Decimal, FourNumbers, FirstLine, Asks, routeLines, DeskPrints}
 use Rattle.demands.proofs.BuiltArrays.{slot-array}
@@ -260,6 +261,7 @@ desk-prints =
       refused = λ input n k a d h z.
           let s = fullRoom n k in
           asked-text h ∙ sym (answer-refused (buildAnswer s a d .refusal .number) (endsRefusal s a d) refusedLine _ (routesText s a d) refl (build-number s a d) z);
+      never-26 = desk-never-26;
       otherwise = λ input h. off input h (questionOf input .taken) refl;
     }
   where

@@ -51,7 +51,7 @@ use Rattle.pick.proofs.Promises.{source-chosen}
 use Rattle.step.specs.Steps.{givenRefusal, byteRefusal, awayRefusal, stepRefusal, atHop, withPlace, noStep, delivery, forwarded, stepAnswer}
 use Rattle.demands.specs.Tests.{Tests, Refused, Number, Whole, Exactly}
 use Rattle.demands.specs.Refusals.{shapeTests, levelTests, serverTests, pairTests, linkTests, valueTests, portTests, madeTests, partsTests, placesTests, tableTests, tableLinkTests, tableServerTests, endsTests, roomTests, arrayTests, layTests, Joined, selectTests, Arrays, IsRead, SomeRead, pickTests, hopTests, Reads, givenTests, stepTests, Steps, RefusedExactly}
-use Rattle.demands.proofs.Chains.{front, held, skip, same, join, split, exactly, made, carry, some, chain, zero-of, hold-of, answers, test, lt}
+use Rattle.demands.proofs.Chains.{front, back, held, skip, same, join, split, exactly, made, carry, some, chain, zero-of, hold-of, answers, test, lt}
 use Rattle.demands.proofs.Numbers.{shape-number, level-number, server-number, pair-number, link-number, value-number, port-number, made-number, parts-number, places-number, table-number, table-link-number, table-server-number, ends-number, ends-hold, array-number, room-number, lists-number, hop-number, given-number, byte-number}
 use Rattle.demands.proofs.Hops.{walk-reads, reads-walk}
 use Rattle.demands.proofs.Written.{write-path}
@@ -96,7 +96,7 @@ module _ {X : Type 0} (refusal : X → Refusal) (bare : ℕ → X) (same : (r : 
   reads s t a d bs =
       exactly plain (Reads s t a d bs) (arrayTests s a d bs) _ (λ y h f g. sym (reads-walk f) ∙ reads-walk g)
       (answers refusal bare plain (Reads s t a d bs) (arrayTests s a d bs) (arrayRefusal s a d bs) (make (walk s t a d bs)) same refl (array-number s a d bs)
-      (λ h. subst (Reads s t a d bs) (sym (alike (walk s t a d bs))) (walk-reads t bs (ends-hold s a d (front (endsTests s a d) ((7, length bs ≡ 8) ∷ []) h)) (h .1 .1 .1 .1 .1 .0))))
+      (λ h. subst (Reads s t a d bs) (sym (alike (walk s t a d bs))) (walk-reads t bs (ends-hold s a d (front (endsTests s a d) ((7, length bs ≡ 8) ∷ []) h)) (back (endsTests s a d) ((7, length bs ≡ 8) ∷ []) h .0))))
 
 walk-path : (s : Shape) (t : List ℕ) (a d : ℕ) (bs : List ℕ) → Exactly (walkAnswer s t a d bs .refusal) (Refused plain (arrayTests s a d bs) (Reads s t a d bs))
 unfolding walkAnswer
@@ -277,7 +277,7 @@ module _ (s : Shape) (a d i : ℕ) (bs e : List ℕ) where
       subst (λ (r : Refusal). Exactly r (Refused plain (givenTests s a d bs e) (Steps s a d i bs e))) step-with-place
       (exactly plain (Steps s a d i bs e) (givenTests s a d bs e) (withPlace i (stepRefusal s a d i bs e)) (λ y h. one-step _ y)
       (carry plain (λ n. withPlace i (n or-else cond (eqb a d) 0 (awayRefusal s a i bs e))) (Steps s a d i bs e) (givenTests s a d bs e) (givenRefusal s a d bs e)
-      (refl, (refl, (refl, (refl, (refl, (refl, tt)))))) (given-number s a d bs e) (λ h. steps)))
+      (refl, (refl, (refl, (refl, (refl, (refl, (refl, tt))))))) (given-number s a d bs e) (λ h. steps)))
 
 -- ---- every call
 

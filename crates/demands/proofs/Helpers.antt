@@ -1,19 +1,18 @@
 -- Demand 2, proved: the functions that serve the layers above them.
-use Prim.Native.Nat.{ℕ, _+_, _*_, _^_, _≤_, _<_}
+use Prim.Native.Nat.{ℕ, _*_, _^_, _≤_, _<_}
 use mathlib.Core.Path.{_≡_, refl, sym, ap, _∙_, subst}
 use mathlib.Core.Logic.{_⊎_, inl, inr}
 use mathlib.Core.Bool.{Bool}
 use mathlib.Core.List.{List}
 use native.Mathlib.Omega.{arith}
-use native.Mathlib.Numerals.{add-one}
 use native.Mathlib.Decide.{decLe}
-use native.Mathlib.Nat.{pow-succ', mul-zero}
+use native.Mathlib.Nat.{mul-zero}
 use lib.ListN.{length}
 use Rattle.room.specs.declared.Shape.{Shape}
 use Rattle.room.specs.Shapes.{bound, powerOf, serverCount, Link, Value}
 use Rattle.room.specs.Sides.{sideOf}
-use Rattle.room.proofs.PowerLaws.{no-ports, past-ports, past-levels, power-within}
-use Rattle.room.proofs.RoomLaws.{with-server, with-same, with-beside}
+use Rattle.room.proofs.PowerLaws.{no-ports, past-ports, past-levels, power-within, count-none, count-made}
+use Rattle.room.proofs.RoomLaws.{servers-are, bound-top, bound-other, with-server, with-same, with-beside}
 use Rattle.room.proofs.SideLaws.{side-none, side-count, side-reach}
 use Rattle.links.specs.Table.{changedIn}
 use Rattle.links.proofs.TableLaws.{changed-in, changed-long, changed-own, changed-other}
@@ -30,17 +29,19 @@ no-power n l (inr (inr h)) =
       | no a ↦ no-ports n l (omega arith)
     ]
 
-server-count : (s : Shape) → 1 ≤ s .n → s .n ≤ 64 → s .k ≤ 3 → serverCount s ≡ s .n ^ (s .k + 1)
-unfolding serverCount
-server-count s a b d =
-    ap (λ (x : ℕ). s .n * x) (power-within (s .n) (s .k) a b d) ∙ sym (pow-succ' (s .n) (s .k)) ∙ ap (λ (x : ℕ). s .n ^ x) (sym (add-one (s .k)))
+server-count : (s : Shape) → 1 ≤ s .n → s .n ≤ 64 → s .k ≤ 3 → s .m ≤ s .n → serverCount s ≡ s .m * s .n ^ s .k
+server-count s a b d h =
+    sym (count-made s h (powerOf (s .n) (s .k)) refl) ∙ ap (λ (x : ℕ). s .m * x) (power-within (s .n) (s .k) a b d)
 
-no-server-count : (s : Shape) → NoPower (s .n) (s .k) → serverCount s ≡ 0
-unfolding serverCount
-no-server-count s h = ap (λ (x : ℕ). s .n * x) (sym (no-power (s .n) (s .k) h)) ∙ mul-zero (s .n)
+no-server-count : (s : Shape) → NoPower (s .n) (s .k) ⊎ (s .n < s .m) → serverCount s ≡ 0
+no-server-count s (inl h) =
+    elim (decLe (s .m) (s .n)) [
+      | yes e ↦ sym (count-made s e 0 (no-power (s .n) (s .k) h)) ∙ mul-zero (s .m)
+      | no e ↦ sym (count-none s (omega arith))
+    ]
+no-server-count s (inr h) = sym (count-none s h)
 
 servers-at : (s : Shape) (a l : ℕ) → Link s a l → ServersAt s a l (sideOf s a l)
-unfolding bound
 servers-at s a l h =
     record {
       count = side-count h;
@@ -59,7 +60,6 @@ no-link b a l t (inl h) = sym (change-past b a l t h)
 no-link b a l t (inr h) = sym (change-above b a l t h)
 
 pub every-helper : EveryHelper
-unfolding bound
 every-helper =
     record {
       of-route = λ r i. record { number = refl; route = refl; hop = refl };
@@ -67,7 +67,8 @@ every-helper =
       no-power = λ n l h. sym (no-power n l h);
       server-count = server-count;
       no-server-count = no-server-count;
-      digit-bound = λ s l. refl;
+      servers = servers-are;
+      digit-bound = λ s l. (bound-other s l, λ e. ap (bound s) e ∙ bound-top s);
       side-of = servers-at;
       no-side = λ s a l h. sym (side-none s a l 0 (no-power (s .n) l h) refl);
       one-link = one-link;

@@ -17,6 +17,7 @@ pub mod BuiltArrays
 pub mod Picking
 pub mod Desk
 pub mod Demand3
+pub mod FullRooms
 pub mod ShortRoutes
 pub mod ProvedTable
 pub mod TieRows

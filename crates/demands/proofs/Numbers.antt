@@ -49,7 +49,8 @@ not-in : (x : ℕ) (xs : List ℕ) → (not (isIn x xs) ≡ true) ↔ NotIn x xs
 not-in x xs = (λ e. in-missing x xs (not-true _ e) .not-at, λ h. ap not (missing-in x xs (record { not-at = h })))
 
 valid-held : {s : Shape} → Hold (shapeTests s) → Valid s
-valid-held h = record { two = h .0 .0; ports = h .0 .1; levels = h .1 .0; small = h .1 .1 .0 }
+valid-held h =
+    record { two = h .0 .0; ports = h .0 .1; levels = h .1 .0; some = h .1 .1 .0 .0; most = h .1 .1 .0 .1; small = h .1 .1 .1 .0 }
 
 single-one : (xs : List ℕ) → (single xs ≡ true) ↔ ((x : ℕ) × (xs ≡ x ∷ []))
 single-one [] = (λ e. let z : _≡_ {A = ℕ} 0 1 = cc in let n : ⊥ = omega arith in absurd n, λ p. let e = p .1 in let z : _≡_ {A = ℕ} 0 1 = cc in let n : ⊥ = omega arith in absurd n)
@@ -62,10 +63,12 @@ module _ (s : Shape) where
   pub shape-number : Number (shapeTests s) (shapeRefusal s)
   unfolding shapeRefusal
   shape-number =
-      chain ((1, (2 ≤ s .n) × (s .n ≤ 64)) ∷ (2, s .k ≤ 3) ∷ []) ((3, serversOf s ≤ 4096) ∷ []) _ _ refl
+      chain ((1, (2 ≤ s .n) × (s .n ≤ 64)) ∷ (2, s .k ≤ 3) ∷ (26, (2 ≤ s .m) × (s .m ≤ s .n)) ∷ []) ((3, serversOf s ≤ 4096) ∷ []) _ _ refl
+      (chain ((1, (2 ≤ s .n) × (s .n ≤ 64)) ∷ (2, s .k ≤ 3) ∷ []) ((26, (2 ≤ s .m) × (s .m ≤ s .n)) ∷ []) _ _ refl
       (chain ((1, (2 ≤ s .n) × (s .n ≤ 64)) ∷ []) ((2, s .k ≤ 3) ∷ []) _ _ refl
       (test 1 (leb 2 (s .n) && leb (s .n) 64) (both _ _ (le 2 (s .n)) (le (s .n) 64)))
       (λ h. test 2 (leb (s .k) 3) (le (s .k) 3)))
+      (λ h. test 26 (leb 2 (s .m) && leb (s .m) (s .n)) (both _ _ (le 2 (s .m)) (le (s .m) (s .n)))))
       (λ h. test 3 (leb (serversOf s) 4096) (le (serversOf s) 4096))
 
   pub level-number : (l : ℕ) → Number (levelTests s l) (levelRefusal s l)

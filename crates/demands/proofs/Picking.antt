@@ -3,7 +3,7 @@ use Prim.Native.Nat.{ℕ, _/_, _<_}
 use mathlib.Core.Path.{_≡_, refl, sym, ap, _∙_}
 use mathlib.Core.Logic.{_≢_, _⊎_, inl, inr}
 use mathlib.Core.Bool.{Bool, true, false}
-use mathlib.Core.List.{List}
+use mathlib.Core.List.{List, [], _∷_}
 use native.Mathlib.Omega.{arith}
 use lib.Dec.{eqb}
 use lib.ListN.{length}
@@ -13,7 +13,7 @@ use Rattle.refusals.proofs.ChainLaws.{or-else-zero}
 use Rattle.room.specs.declared.Shape.{Shape}
 use Rattle.room.specs.Shapes.{Ends}
 use Rattle.links.specs.Table.{roomRefusal, TableOf}
-use Rattle.links.proofs.TableLaws.{room-of}
+use Rattle.links.proofs.TableLaws.{room-of, room-none}
 use Rattle.verdict.specs.Checks.{checkAnswer}
 use Rattle.verdict.proofs.AcceptLaws.{of-accepted}
 use Rattle.pick.specs.Picks.{usable, Source, inFresh, inKept, nowhere, listsRefusal, pickSource, pickRefusal, pickAnswer, arrayAt, pickedBytes, pickedAt}
@@ -24,8 +24,8 @@ use Rattle.pick.proofs.UsableLaws.{usable-accepted, array-long, clash}
 use Rattle.pick.proofs.Promises.{source-chosen, sixteen-exactly}
 use Rattle.demands.specs.Tests.{_then_}
 use Rattle.demands.specs.Refusals.{roomTests, Arrays}
-use Rattle.demands.proofs.Chains.{zero-of, hold-of}
-use Rattle.demands.proofs.Numbers.{lists-number}
+use Rattle.demands.proofs.Chains.{back, hold-both, zero-of, hold-of}
+use Rattle.demands.proofs.Numbers.{room-number, lists-number}
 use Rattle.demands.specs.Demand2.{FirstTaken, NoneTaken, PicksAt, PicksFirst, NonePickedExactly}
 
 -- usable is what checking takes as a list of one
@@ -59,19 +59,19 @@ module _ (s : Shape) (t : List ℕ) (a d : ℕ) (room : roomRefusal s t a d ≡ 
 none-taken : (s : Shape) (t : List ℕ) (a d : ℕ) (bs : List ℕ) → NoneUsable s t a d bs → NoneTaken s t a d bs
 none-taken s t a d bs h j p = not-taken s t a d (arrayAt j bs) (h .each j p)
 
--- refusals 1 to 7 do not apply exactly when the ends, the table and the lists are as they have to be
+-- refusals 1, 2, 26 and 3 to 7 do not apply exactly when the ends, the table and the lists are as they have to be
 module _ (s : Shape) (t : List ℕ) (a d : ℕ) (fs ks : List ℕ) where
   lists-of : listsRefusal s t a d fs ks ≡ 0 → Ends s a d × TableOf s t × (Arrays s fs × Arrays s ks)
   lists-of z =
       let k = room-of s t a d (lists-room s t a d fs ks (listsRefusal s t a d fs ks) refl z) in
       let h = hold-of (roomTests s t a d then (7, Arrays s fs × Arrays s ks)) (listsRefusal s t a d fs ks) refl (lists-number s t a d fs ks) z in
-      (k .0, k .1, h .1 .1 .1 .1 .1 .1 .0)
+      (k .0, k .1, back (roomTests s t a d) ((7, Arrays s fs × Arrays s ks) ∷ []) h .0)
 
   lists-none : Ends s a d → TableOf s t → Arrays s fs × Arrays s ks → listsRefusal s t a d fs ks ≡ 0
   lists-none e h p =
-      let v = e .source .valid in
+      let given = hold-of (roomTests s t a d) (roomRefusal s t a d) refl (room-number s t a d) (sym (room-none e h)) in
       zero-of (roomTests s t a d then (7, Arrays s fs × Arrays s ks)) (listsRefusal s t a d fs ks) (lists-number s t a d fs ks)
-      ((v .two, v .ports), (v .levels, (v .small, ((e .source .below, e .destination .below), (e .differ, (h, (p, tt)))))))
+      (hold-both (roomTests s t a d) ((7, Arrays s fs × Arrays s ks) ∷ []) given (p, tt))
 
 pub none-picked-exactly : NonePickedExactly
 unfolding pickAnswer

@@ -94,11 +94,13 @@ tells-level {s} {a} {b} h g =
     }
 
 pub room-answers : RoomAnswers
-unfolding serversAnswer boundAnswer digitsAnswer digitAnswer addressAnswer switchAnswer neighbourAnswer betweenAnswer bound switchOf
+unfolding serversAnswer boundAnswer digitsAnswer digitAnswer addressAnswer switchAnswer neighbourAnswer betweenAnswer switchOf
 room-answers =
     record {
-      servers-of = λ s z. number (shapeRefusal s) (serversOf s) _ refl z .1 ∙ sym (rooms.servers-power s);
-      bound-of = λ s l z. number (levelRefusal s l) (s .n) _ refl z .1;
+      servers-of = λ s z. number (shapeRefusal s) (serversOf s) _ refl z .1 ∙ rooms.servers-are s;
+      bound-of = λ s l z.
+          let p = number (levelRefusal s l) (bound s l) _ refl z .1 in
+          (λ h. p ∙ rooms.bound-other s l (λ e. omega arith), λ e. p ∙ ap (bound s) e ∙ rooms.bound-top s);
       digits-of = λ s a z.
           let p = answered (λ (x : Digits). x .refusal .number) noDigits (λ r. refl) (serverRefusal s a) (digitsAnswer s a) (someDigits (filled 4 (digits s a))) refl z in
           subst (λ (x : Digits). FourPlaces s a (x .places)) (sym (p .1)) (four-places (server-of s a (p .0)));

@@ -12,7 +12,8 @@ use Rattle.lists.proofs.ListLaws.{both-held}
 use Rattle.refusals.specs.declared.Refusal.{Refusal}
 use Rattle.refusals.specs.Refusals.{none, plain, refusedAt}
 use Rattle.room.specs.declared.Shape.{Shape}
-use Rattle.room.specs.Shapes.{bound}
+use Rattle.room.specs.Shapes.{serversOf, bound}
+use Rattle.room.specs.Refusals.{shapeRefusal}
 use Rattle.room.specs.Addresses.{digit}
 use Rattle.path.specs.Routes.{levelOf, valueOf}
 use Rattle.path.specs.Walks.{walk}
@@ -31,6 +32,11 @@ other-numbers refused [] r f u = tt
 other-numbers refused (t ∷ A) r f u =
     let w = both-held (not (eqb (t .0) (r .number))) (all (λ n. not (eqb n (r .number))) (numbersOf A)) u in
     (λ e. eqb-false (t .0) (r .number) (not-true _ (w .0)) (sym (f (t .0)) ∙ ap (λ (x : Refusal). x .number) e), other-numbers refused A r f (w .1))
+
+twenty-six : (s : Shape) → (shapeRefusal s ≡ 26) ↔ (Hold ((1, (2 ≤ s .n) × (s .n ≤ 64)) ∷ (2, s .k ≤ 3) ∷ []) × ((2 ≤ s .m) × (s .m ≤ s .n) → ⊥))
+twenty-six s =
+    chain-means .number (λ n. n) ((1, (2 ≤ s .n) × (s .n ≤ 64)) ∷ (2, s .k ≤ 3) ∷ []) ((3, serversOf s ≤ 4096) ∷ []) 26 ((2 ≤ s .m) × (s .m ≤ s .n)) (λ r. r ≡ 0) (shapeRefusal s) (refused-exactly .shape-refusal s)
+    (λ e. omega arith, (λ e. omega arith, tt)) (λ e. omega arith, tt) (λ e. omega arith)
 
 seven : (s : Shape) (t : List ℕ) (a d : ℕ) (bs : List ℕ) → (checkAnswer s t a d bs ≡ plain 7) ↔ (Hold (roomTests s t a d) × ((Arrays s bs × (1 ≤ length bs)) → ⊥))
 seven s t a d bs =
@@ -109,4 +115,4 @@ fifteen s t a d bs j = (λ q. let w = means .0 q in (w .0, go (w .1)), λ h. mea
     go (inr (inr h)) = h
 
 pub spelled-out : SpelledOut
-spelled-out = record { seven = seven; eight = eight; fourteen = fourteen; fifteen = fifteen }
+spelled-out = record { twenty-six = twenty-six; seven = seven; eight = eight; fourteen = fourteen; fifteen = fifteen }

@@ -17,6 +17,7 @@ use Rattle.demands.specs.Uniqueness.{EveryInput, Uniqueness}
 pub every-input : EveryInput
 every-input =
     record {
+      shape-new = λ κs a. tt;
       shape-full = λ κs a. tt;
       refusal-none = λ κs a. tt;
       refusal-plain = λ κs a. tt;
@@ -82,6 +83,7 @@ every-input =
       c-path-byte = λ κs a. tt;
       c-path-byte-parts = λ κs a. tt;
       c-room-of = λ κs a. tt;
+      c-filled-room = λ κs a. tt;
       c-shape = λ κs a. tt;
       c-servers = λ κs a. tt;
       c-bound = λ κs a. tt;
@@ -108,6 +110,7 @@ every-input =
 pub uniqueness : Uniqueness
 uniqueness =
     record {
+      shape-new = room.new-unique;
       shape-full = room.full-unique;
       refusal-none = refusals.none-unique;
       refusal-plain = refusals.plain-unique;
@@ -180,6 +183,7 @@ uniqueness =
       c-path-byte = driver.bcube-path-byte-unique;
       c-path-byte-parts = driver.bcube-path-byte-parts-unique;
       c-room-of = driver.bcube-room-of-unique;
+      c-filled-room = driver.bcube-filled-room-unique;
       c-shape = driver.bcube-shape-unique;
       c-servers = driver.bcube-servers-unique;
       c-bound = driver.bcube-bound-unique;

@@ -1,6 +1,6 @@
 -- Demand 1, of buffers and words: every lent buffer keeps its bytes where a call refuses, and holds what it answers else; the words that the
 -- calls from C give back say all of the answer.
-use Prim.Native.Nat.{ℕ, suc, _+_, _*_, _/_, _%_}
+use Prim.Native.Nat.{ℕ, suc, _+_, _*_, _/_, _%_, _≤_}
 use mathlib.Core.Path.{_≡_}
 use mathlib.Core.Logic.{_≢_}
 use mathlib.Core.List.{List, [], _∷_}
@@ -10,7 +10,6 @@ use lib.ListN.{set}
 use Rattle.refusals.specs.declared.Refusal.{Refusal}
 use Rattle.refusals.specs.Refusals.{plain}
 use Rattle.room.specs.declared.Shape.{Shape}
-use Rattle.room.specs.Shapes.{fullRoom}
 use Rattle.room.specs.Refusals.{shapeRefusal}
 use Rattle.room.specs.Answers.{serversAnswer, boundAnswer, digitsAnswer, digitAnswer, addressAnswer, switchAnswer, neighbourAnswer, betweenAnswer}
 use Rattle.room.specs.Wiring.{switchesAnswer, serverAtAnswer}
@@ -27,6 +26,7 @@ use Rattle.step.specs.declared.Step.{Step}
 use Rattle.step.specs.Steps.{stepAnswer}
 use Rattle.driver.specs.declared.Answer.{Answer}
 use Rattle.driver.specs.declared.Stepped.{Stepped}
+use Rattle.driver.specs.declared.Room.{Room}
 use Rattle.driver.specs.Rooms.{roomOf, shapeIn}
 use Rattle.driver.specs.Words.{word, refusalIn, valueIn, numberWord, digitsWord, digitsLeft, switchWord, betweenWord, askedWord, partsWord, readingWord, readingLeft, writingWord, writingLeft, buildingWord, buildingLeft, placeWord}
 use Rattle.driver.specs.Routes.{FoundWord, SelectedWord}
@@ -61,10 +61,14 @@ pub record EveryBuffer : Type 0 where
 
 -- ---- the rooms that the calls from C take
 
--- a room of any two numbers is refused as they are, and where they are not refused, its shape is theirs
+-- a room of any three numbers is refused as they are, and where they are not refused, its shape is theirs
 pub record EveryRoom : Type 0 where
-  pub refused : (n k : ℕ) → shapeRefusal (shapeIn (roomOf n k)) ≡ shapeRefusal (fullRoom n k)
-  pub shape : (n k : ℕ) → shapeRefusal (fullRoom n k) ≡ 0 → shapeIn (roomOf n k) ≡ fullRoom n k
+  pub refused : (n k m : ℕ) → shapeRefusal (shapeIn (roomOf n k m)) ≡ shapeRefusal (record { n = n; k = k; m = m })
+  pub shape : (n k m : ℕ) → shapeRefusal (record { n = n; k = k; m = m }) ≡ 0 → shapeIn (roomOf n k m) ≡ record { n = n; k = k; m = m }
+  -- numbers of at most 255 stand in it side by side
+  pub number : (n k m : ℕ) → n ≤ 255 → k ≤ 255 → m ≤ 255 → roomOf n k m .number ≡ n + (256 * k + 65536 * m)
+  -- and a number that is not refused is the room of its shape
+  pub only : (r : Room) → shapeRefusal (shapeIn r) ≡ 0 → roomOf (shapeIn r .n) (shapeIn r .k) (shapeIn r .m) ≡ r
 
 -- ---- the words that the calls from C give back
 

@@ -1,5 +1,5 @@
 -- Demand 2, of switches and their ports, whole servers, single path bytes, and a route laid into a table.
-use Prim.Native.Nat.{ℕ, suc, _+_, _*_, _^_, _≤_, _<_}
+use Prim.Native.Nat.{ℕ, suc, _+_, _-_, _*_, _^_, _≤_, _<_}
 use mathlib.Core.Path.{_≡_}
 use mathlib.Core.Logic.{_↔_, _≢_, _⊎_}
 use mathlib.Core.Bool.{true, false}
@@ -26,10 +26,11 @@ pub record AtPort (s : Shape) (l w v a : ℕ) : Type 0 where
   pub port : digit s l a ≡ v
 
 pub record EveryPort : Type 0 where
-  -- a level has n^k switches, which are numbered from 0 without a gap (`SwitchesNumbered`)
-  pub switches : (s : Shape) (l : ℕ) → Valid s → l ≤ s .k → switchesAnswer s l ≡ aNumber (s .n ^ s .k)
+  -- level k has n^k switches, and a level below it m times n^(k-1); they are numbered from 0 without a gap (`SwitchesNumbered`)
+  pub switches-top : (s : Shape) → Valid s → switchesAnswer s (s .k) ≡ aNumber (s .n ^ s .k)
+  pub switches-below : (s : Shape) (l : ℕ) → Valid s → l < s .k → switchesAnswer s l ≡ aNumber (s .m * s .n ^ (s .k - 1))
   -- every port of every switch has its server
-  pub there : (s : Shape) (l w v : ℕ) → Valid s → l ≤ s .k → w < s .n ^ s .k → v < bound s l → (a : ℕ) × (serverAtAnswer s l w v ≡ aNumber a) × AtPort s l w v a
+  pub there : (s : Shape) (l w v : ℕ) → Valid s → l ≤ s .k → w < switchesAnswer s l .value → v < bound s l → (a : ℕ) × (serverAtAnswer s l w v ≡ aNumber a) × AtPort s l w v a
   -- and no other server is there: a server is at the port of its digit of its switch
   pub back : (s : Shape) (a l : ℕ) → Link s a l → serverAtAnswer s l (switchOf s l a) (digit s l a) ≡ aNumber a
 

@@ -46,9 +46,9 @@ use Rattle.step.specs.Steps.{stepAnswer}
 
 -- ---- the place of a refusal
 
--- 0, which is no refusal, 1 to 7, 16 to 18 and 20 to 22 are refusals of a call as a whole
+-- 0, which is no refusal, 1 to 7, 16 to 18, 20 to 22 and 26 are refusals of a call as a whole
 abbrev pub ofTheWhole : ℕ → Bool
-ofTheWhole r = leb r 7 || ((leb 16 r && leb r 18) || (leb 20 r && leb r 22))
+ofTheWhole r = leb r 7 || ((leb 16 r && leb r 18) || ((leb 20 r && leb r 22) || eqb r 26))
 
 -- 8 to 12, 14, 19 and 23 arise at a hop
 abbrev pub ofAHop : ℕ → Bool
@@ -127,46 +127,46 @@ pub record HopOf (numbers : List ℕ) (x : Hop) : Type 0 where
 -- a line for each call: the numbers that it can refuse with. When it gives each of them is `RefusedExactly` in Refusals.
 pub record EveryCall : Type 0 where
   -- room
-  pub shape-refusal : (s : Shape) → OneOf (1 ∷ 2 ∷ 3 ∷ []) (shapeRefusal s)
-  pub server-refusal : (s : Shape) (a : ℕ) → OneOf (1 ∷ 2 ∷ 3 ∷ 4 ∷ []) (serverRefusal s a)
-  pub pair-refusal : (s : Shape) (a b : ℕ) → OneOf (1 ∷ 2 ∷ 3 ∷ 4 ∷ []) (pairRefusal s a b)
-  pub ends-refusal : (s : Shape) (a d : ℕ) → OneOf (1 ∷ 2 ∷ 3 ∷ 4 ∷ 5 ∷ []) (endsRefusal s a d)
-  pub link-refusal : (s : Shape) (a l : ℕ) → OneOf (1 ∷ 2 ∷ 3 ∷ 4 ∷ 20 ∷ []) (linkRefusal s a l)
-  pub servers-of : (s : Shape) → NumberOf (1 ∷ 2 ∷ 3 ∷ []) (serversAnswer s)
-  pub bound-of : (s : Shape) (l : ℕ) → NumberOf (1 ∷ 2 ∷ 3 ∷ 20 ∷ []) (boundAnswer s l)
-  pub digits-of : (s : Shape) (a : ℕ) → DigitsOf (1 ∷ 2 ∷ 3 ∷ 4 ∷ []) (digitsAnswer s a)
-  pub digit-of : (s : Shape) (a l : ℕ) → NumberOf (1 ∷ 2 ∷ 3 ∷ 4 ∷ 20 ∷ []) (digitAnswer s a l)
-  pub address-of : (s : Shape) (ds : List ℕ) → NumberOf (1 ∷ 2 ∷ 3 ∷ 21 ∷ []) (addressAnswer s ds)
-  pub switch-of : (s : Shape) (a l : ℕ) → SwitchOf (1 ∷ 2 ∷ 3 ∷ 4 ∷ 20 ∷ []) (switchAnswer s a l)
-  pub neighbour-of : (s : Shape) (a l v : ℕ) → NumberOf (1 ∷ 2 ∷ 3 ∷ 4 ∷ 20 ∷ 21 ∷ []) (neighbourAnswer s a l v)
-  pub level-between : (s : Shape) (a b : ℕ) → BetweenOf (1 ∷ 2 ∷ 3 ∷ 4 ∷ []) (betweenAnswer s a b)
-  pub switches-of : (s : Shape) (l : ℕ) → NumberOf (1 ∷ 2 ∷ 3 ∷ 20 ∷ []) (switchesAnswer s l)
-  pub server-at : (s : Shape) (l w v : ℕ) → NumberOf (1 ∷ 2 ∷ 3 ∷ 20 ∷ 21 ∷ []) (serverAtAnswer s l w v)
+  pub shape-refusal : (s : Shape) → OneOf (1 ∷ 2 ∷ 26 ∷ 3 ∷ []) (shapeRefusal s)
+  pub server-refusal : (s : Shape) (a : ℕ) → OneOf (1 ∷ 2 ∷ 26 ∷ 3 ∷ 4 ∷ []) (serverRefusal s a)
+  pub pair-refusal : (s : Shape) (a b : ℕ) → OneOf (1 ∷ 2 ∷ 26 ∷ 3 ∷ 4 ∷ []) (pairRefusal s a b)
+  pub ends-refusal : (s : Shape) (a d : ℕ) → OneOf (1 ∷ 2 ∷ 26 ∷ 3 ∷ 4 ∷ 5 ∷ []) (endsRefusal s a d)
+  pub link-refusal : (s : Shape) (a l : ℕ) → OneOf (1 ∷ 2 ∷ 26 ∷ 3 ∷ 4 ∷ 20 ∷ []) (linkRefusal s a l)
+  pub servers-of : (s : Shape) → NumberOf (1 ∷ 2 ∷ 26 ∷ 3 ∷ []) (serversAnswer s)
+  pub bound-of : (s : Shape) (l : ℕ) → NumberOf (1 ∷ 2 ∷ 26 ∷ 3 ∷ 20 ∷ []) (boundAnswer s l)
+  pub digits-of : (s : Shape) (a : ℕ) → DigitsOf (1 ∷ 2 ∷ 26 ∷ 3 ∷ 4 ∷ []) (digitsAnswer s a)
+  pub digit-of : (s : Shape) (a l : ℕ) → NumberOf (1 ∷ 2 ∷ 26 ∷ 3 ∷ 4 ∷ 20 ∷ []) (digitAnswer s a l)
+  pub address-of : (s : Shape) (ds : List ℕ) → NumberOf (1 ∷ 2 ∷ 26 ∷ 3 ∷ 21 ∷ []) (addressAnswer s ds)
+  pub switch-of : (s : Shape) (a l : ℕ) → SwitchOf (1 ∷ 2 ∷ 26 ∷ 3 ∷ 4 ∷ 20 ∷ []) (switchAnswer s a l)
+  pub neighbour-of : (s : Shape) (a l v : ℕ) → NumberOf (1 ∷ 2 ∷ 26 ∷ 3 ∷ 4 ∷ 20 ∷ 21 ∷ []) (neighbourAnswer s a l v)
+  pub level-between : (s : Shape) (a b : ℕ) → BetweenOf (1 ∷ 2 ∷ 26 ∷ 3 ∷ 4 ∷ []) (betweenAnswer s a b)
+  pub switches-of : (s : Shape) (l : ℕ) → NumberOf (1 ∷ 2 ∷ 26 ∷ 3 ∷ 20 ∷ []) (switchesAnswer s l)
+  pub server-at : (s : Shape) (l w v : ℕ) → NumberOf (1 ∷ 2 ∷ 26 ∷ 3 ∷ 20 ∷ 21 ∷ []) (serverAtAnswer s l w v)
   -- links
-  pub table-refusal : (s : Shape) (t : List ℕ) → OneOf (1 ∷ 2 ∷ 3 ∷ 6 ∷ []) (roomTableRefusal s t)
-  pub room-refusal : (s : Shape) (t : List ℕ) (a d : ℕ) → OneOf (1 ∷ 2 ∷ 3 ∷ 4 ∷ 5 ∷ 6 ∷ []) (roomRefusal s t a d)
-  pub failed-link : (s : Shape) (t : List ℕ) (a l : ℕ) → AskedOf (1 ∷ 2 ∷ 3 ∷ 4 ∷ 20 ∷ 6 ∷ []) (failedAnswer s t a l)
-  pub mark-or-clear : (s : Shape) (t : List ℕ) (a l : ℕ) → RefusalOf 0 (1 ∷ 2 ∷ 3 ∷ 4 ∷ 20 ∷ 6 ∷ []) (linkAnswer s t a l)
-  pub mark-or-clear-server : (s : Shape) (t : List ℕ) (a : ℕ) → RefusalOf 0 (1 ∷ 2 ∷ 3 ∷ 4 ∷ 6 ∷ []) (serverAnswer s t a)
+  pub table-refusal : (s : Shape) (t : List ℕ) → OneOf (1 ∷ 2 ∷ 26 ∷ 3 ∷ 6 ∷ []) (roomTableRefusal s t)
+  pub room-refusal : (s : Shape) (t : List ℕ) (a d : ℕ) → OneOf (1 ∷ 2 ∷ 26 ∷ 3 ∷ 4 ∷ 5 ∷ 6 ∷ []) (roomRefusal s t a d)
+  pub failed-link : (s : Shape) (t : List ℕ) (a l : ℕ) → AskedOf (1 ∷ 2 ∷ 26 ∷ 3 ∷ 4 ∷ 20 ∷ 6 ∷ []) (failedAnswer s t a l)
+  pub mark-or-clear : (s : Shape) (t : List ℕ) (a l : ℕ) → RefusalOf 0 (1 ∷ 2 ∷ 26 ∷ 3 ∷ 4 ∷ 20 ∷ 6 ∷ []) (linkAnswer s t a l)
+  pub mark-or-clear-server : (s : Shape) (t : List ℕ) (a : ℕ) → RefusalOf 0 (1 ∷ 2 ∷ 26 ∷ 3 ∷ 4 ∷ 6 ∷ []) (serverAnswer s t a)
   -- path
-  pub byte-of : (s : Shape) (l v : ℕ) → NumberOf (1 ∷ 2 ∷ 3 ∷ 20 ∷ 21 ∷ []) (byteAnswer s l v)
-  pub parts-of : (s : Shape) (b : ℕ) → PartsOf (1 ∷ 2 ∷ 3 ∷ 8 ∷ 9 ∷ []) (partsAnswer s b)
-  pub hop-of : (s : Shape) (a b : ℕ) → HopOf (1 ∷ 2 ∷ 3 ∷ 4 ∷ 8 ∷ 9 ∷ 10 ∷ []) (hopAnswer s a b)
-  pub walk : (s : Shape) (t : List ℕ) (a d : ℕ) (bs : List ℕ) → WalkedOf (1 ∷ 2 ∷ 3 ∷ 4 ∷ 5 ∷ 7 ∷ 8 ∷ 9 ∷ 10 ∷ 11 ∷ 12 ∷ 13 ∷ 14 ∷ []) (walkAnswer s t a d bs)
-  pub read-path : (s : Shape) (a d : ℕ) (bs : List ℕ) → ReadingOf (1 ∷ 2 ∷ 3 ∷ 4 ∷ 5 ∷ 7 ∷ 8 ∷ 9 ∷ 10 ∷ 12 ∷ 13 ∷ 14 ∷ []) (readAnswer s a d bs)
-  pub reverse-path : (s : Shape) (a d : ℕ) (bs : List ℕ) → WritingOf (1 ∷ 2 ∷ 3 ∷ 4 ∷ 5 ∷ 7 ∷ 8 ∷ 9 ∷ 10 ∷ 12 ∷ 13 ∷ 14 ∷ []) (reverseAnswer s a d bs)
-  pub write-path : (s : Shape) (vs : List ℕ) → WritingOf (1 ∷ 2 ∷ 3 ∷ 22 ∷ 4 ∷ 5 ∷ 23 ∷ 12 ∷ []) (writeAnswer s vs)
+  pub byte-of : (s : Shape) (l v : ℕ) → NumberOf (1 ∷ 2 ∷ 26 ∷ 3 ∷ 20 ∷ 21 ∷ []) (byteAnswer s l v)
+  pub parts-of : (s : Shape) (b : ℕ) → PartsOf (1 ∷ 2 ∷ 26 ∷ 3 ∷ 8 ∷ 9 ∷ []) (partsAnswer s b)
+  pub hop-of : (s : Shape) (a b : ℕ) → HopOf (1 ∷ 2 ∷ 26 ∷ 3 ∷ 4 ∷ 8 ∷ 9 ∷ 10 ∷ []) (hopAnswer s a b)
+  pub walk : (s : Shape) (t : List ℕ) (a d : ℕ) (bs : List ℕ) → WalkedOf (1 ∷ 2 ∷ 26 ∷ 3 ∷ 4 ∷ 5 ∷ 7 ∷ 8 ∷ 9 ∷ 10 ∷ 11 ∷ 12 ∷ 13 ∷ 14 ∷ []) (walkAnswer s t a d bs)
+  pub read-path : (s : Shape) (a d : ℕ) (bs : List ℕ) → ReadingOf (1 ∷ 2 ∷ 26 ∷ 3 ∷ 4 ∷ 5 ∷ 7 ∷ 8 ∷ 9 ∷ 10 ∷ 12 ∷ 13 ∷ 14 ∷ []) (readAnswer s a d bs)
+  pub reverse-path : (s : Shape) (a d : ℕ) (bs : List ℕ) → WritingOf (1 ∷ 2 ∷ 26 ∷ 3 ∷ 4 ∷ 5 ∷ 7 ∷ 8 ∷ 9 ∷ 10 ∷ 12 ∷ 13 ∷ 14 ∷ []) (reverseAnswer s a d bs)
+  pub write-path : (s : Shape) (vs : List ℕ) → WritingOf (1 ∷ 2 ∷ 26 ∷ 3 ∷ 22 ∷ 4 ∷ 5 ∷ 23 ∷ 12 ∷ []) (writeAnswer s vs)
   -- verdict: the routes are the arrays of the list
   pub check-list : (s : Shape) (t : List ℕ) (a d : ℕ) (bs : List ℕ)
-      → RefusalOf (length bs / 8) (1 ∷ 2 ∷ 3 ∷ 4 ∷ 5 ∷ 6 ∷ 7 ∷ 8 ∷ 9 ∷ 10 ∷ 11 ∷ 12 ∷ 13 ∷ 14 ∷ 15 ∷ []) (checkAnswer s t a d bs)
+      → RefusalOf (length bs / 8) (1 ∷ 2 ∷ 26 ∷ 3 ∷ 4 ∷ 5 ∷ 6 ∷ 7 ∷ 8 ∷ 9 ∷ 10 ∷ 11 ∷ 12 ∷ 13 ∷ 14 ∷ 15 ∷ []) (checkAnswer s t a d bs)
   -- build, laying, finder, select
-  pub build-routes : (s : Shape) (a d : ℕ) → BuildingOf (1 ∷ 2 ∷ 3 ∷ 4 ∷ 5 ∷ []) (buildAnswer s a d)
+  pub build-routes : (s : Shape) (a d : ℕ) → BuildingOf (1 ∷ 2 ∷ 26 ∷ 3 ∷ 4 ∷ 5 ∷ []) (buildAnswer s a d)
   pub lay-route : (s : Shape) (t : List ℕ) (a d : ℕ) (bs : List ℕ) (r : Refusal) (u : List ℕ)
-      → Lays s t a d bs r u → RefusalOf 1 (1 ∷ 2 ∷ 3 ∷ 4 ∷ 5 ∷ 6 ∷ 7 ∷ 8 ∷ 9 ∷ 10 ∷ 12 ∷ 13 ∷ 14 ∷ []) r
-  pub find-route : (s : Shape) (t : List ℕ) (a d : ℕ) (x : Found) → Finding s t a d x → FoundOf (1 ∷ 2 ∷ 3 ∷ 4 ∷ 5 ∷ 6 ∷ []) x
-  pub select-routes : (s : Shape) (t : List ℕ) (a d : ℕ) (x : Selection) → Selecting s t a d x → SelectionOf (1 ∷ 2 ∷ 3 ∷ 4 ∷ 5 ∷ 6 ∷ 16 ∷ []) x
+      → Lays s t a d bs r u → RefusalOf 1 (1 ∷ 2 ∷ 26 ∷ 3 ∷ 4 ∷ 5 ∷ 6 ∷ 7 ∷ 8 ∷ 9 ∷ 10 ∷ 12 ∷ 13 ∷ 14 ∷ []) r
+  pub find-route : (s : Shape) (t : List ℕ) (a d : ℕ) (x : Found) → Finding s t a d x → FoundOf (1 ∷ 2 ∷ 26 ∷ 3 ∷ 4 ∷ 5 ∷ 6 ∷ []) x
+  pub select-routes : (s : Shape) (t : List ℕ) (a d : ℕ) (x : Selection) → Selecting s t a d x → SelectionOf (1 ∷ 2 ∷ 26 ∷ 3 ∷ 4 ∷ 5 ∷ 6 ∷ 16 ∷ []) x
   -- pick: the number through the companion, and on a refusal the part is empty
-  pub pick-refusal : (s : Shape) (t : List ℕ) (a d : ℕ) (fs ks : List ℕ) → RefusalOf 0 (1 ∷ 2 ∷ 3 ∷ 4 ∷ 5 ∷ 6 ∷ 7 ∷ 16 ∷ []) (pickAnswer s t a d fs ks)
-  pub pick-place : (s : Shape) (t : List ℕ) (a d : ℕ) (fs ks : List ℕ) → PlaceOf (1 ∷ 2 ∷ 3 ∷ 4 ∷ 5 ∷ 6 ∷ 7 ∷ 16 ∷ []) (placeAnswer s t a d fs ks)
+  pub pick-refusal : (s : Shape) (t : List ℕ) (a d : ℕ) (fs ks : List ℕ) → RefusalOf 0 (1 ∷ 2 ∷ 26 ∷ 3 ∷ 4 ∷ 5 ∷ 6 ∷ 7 ∷ 16 ∷ []) (pickAnswer s t a d fs ks)
+  pub pick-place : (s : Shape) (t : List ℕ) (a d : ℕ) (fs ks : List ℕ) → PlaceOf (1 ∷ 2 ∷ 26 ∷ 3 ∷ 4 ∷ 5 ∷ 6 ∷ 7 ∷ 16 ∷ []) (placeAnswer s t a d fs ks)
   pub pick-route : (s : Shape) (t : List ℕ) (a d : ℕ) (fs ks : List ℕ) → pickAnswer s t a d fs ks .number ≢ 0 → pickedBytes (pickSource s t a d fs ks) fs ks ≡ []
-  pub step-once : (s : Shape) (a d i : ℕ) (bs e : List ℕ) → StepOf (1 ∷ 2 ∷ 3 ∷ 4 ∷ 17 ∷ 7 ∷ 18 ∷ 8 ∷ 9 ∷ 10 ∷ 19 ∷ []) (stepAnswer s a d i bs e)
+  pub step-once : (s : Shape) (a d i : ℕ) (bs e : List ℕ) → StepOf (1 ∷ 2 ∷ 26 ∷ 3 ∷ 4 ∷ 17 ∷ 7 ∷ 18 ∷ 8 ∷ 9 ∷ 10 ∷ 19 ∷ []) (stepAnswer s a d i bs e)

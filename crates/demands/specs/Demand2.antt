@@ -94,8 +94,10 @@ pub record TellsLevel (s : Shape) (a b : ℕ) (x : Between) : Type 0 where
 
 -- what each call of the room answers where it refuses nothing
 pub record RoomAnswers : Type 0 where
-  pub servers-of : (s : Shape) → serversAnswer s .refusal .number ≡ 0 → serversAnswer s .value ≡ s .n ^ (s .k + 1)
-  pub bound-of : (s : Shape) (l : ℕ) → boundAnswer s l .refusal .number ≡ 0 → boundAnswer s l .value ≡ s .n
+  pub servers-of : (s : Shape) → serversAnswer s .refusal .number ≡ 0 → serversAnswer s .value ≡ s .m * s .n ^ s .k
+  -- n below level k, and m at k
+  pub bound-of : (s : Shape) (l : ℕ) → boundAnswer s l .refusal .number ≡ 0
+      → (l < s .k → boundAnswer s l .value ≡ s .n) × (l ≡ s .k → boundAnswer s l .value ≡ s .m)
   pub digits-of : (s : Shape) (a : ℕ) → digitsAnswer s a .refusal .number ≡ 0 → FourPlaces s a (digitsAnswer s a .places)
   pub digit-of : (s : Shape) (a l : ℕ) → digitAnswer s a l .refusal .number ≡ 0 → digitAnswer s a l .value ≡ getD (digitsAnswer s a .places) l 0
   pub address-of : (s : Shape) (ds : List ℕ) → addressAnswer s ds .refusal .number ≡ 0 → addressAnswer s ds .value ≡ weighed (s .n) 0 ds
@@ -137,9 +139,9 @@ pub record BuiltArray (s : Shape) (a d i : ℕ) (bs : List ℕ) : Type 0 where
   pub route : Encodes s [] a d bs (builtRoute s i a d)
   -- where the ends differ in digit i, the digits are corrected in the order i, i-1, .. , 0, k, .. , i+1, skipping those already right
   pub direct : digit s i a ≢ digit s i d → bs ≡ filled 8 (corrections s d (wrong s a d (i ∷ (downFrom i ++ above (s .k) i))))
-  -- otherwise digit i is first set to its own value + 1 mod n, then in the order i-1, .. , 0, k, .. , i, so that it comes last
+  -- otherwise digit i is first set to its own value + 1 modulo its bound, then in the order i-1, .. , 0, k, .. , i, so that it comes last
   pub detour : digit s i a ≡ digit s i d
-      → bs ≡ filled 8 ((64 * i + (digit s i a + 1) % s .n) ∷ (corrections s d (wrong s a d (downFrom i ++ above (s .k) i)) ++ ((64 * i + digit s i d) ∷ [])))
+      → bs ≡ filled 8 ((64 * i + (digit s i a + 1) % bound s i) ∷ (corrections s d (wrong s a d (downFrom i ++ above (s .k) i)) ++ ((64 * i + digit s i d) ∷ [])))
   -- with h differing digits, h or h + 2 hops, never above k + 2
   pub direct-hops : digit s i a ≢ digit s i d → length (builtRoute s i a d) - 1 ≡ length (differing s a d)
   pub detour-hops : digit s i a ≡ digit s i d → length (builtRoute s i a d) - 1 ≡ length (differing s a d) + 2
@@ -295,8 +297,8 @@ BrokenGivesWay = (s : Shape) (t : List ℕ) (a d : ℕ) (r : Selection) → Sele
 abbrev pub OneSelection : Type 0
 OneSelection = (s : Shape) (t : List ℕ) (a d : ℕ) (q r : Selection) → Selected s t a d q → Selected s t a d r → q .routes ≡ r .routes
 
--- selection says 16 exactly when refusals 1 to 6 do not apply, the ends and the table being the room's, and no route of eight hops or
--- fewer crosses only live links
+-- selection says 16 exactly when refusals 1, 2, 26 and 3 to 6 do not apply, the ends and the table being the room's, and no route of eight
+-- hops or fewer crosses only live links
 abbrev pub NoRouteExactly : Type 0
 NoRouteExactly =
     (s : Shape) (t : List ℕ) (a d : ℕ) (r : Selection) →
@@ -329,8 +331,8 @@ PicksFirst =
     pickAnswer s t a d fs ks .number ≡ 0 →
     ((i : ℕ) × PicksAt s t a d fs ks 1 fs (λ p q. p) i) ⊎ (NoneTaken s t a d fs × ((i : ℕ) × PicksAt s t a d fs ks 2 ks (λ p q. q) i))
 
--- picking says 16 exactly when refusals 1 to 7 do not apply, the ends and the table being the room's and both lists whole arrays, at most
--- k + 1, and no array of either list is usable
+-- picking says 16 exactly when refusals 1, 2, 26 and 3 to 7 do not apply, the ends and the table being the room's and both lists whole
+-- arrays, at most k + 1, and no array of either list is usable
 abbrev pub NonePickedExactly : Type 0
 NonePickedExactly =
     (s : Shape) (t : List ℕ) (a d : ℕ) (fs ks : List ℕ) →

@@ -68,5 +68,7 @@ pub record DeskPrints : Type 0 where
   -- or by the number that building refuses with
   pub refused : (input : List ℕ) (n k a d : ℕ) → Asks input n k a d → (let x = buildAnswer (fullRoom n k) a d in
       x .refusal .number ≢ 0 → deskText input ≡ refusedLine (x .refusal .number))
+  -- which is never 26: the desk's rooms are full
+  pub never-26 : (input : List ℕ) → deskText input ≢ refusedLine 26
   -- every other input by "input"
   pub otherwise : (input : List ℕ) → ((n k a d : ℕ) → Asks input n k a d → ⊥) → deskText input ≡ inputLine

@@ -2,7 +2,7 @@
 -- link changed with no test, and what a path byte names.
 use Prim.Native.Nat.{ℕ, _+_, _*_, _/_, _%_, _^_, _≤_, _<_}
 use mathlib.Core.Path.{_≡_}
-use mathlib.Core.Logic.{_⊎_}
+use mathlib.Core.Logic.{_≢_, _⊎_}
 use mathlib.Core.Bool.{Bool}
 use mathlib.Core.List.{List}
 use lib.ListN.{length}
@@ -10,7 +10,7 @@ use Rattle.refusals.specs.declared.Refusal.{Refusal}
 use Rattle.refusals.specs.Refusals.{ofRoute}
 use Rattle.room.specs.declared.Shape.{Shape}
 use Rattle.room.specs.declared.Side.{Side}
-use Rattle.room.specs.Shapes.{bound, powerOf, serverCount, Link}
+use Rattle.room.specs.Shapes.{serversOf, bound, powerOf, serverCount, Link}
 use Rattle.room.specs.Sides.{sideOf}
 use Rattle.links.specs.Table.{failed, changedIn}
 use Rattle.path.specs.Routes.{levelOf, valueOf}
@@ -26,10 +26,10 @@ pub record OfRoute (r : Refusal) (i : ℕ) (q : Refusal) : Type 0 where
   pub route : q .route ≡ i
   pub hop : q .hop ≡ r .hop
 
--- the n servers at the switch of server a at level l, by the value that they have there
+-- the servers at the switch of server a at level l, as many as digit l has values, by the value that they have there
 pub record ServersAt (s : Shape) (a l : ℕ) (x : Side) : Type 0 where
-  pub count : x .count ≡ s .n
-  pub each : (v : ℕ) → v < s .n → Sets s a l v (x .first + v * x .stride)
+  pub count : x .count ≡ bound s l
+  pub each : (v : ℕ) → v < bound s l → Sets s a l v (x .first + v * x .stride)
 
 -- table u is table t with the link of server a at level l failed, or not, and no other link changed
 pub record OneLink (b : Bool) (a l : ℕ) (t u : List ℕ) : Type 0 where
@@ -41,9 +41,10 @@ pub record EveryHelper : Type 0 where
   pub of-route : (r : Refusal) (i : ℕ) → OfRoute r i (ofRoute i r)
   pub power : (n l : ℕ) → 1 ≤ n → n ≤ 64 → l ≤ 3 → powerOf n l ≡ n ^ l
   pub no-power : (n l : ℕ) → NoPower n l → powerOf n l ≡ 0
-  pub server-count : (s : Shape) → 1 ≤ s .n → s .n ≤ 64 → s .k ≤ 3 → serverCount s ≡ s .n ^ (s .k + 1)
-  pub no-server-count : (s : Shape) → NoPower (s .n) (s .k) → serverCount s ≡ 0
-  pub digit-bound : (s : Shape) (l : ℕ) → bound s l ≡ s .n
+  pub server-count : (s : Shape) → 1 ≤ s .n → s .n ≤ 64 → s .k ≤ 3 → s .m ≤ s .n → serverCount s ≡ s .m * s .n ^ s .k
+  pub no-server-count : (s : Shape) → NoPower (s .n) (s .k) ⊎ (s .n < s .m) → serverCount s ≡ 0
+  pub servers : (s : Shape) → serversOf s ≡ s .m * s .n ^ s .k
+  pub digit-bound : (s : Shape) (l : ℕ) → (l ≢ s .k → bound s l ≡ s .n) × (l ≡ s .k → bound s l ≡ s .m)
   pub side-of : (s : Shape) (a l : ℕ) → Link s a l → ServersAt s a l (sideOf s a l)
   pub no-side : (s : Shape) (a l : ℕ) → NoPower (s .n) l → sideOf s a l ≡ record { first = 0; stride = 0; count = 0 }
   -- marking, and clearing; past the table's end and above level 7 nothing changes

@@ -4,6 +4,7 @@ pub mod Refusals
 pub mod Buffers
 pub mod Demand2
 pub mod Demand3
+pub mod FullRooms
 pub mod Desk
 pub mod ProvedTable
 pub mod TieRows

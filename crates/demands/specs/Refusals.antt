@@ -38,7 +38,7 @@ use Rattle.demands.specs.Tests.{Tests, _then_, Refused, Number, Whole, E
 -- ---- shapes, servers, links, values, digits
 
 abbrev pub shapeTests : Shape → Tests
-shapeTests s = (1, (2 ≤ s .n) × (s .n ≤ 64)) ∷ (2, s .k ≤ 3) ∷ (3, serversOf s ≤ 4096) ∷ []
+shapeTests s = (1, (2 ≤ s .n) × (s .n ≤ 64)) ∷ (2, s .k ≤ 3) ∷ (26, (2 ≤ s .m) × (s .m ≤ s .n)) ∷ (3, serversOf s ≤ 4096) ∷ []
 
 abbrev pub levelTests : Shape → ℕ → Tests
 levelTests s l = shapeTests s then (20, l ≤ s .k)
@@ -308,6 +308,9 @@ pub record RefusedExactly : Type 0 where
 
 -- what lines of `RefusedExactly` say of a number, by `ChainMeans`
 pub record SpelledOut : Type 0 where
+  -- a shape is refused with 26 exactly when n and k are as they must be, and m is not, however many servers it would give
+  pub twenty-six : (s : Shape)
+      → (shapeRefusal s ≡ 26) ↔ (Hold ((1, (2 ≤ s .n) × (s .n ≤ 64)) ∷ (2, s .k ≤ 3) ∷ []) × ((2 ≤ s .m) × (s .m ≤ s .n) → ⊥))
   -- a check says 7 exactly when the tests of the room hold and the length of the list is not as it must be
   pub seven : (s : Shape) (t : List ℕ) (a d : ℕ) (bs : List ℕ)
       → (checkAnswer s t a d bs ≡ plain 7) ↔ (Hold (roomTests s t a d) × ((Arrays s bs × (1 ≤ length bs)) → ⊥))

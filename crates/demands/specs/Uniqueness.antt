@@ -16,6 +16,8 @@ use Rattle.refusals.proofs.Refusal.at.Reads as refusal-at-reads
 use Rattle.refusals.proofs.Refusal.at.Kinds as refusal-at-kinds
 use Rattle.refusals.proofs.Refusal.of_route.Reads as refusal-of-route-reads
 use Rattle.refusals.proofs.Refusal.of_route.Kinds as refusal-of-route-kinds
+use Rattle.room.proofs.Shape.new.Reads as shape-new-reads
+use Rattle.room.proofs.Shape.new.Kinds as shape-new-kinds
 use Rattle.room.proofs.Shape.full.Reads as shape-full-reads
 use Rattle.room.proofs.Shape.full.Kinds as shape-full-kinds
 use Rattle.room.proofs.shape_refusal.Reads as shape-refusal-reads
@@ -138,6 +140,8 @@ use Rattle.driver.proofs.bcube_path_byte_parts.Reads as c-path-byte-parts-reads
 use Rattle.driver.proofs.bcube_path_byte_parts.Kinds as c-path-byte-parts-kinds
 use Rattle.driver.proofs.bcube_room_of.Reads as c-room-of-reads
 use Rattle.driver.proofs.bcube_room_of.Kinds as c-room-of-kinds
+use Rattle.driver.proofs.bcube_filled_room.Reads as c-filled-room-reads
+use Rattle.driver.proofs.bcube_filled_room.Kinds as c-filled-room-kinds
 use Rattle.driver.proofs.bcube_shape.Reads as c-shape-reads
 use Rattle.driver.proofs.bcube_shape.Kinds as c-shape-kinds
 use Rattle.driver.proofs.bcube_servers.Reads as c-servers-reads
@@ -188,6 +192,7 @@ Takes n ps pre = (κs : Lfts n) (a : Dens κs ps) → pre κs a
 
 pub record EveryInput : Type 0 where
   -- room
+  pub shape-new : Takes 0 shape-new-kinds.ps shape-new-reads.Pre
   pub shape-full : Takes 0 shape-full-kinds.ps shape-full-reads.Pre
   pub refusal-none : Takes 0 refusal-none-kinds.ps refusal-none-reads.Pre
   pub refusal-plain : Takes 0 refusal-plain-kinds.ps refusal-plain-reads.Pre
@@ -264,6 +269,7 @@ pub record EveryInput : Type 0 where
   pub c-path-byte : Takes 0 c-path-byte-kinds.ps c-path-byte-reads.Pre
   pub c-path-byte-parts : Takes 0 c-path-byte-parts-kinds.ps c-path-byte-parts-reads.Pre
   pub c-room-of : Takes 0 c-room-of-kinds.ps c-room-of-reads.Pre
+  pub c-filled-room : Takes 0 c-filled-room-kinds.ps c-filled-room-reads.Pre
   pub c-shape : Takes 0 c-shape-kinds.ps c-shape-reads.Pre
   pub c-servers : Takes 0 c-servers-kinds.ps c-servers-reads.Pre
   pub c-bound : Takes 0 c-bound-kinds.ps c-bound-reads.Pre
@@ -290,6 +296,7 @@ pub record EveryInput : Type 0 where
 
 pub record Uniqueness : Type 0 where
   -- room
+  pub shape-new : Determined 0 shape-new-kinds.ps shape-new-kinds.r shape-new-reads.Post
   pub shape-full : Determined 0 shape-full-kinds.ps shape-full-kinds.r shape-full-reads.Post
   pub refusal-none : Determined 0 refusal-none-kinds.ps refusal-none-kinds.r refusal-none-reads.Post
   pub refusal-plain : Determined 0 refusal-plain-kinds.ps refusal-plain-kinds.r refusal-plain-reads.Post
@@ -381,6 +388,7 @@ pub record Uniqueness : Type 0 where
   pub c-path-byte : Determined 0 c-path-byte-kinds.ps c-path-byte-kinds.r c-path-byte-reads.Post
   pub c-path-byte-parts : Determined 0 c-path-byte-parts-kinds.ps c-path-byte-parts-kinds.r c-path-byte-parts-reads.Post
   pub c-room-of : Determined 0 c-room-of-kinds.ps c-room-of-kinds.r c-room-of-reads.Post
+  pub c-filled-room : Determined 0 c-filled-room-kinds.ps c-filled-room-kinds.r c-filled-room-reads.Post
   pub c-shape : Determined 0 c-shape-kinds.ps c-shape-kinds.r c-shape-reads.Post
   pub c-servers : Determined 0 c-servers-kinds.ps c-servers-kinds.r c-servers-reads.Post
   pub c-bound : Determined 0 c-bound-kinds.ps c-bound-kinds.r c-bound-reads.Post

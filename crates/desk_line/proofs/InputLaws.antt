@@ -1,6 +1,7 @@
--- What of an input is printed for: its first line alone, its first 65 bytes alone, and at most 76 bytes.
+-- What of an input is printed for: its first line alone, its first 65 bytes alone, and at most 76 bytes; and never 26.
 use Prim.Native.Nat.{ℕ, zero, suc, _+_, _*_, _≤_, _<_}
 use mathlib.Core.Path.{_≡_, refl, sym, ap, ap₂, _∙_}
+use mathlib.Core.Logic.{_≢_}
 use mathlib.Core.Bool.{Bool, true, false, cond}
 use mathlib.Core.List.{List, [], _∷_, _++_}
 use native.Mathlib.Omega.{arith}
@@ -17,7 +18,7 @@ use Rattle.build.specs.Sets.{joined}
 use Rattle.desk_line.specs.declared.Question.{Question}
 use Rattle.desk_line.specs.Lines.{newline, before, lineSize}
 use Rattle.desk_line.specs.Numbers.{parse, noQuestion, questionOf}
-use Rattle.desk_line.specs.Texts.{decimal, inputLine, refusedLine}
+use Rattle.desk_line.specs.Texts.{decimalIn, decimal, inputLine, refusedLine}
 use Rattle.desk_line.specs.Answers.{slotLine, routesText, builtText, deskText}
 use Rattle.desk_line.proofs.LineLaws.{before-stop, before-more, size-stop, size-on}
 use Rattle.desk_line.proofs.TextLaws.{decimal-small}
@@ -102,21 +103,36 @@ lines-short s a d zero h = refl
 lines-short s a d (suc m) h =
     length-append (slotLine s a d m) (linesBelow s a d m) ∙ omega (arith, h m (omega arith), lines-short s a d m (λ i p. h i (omega arith)))
 
-built-by : (s : Shape) (a d r : ℕ) → endsRefusal s a d ≡ r → length (answer r refusedLine (routesText s a d)) ≤ 76
-unfolding routesText
-built-by s a d zero e =
-    let p = ends-of s a d e in
-    omega (arith, lines-short s a d (suc (s .k)) (λ i h. slot-long p i (omega arith)), p .source .valid .levels)
-built-by s a d (suc r) e = omega (arith, refused-short (suc r) (omega (arith, ends-le s a d)))
+-- "input" is 6 bytes, a refusal of one digit 10, and a line 19; so 11, which a refusal of two digits would be, is none
+Printed : List ℕ → Type 0
+Printed xs = (length xs ≤ 76) × (length xs ≢ 11)
 
-asked-by : (b : Bool) (s : Shape) (a d : ℕ) → length (cond b (builtText s a d) inputLine) ≤ 76
-unfolding builtText
-asked-by true s a d = built-by s a d (endsRefusal s a d) refl
-asked-by false s a d = omega arith
+built-by : (s : Shape) (a d r : ℕ) → s .m ≡ s .n → endsRefusal s a d ≡ r → Printed (answer r refusedLine (routesText s a d))
+unfolding routesText Printed
+built-by s a d zero f e =
+    let p = ends-of s a d e in
+    let n = lines-short s a d (suc (s .k)) (λ i h. slot-long p i (omega arith)) in
+    (omega (arith, n, p .source .valid .levels), λ q. omega (arith, n))
+built-by s a d (suc r) f e =
+    let n = refused-short (suc r) (omega (arith, ends-le s a d f)) in (omega arith, λ q. omega arith)
+
+asked-by : (b : Bool) (s : Shape) (a d : ℕ) → s .m ≡ s .n → Printed (cond b (builtText s a d) inputLine)
+unfolding builtText Printed
+asked-by true s a d f = built-by s a d (endsRefusal s a d) f refl
+asked-by false s a d f = (omega arith, λ q. omega arith)
+
+printed : (input : List ℕ) → Printed (deskText input)
+unfolding deskText
+printed input =
+    let q = questionOf input in
+    asked-by (q .taken) (fullRoom (q .n) (q .k)) (q .source) (q .destination) refl
 
 -- four lines of 19 bytes at most
 pub desk-short : (input : List ℕ) → length (deskText input) ≤ 76
-unfolding deskText
-desk-short input =
-    let q = questionOf input in
-    asked-by (q .taken) (fullRoom (q .n) (q .k)) (q .source) (q .destination)
+unfolding Printed
+desk-short input = printed input .0
+
+-- the desk's rooms are full
+pub desk-never-26 : (input : List ℕ) → deskText input ≢ refusedLine 26
+unfolding Printed refusedLine decimal decimalIn
+desk-never-26 input e = printed input .1 (ap length e)

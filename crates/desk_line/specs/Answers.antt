@@ -21,7 +21,7 @@ slotLine s a d i = routeLine (builtBytes s i a d) (length (builtHops s i a d))
 unfoldable pub routesText : Shape → ℕ → ℕ → List ℕ
 routesText s a d = joined (map (λ i. slotLine s a d i) (downFrom (suc (s .k))))
 
--- the refusal of building, 1 to 5, or the built routes
+-- the refusal of building, which in a full room is one of 1 to 5, or the built routes
 unfoldable pub builtText : Shape → ℕ → ℕ → List ℕ
 builtText s a d = answer (endsRefusal s a d) refusedLine (routesText s a d)
 

@@ -22,9 +22,9 @@ use Rattle.room.specs.Answers.{noDigits, someDigits, noSwitch, aSwitch, noBetwe
 use Rattle.room.specs.Wiring.{serverAt, portRefusal, switchesAnswer, serverAtAnswer}
 use Rattle.room.proofs.RefusalLaws.{valid-of, level-of, pair-of, link-of, value-of, places-of}
 use Rattle.room.proofs.NumberLaws.{shape-numbers, level-numbers, server-numbers, pair-numbers, link-numbers, value-numbers, places-numbers, port-numbers}
-use Rattle.room.proofs.DigitLaws.{pow-small}
 use Rattle.room.proofs.FourPlaces.{sums}
-use Rattle.room.proofs.RoomLaws.{bound-le, digit-lt, with-server, switches-power, switch-lt, neighbours-exactly, places-below}
+use Rattle.room.proofs.RoomLaws as rooms
+use Rattle.room.proofs.RoomLaws.{bound-le, digit-lt, with-server, neighbours-exactly, places-below}
 use Rattle.room.proofs.WiringLaws.{port-of, port-server}
 use Rattle.links.specs.declared.Asked.{Asked}
 use Rattle.links.specs.Table.{failed, tableLinkRefusal}
@@ -63,9 +63,7 @@ pub switches-small : (s : Shape) (l : ℕ) → Small (switchesAnswer s l .refusa
 unfolding switchesAnswer
 switches-small s l =
     number-small (levelRefusal s l) (switchesAt s l) (one-le 255 refl (level-numbers s l))
-    (λ z.
-    let v = level-of s l z .0 in
-    omega (arith, switches-power v l, pow-small (s .n) (s .k) (v .ports) (omega (arith, v .levels))))
+    (λ z. omega (arith, rooms.switches-small (level-of s l z .0) l))
 
 pub server-at-small : (s : Shape) (l w v : ℕ) → Small (serverAtAnswer s l w v .refusal) (serverAtAnswer s l w v .value)
 unfolding serverAtAnswer
@@ -99,9 +97,7 @@ neighbour-small s a l v =
 -- ---- switches
 
 switch-lt-word : {s : Shape} {a l : ℕ} → Link s a l → switchOf s l a < 4294967296
-switch-lt-word {s} {a} {l} h =
-    let v = h .server .valid in
-    omega (arith, switch-lt h, switches-power v l, pow-small (s .n) (s .k) (v .ports) (omega (arith, v .levels)))
+switch-lt-word h = omega (arith, rooms.switch-small h)
 
 switch-part : (r l w : ℕ) → r ≤ 255 → (r ≡ 0 → w < 4294967296) → Small (answer r noSwitch (aSwitch l w) .refusal) (answer r noSwitch (aSwitch l w) .number)
 switch-part zero l w h f = none-small w (f refl)

@@ -74,11 +74,16 @@ use Rattle.driver.proofs.steps.bcube_step.Reads as bcube-step
 use Rattle.driver.proofs.steps.bcube_step.Kinds as bcube-step-kinds
 use Rattle.driver.proofs.shapes.bcube_room_of.Reads as bcube-room-of
 use Rattle.driver.proofs.shapes.bcube_room_of.Kinds as bcube-room-of-kinds
+use Rattle.driver.proofs.shapes.bcube_filled_room.Reads as bcube-filled-room
+use Rattle.driver.proofs.shapes.bcube_filled_room.Kinds as bcube-filled-room-kinds
 
 -- ---- rooms and failed links
 
 pub bcube-room-of-unique : Determined 0 bcube-room-of-kinds.ps bcube-room-of-kinds.r bcube-room-of.Post
 bcube-room-of-unique κs a x y s t e f = e ∙ sym f
+
+pub bcube-filled-room-unique : Determined 0 bcube-filled-room-kinds.ps bcube-filled-room-kinds.r bcube-filled-room.Post
+bcube-filled-room-unique κs a x y s t e f = e ∙ sym f
 
 pub bcube-version-unique : Determined 0 bcube-version-kinds.ps bcube-version-kinds.r bcube-version.Post
 bcube-version-unique κs a x y s t e f = e ∙ sym f

@@ -45,11 +45,13 @@ pub use rooms::bcube_switches;
 pub use routes::bcube_build;
 pub use routes::bcube_find;
 pub use routes::bcube_select;
+pub use shapes::bcube_filled_room;
 pub use shapes::bcube_room_of;
 pub use shapes::bcube_version;
 pub use steps::bcube_step;
 
-// A room, as the driver holds it: n plus 256 times k. Whatever the number, a call takes it.
+// A room, as the driver holds it: n plus 256 times k plus 65,536 times m. Whatever the number, a call
+// takes it.
 #[repr(C)]
 pub struct Room {
     pub number: u64,

@@ -9,7 +9,7 @@ use crate::Room;
 use crate::shapes::shape_in;
 use crate::words::result_word;
 
-// 1 where the link of a server at a level is failed, else 0. Refusals 1, 2, 3, 4, 20, 6.
+// 1 where the link of a server at a level is failed, else 0. Refusals 1, 2, 26, 3, 4, 20, 6.
 #[no_mangle]
 pub extern "C" fn bcube_failed_link(room: Room, server: usize, level: usize, table: &[u8]) -> Answer
     ensures { λ r. ⌜ r ≡ askedWord (failedAnswer (shapeIn room) (now (table .entry)) server level) ⌝ }
@@ -22,7 +22,7 @@ pub extern "C" fn bcube_failed_link(room: Room, server: usize, level: usize, tab
     result_word(answer.refusal, 0)
 }
 
-// Marks the link of a server at a level as failed. Refusals 1, 2, 3, 4, 20, 6; the value is 0.
+// Marks the link of a server at a level as failed. Refusals 1, 2, 26, 3, 4, 20, 6; the value is 0.
 #[no_mangle]
 pub extern "C" fn bcube_mark_link(
     room: Room,
@@ -37,7 +37,7 @@ pub extern "C" fn bcube_mark_link(
     result_word(refusal, 0)
 }
 
-// Clears the link of a server at a level. Refusals 1, 2, 3, 4, 20, 6; the value is 0.
+// Clears the link of a server at a level. Refusals 1, 2, 26, 3, 4, 20, 6; the value is 0.
 #[no_mangle]
 pub extern "C" fn bcube_clear_link(
     room: Room,
@@ -52,7 +52,7 @@ pub extern "C" fn bcube_clear_link(
     result_word(refusal, 0)
 }
 
-// Marks all links of a server as failed. Refusals 1, 2, 3, 4, 6; the value is 0.
+// Marks all links of a server as failed. Refusals 1, 2, 26, 3, 4, 6; the value is 0.
 #[no_mangle]
 pub extern "C" fn bcube_mark_server(room: Room, server: usize, table: &mut [u8]) -> Answer
     ensures { λ r. ⌜ (r ≡ word (serverAnswer (shapeIn room) (now (table .entry)) server) 0) × (now (table .exit) ≡ markedServer (shapeIn room) (now (table .entry)) server) ⌝ }
@@ -62,7 +62,7 @@ pub extern "C" fn bcube_mark_server(room: Room, server: usize, table: &mut [u8])
     result_word(refusal, 0)
 }
 
-// Clears all links of a server. Refusals 1, 2, 3, 4, 6; the value is 0.
+// Clears all links of a server. Refusals 1, 2, 26, 3, 4, 6; the value is 0.
 #[no_mangle]
 pub extern "C" fn bcube_clear_server(room: Room, server: usize, table: &mut [u8]) -> Answer
     ensures { λ r. ⌜ (r ≡ word (serverAnswer (shapeIn room) (now (table .entry)) server) 0) × (now (table .exit) ≡ clearedServer (shapeIn room) (now (table .entry)) server) ⌝ }

@@ -10,7 +10,7 @@ use crate::Room;
 use crate::shapes::shape_in;
 use crate::words::result_word;
 
-// The path byte of a level and a value. Refusals 1, 2, 3, 20, 21.
+// The path byte of a level and a value. Refusals 1, 2, 26, 3, 20, 21.
 #[no_mangle]
 pub extern "C" fn bcube_path_byte(room: Room, level: usize, value: usize) -> Answer
     ensures { λ r. ⌜ r ≡ numberWord (byteAnswer (shapeIn room) level value) ⌝ }
@@ -20,7 +20,7 @@ pub extern "C" fn bcube_path_byte(room: Room, level: usize, value: usize) -> Ans
 }
 
 // The level and the value of a path byte, in one value: 256 times the level, plus the value.
-// Refusals 1, 2, 3, then 8, 9 at a hop.
+// Refusals 1, 2, 26, 3, then 8, 9 at a hop.
 #[no_mangle]
 pub extern "C" fn bcube_path_byte_parts(room: Room, byte: usize) -> Answer
     ensures { λ r. ⌜ r ≡ partsWord (partsAnswer (shapeIn room) byte) ⌝ }
@@ -30,7 +30,7 @@ pub extern "C" fn bcube_path_byte_parts(room: Room, byte: usize) -> Answer
 }
 
 // The servers that an array meets, source first, into nine places with zeros past them; the value is
-// their count. Refusals 1, 2, 3, 4, 5, 7, then 8, 9, 10, 12, 13, 14 at a hop.
+// their count. Refusals 1, 2, 26, 3, 4, 5, 7, then 8, 9, 10, 12, 13, 14 at a hop.
 #[no_mangle]
 pub extern "C" fn bcube_read(
     room: Room,
@@ -53,7 +53,7 @@ pub extern "C" fn bcube_read(
 }
 
 // The path bytes of servers in turn, source first, into eight bytes with zeros past them.
-// Refusals 1, 2, 3, 22, 4, 5, then 23, 12 at a hop.
+// Refusals 1, 2, 26, 3, 22, 4, 5, then 23, 12 at a hop.
 #[no_mangle]
 pub extern "C" fn bcube_write(room: Room, servers: &[usize], path: &mut [u8; 8]) -> Answer
     ensures { λ r. ⌜ (r ≡ writingWord (writeAnswer (shapeIn room) (now (servers .entry)))) × (now (path .exit) ≡ writingLeft (now (path .entry)) (writeAnswer (shapeIn room) (now (servers .entry)))) ⌝ }
@@ -69,7 +69,7 @@ pub extern "C" fn bcube_write(room: Room, servers: &[usize], path: &mut [u8; 8])
 }
 
 // The path bytes of the route backwards, from the destination, into eight bytes.
-// Refusals 1, 2, 3, 4, 5, 7, then 8, 9, 10, 12, 13, 14 at a hop.
+// Refusals 1, 2, 26, 3, 4, 5, 7, then 8, 9, 10, 12, 13, 14 at a hop.
 #[no_mangle]
 pub extern "C" fn bcube_reverse(
     room: Room,
@@ -92,7 +92,7 @@ pub extern "C" fn bcube_reverse(
 }
 
 // Checks a list of arrays, one after another, as routes from source to destination over the live
-// links of the table. Refusals 1 to 7; 8 to 14 at a route and hop; 15 at a route.
+// links of the table. Refusals 1, 2, 26, 3 to 7; 8 to 14 at a route and hop; 15 at a route.
 #[no_mangle]
 pub extern "C" fn bcube_check(
     room: Room,

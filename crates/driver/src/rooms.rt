@@ -13,7 +13,7 @@ use crate::shapes::shape_in;
 use crate::words::result_word;
 use refusals::Refusal;
 
-// Whether a room can have this shape. Refusals 1, 2, 3; the value is 0.
+// Whether a room can have this shape. Refusals 1, 2, 26, 3; the value is 0.
 #[no_mangle]
 pub extern "C" fn bcube_shape(room: Room) -> Answer
     ensures { λ r. ⌜ r ≡ word (plain (shapeRefusal (shapeIn room))) 0 ⌝ }
@@ -22,7 +22,7 @@ pub extern "C" fn bcube_shape(room: Room) -> Answer
     result_word(Refusal::plain(number), 0)
 }
 
-// The number of servers of a room. Refusals 1, 2, 3.
+// The number of servers of a room. Refusals 1, 2, 26, 3.
 #[no_mangle]
 pub extern "C" fn bcube_servers(room: Room) -> Answer
     ensures { λ r. ⌜ r ≡ numberWord (serversAnswer (shapeIn room)) ⌝ }
@@ -31,7 +31,7 @@ pub extern "C" fn bcube_servers(room: Room) -> Answer
     result_word(answer.refusal, answer.value)
 }
 
-// What the digit of a level is below. Refusals 1, 2, 3, 20.
+// What the digit of a level is below. Refusals 1, 2, 26, 3, 20.
 #[no_mangle]
 pub extern "C" fn bcube_bound(room: Room, level: usize) -> Answer
     ensures { λ r. ⌜ r ≡ numberWord (boundAnswer (shapeIn room) level) ⌝ }
@@ -40,7 +40,7 @@ pub extern "C" fn bcube_bound(room: Room, level: usize) -> Answer
     result_word(answer.refusal, answer.value)
 }
 
-// How many switches a level has. Refusals 1, 2, 3, 20.
+// How many switches a level has. Refusals 1, 2, 26, 3, 20.
 #[no_mangle]
 pub extern "C" fn bcube_switches(room: Room, level: usize) -> Answer
     ensures { λ r. ⌜ r ≡ numberWord (switchesAnswer (shapeIn room) level) ⌝ }
@@ -49,7 +49,7 @@ pub extern "C" fn bcube_switches(room: Room, level: usize) -> Answer
     result_word(answer.refusal, answer.value)
 }
 
-// The digits of a server, digit 0 first and zeros above k. Refusals 1, 2, 3, 4; the value is 0.
+// The digits of a server, digit 0 first and zeros above k. Refusals 1, 2, 26, 3, 4; the value is 0.
 #[no_mangle]
 pub extern "C" fn bcube_digits(room: Room, server: usize, digits: &mut [usize; 4]) -> Answer
     ensures { λ r. ⌜ (r ≡ digitsWord (digitsAnswer (shapeIn room) server)) × (now (digits .exit) ≡ digitsLeft (now (digits .entry)) (digitsAnswer (shapeIn room) server)) ⌝ }
@@ -64,7 +64,7 @@ pub extern "C" fn bcube_digits(room: Room, server: usize, digits: &mut [usize; 4
     result
 }
 
-// The digit of a server at a level. Refusals 1, 2, 3, 4, 20.
+// The digit of a server at a level. Refusals 1, 2, 26, 3, 4, 20.
 #[no_mangle]
 pub extern "C" fn bcube_digit(room: Room, server: usize, level: usize) -> Answer
     ensures { λ r. ⌜ r ≡ numberWord (digitAnswer (shapeIn room) server level) ⌝ }
@@ -74,7 +74,7 @@ pub extern "C" fn bcube_digit(room: Room, server: usize, level: usize) -> Answer
     result_word(answer.refusal, answer.value)
 }
 
-// The server that has these digits, digit 0 first and zeros above k. Refusals 1, 2, 3, 21.
+// The server that has these digits, digit 0 first and zeros above k. Refusals 1, 2, 26, 3, 21.
 #[no_mangle]
 pub extern "C" fn bcube_address(room: Room, d0: usize, d1: usize, d2: usize, d3: usize) -> Answer
     ensures { λ r. ⌜ r ≡ numberWord (addressAnswer (shapeIn room) (d0 ∷ d1 ∷ d2 ∷ d3 ∷ [])) ⌝ }
@@ -84,7 +84,7 @@ pub extern "C" fn bcube_address(room: Room, d0: usize, d1: usize, d2: usize, d3:
     result_word(answer.refusal, answer.value)
 }
 
-// The number of the switch of a server at a level. Refusals 1, 2, 3, 4, 20.
+// The number of the switch of a server at a level. Refusals 1, 2, 26, 3, 4, 20.
 #[no_mangle]
 pub extern "C" fn bcube_switch(room: Room, server: usize, level: usize) -> Answer
     ensures { λ r. ⌜ r ≡ switchWord (switchAnswer (shapeIn room) server level) ⌝ }
@@ -94,7 +94,7 @@ pub extern "C" fn bcube_switch(room: Room, server: usize, level: usize) -> Answe
     result_word(answer.refusal, answer.number)
 }
 
-// The server at a port of the switch of this number at a level. Refusals 1, 2, 3, 20, 21.
+// The server at a port of the switch of this number at a level. Refusals 1, 2, 26, 3, 20, 21.
 #[no_mangle]
 pub extern "C" fn bcube_server_at(room: Room, level: usize, number: usize, port: usize) -> Answer
     ensures { λ r. ⌜ r ≡ numberWord (serverAtAnswer (shapeIn room) level number port) ⌝ }
@@ -103,7 +103,7 @@ pub extern "C" fn bcube_server_at(room: Room, level: usize, number: usize, port:
     result_word(answer.refusal, answer.value)
 }
 
-// The neighbour of a server at a level that has the value there. Refusals 1, 2, 3, 4, 20, 21.
+// The neighbour of a server at a level that has the value there. Refusals 1, 2, 26, 3, 4, 20, 21.
 #[no_mangle]
 pub extern "C" fn bcube_neighbour(room: Room, server: usize, level: usize, value: usize) -> Answer
     ensures { λ r. ⌜ r ≡ numberWord (neighbourAnswer (shapeIn room) server level value) ⌝ }
@@ -114,7 +114,7 @@ pub extern "C" fn bcube_neighbour(room: Room, server: usize, level: usize, value
 }
 
 // The level at which two servers are neighbours, counted from 1, or 0 where they are not.
-// Refusals 1, 2, 3, 4.
+// Refusals 1, 2, 26, 3, 4.
 #[no_mangle]
 pub extern "C" fn bcube_between(room: Room, one: usize, other: usize) -> Answer
     ensures { λ r. ⌜ r ≡ betweenWord (betweenAnswer (shapeIn room) one other) ⌝ }

@@ -10,7 +10,7 @@ use crate::shapes::shape_in;
 use crate::words::result_word;
 
 // The built routes of two servers, slots k down to 0, into 32 bytes with zeros past them; the value is
-// their count. Refusals 1, 2, 3, 4, 5.
+// their count. Refusals 1, 2, 26, 3, 4, 5.
 #[no_mangle]
 pub extern "C" fn bcube_build(
     room: Room,
@@ -31,7 +31,7 @@ pub extern "C" fn bcube_build(
 }
 
 // The alternate, the least route over live links, into eight bytes; the value is its hops, 0 with zeros
-// where there is no route. Refusals 1, 2, 3, 4, 5, 6.
+// where there is no route. Refusals 1, 2, 26, 3, 4, 5, 6.
 #[no_mangle]
 pub extern "C" fn bcube_find(
     room: Room,
@@ -52,7 +52,7 @@ pub extern "C" fn bcube_find(
 }
 
 // The routes selected around failed links, in slot order, into 32 bytes with zeros past them; the value
-// is their count. Refusals 1, 2, 3, 4, 5, 6, 16.
+// is their count. Refusals 1, 2, 26, 3, 4, 5, 6, 16.
 #[no_mangle]
 pub extern "C" fn bcube_select(
     room: Room,

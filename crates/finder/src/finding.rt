@@ -7,7 +7,7 @@ use links::room_refusal;
 use room::Shape;
 
 // The alternate: the least route of at most eight hops over the live links of the table, or no hops
-// where there is no route. Refusals 1, 2, 3, 4, 5, 6.
+// where there is no route. Refusals 1, 2, 26, 3, 4, 5, 6.
 pub fn find_route(shape: Shape, table: &[u8], source: usize, destination: usize) -> Found
     ensures { λ r. ⌜ Finding shape (now (table .entry)) source destination r ⌝ }
 {

@@ -11,7 +11,7 @@ use Rattle.path.specs.Routes.{Encodes}
 use Rattle.path.specs.Answers.{readAnswer}
 use Rattle.laying.specs.Laid.{Laid}
 
--- 1 to 3, 4, 5, 6, then what reading the array refuses
+-- 1, 2, 26, 3, 4, 5, 6, then what reading the array refuses
 unfoldable pub layRefusal : Shape → List ℕ → ℕ → ℕ → List ℕ → Refusal
 layRefusal s t a d bs = answer (roomRefusal s t a d) plain (readAnswer s a d bs .refusal)
 

@@ -8,7 +8,7 @@ use Rattle.room.specs.declared.Shape.{Shape}
 use Rattle.room.specs.Refusals.{serverRefusal, serverNumbers}
 use Rattle.links.specs.Table.{tableRefusal, tableNumbers}
 
--- 1 to 3, 4, 6
+-- 1, 2, 26, 3, 4, 6
 unfoldable pub tableServerRefusal : Shape → List ℕ → ℕ → ℕ
 tableServerRefusal s t a = serverRefusal s a or-else tableRefusal s t
 

@@ -11,7 +11,7 @@ use refusals::Refusal;
 use room::Shape;
 use room::link_refusal;
 
-// The first of 1, 2, 3, 4, 20, 6 that refuses a link of a table, or 0.
+// The first of 1, 2, 26, 3, 4, 20, 6 that refuses a link of a table, or 0.
 fn table_link_refusal(shape: Shape, table: &[u8], server: usize, level: usize) -> usize
     ensures { λ r. ⌜ r ≡ tableLinkRefusal shape (now (table .entry)) server level ⌝ }
 {
@@ -22,7 +22,7 @@ fn table_link_refusal(shape: Shape, table: &[u8], server: usize, level: usize) -
     own_refusal(shape, table)
 }
 
-// Whether the link of a server at a level is failed. Refusals 1, 2, 3, 4, 20, 6.
+// Whether the link of a server at a level is failed. Refusals 1, 2, 26, 3, 4, 20, 6.
 pub fn failed_link(shape: Shape, table: &[u8], server: usize, level: usize) -> Asked
     ensures { λ r. ⌜ r ≡ failedAnswer shape (now (table .entry)) server level ⌝ }
 {
@@ -40,7 +40,7 @@ pub fn failed_link(shape: Shape, table: &[u8], server: usize, level: usize) -> A
 }
 
 // Marks the link of a server at a level as failed; where it is marked already nothing changes.
-// Refusals 1, 2, 3, 4, 20, 6; the table then keeps its bytes.
+// Refusals 1, 2, 26, 3, 4, 20, 6; the table then keeps its bytes.
 pub fn mark_link(shape: Shape, table: &mut [u8], server: usize, level: usize) -> Refusal
     ensures { λ r. ⌜ (r ≡ linkAnswer shape (now (table .entry)) server level) × (now (table .exit) ≡ markedTable shape (now (table .entry)) server level) ⌝ }
 {
@@ -53,7 +53,7 @@ pub fn mark_link(shape: Shape, table: &mut [u8], server: usize, level: usize) ->
 }
 
 // Clears the link of a server at a level; where it is not marked nothing changes.
-// Refusals 1, 2, 3, 4, 20, 6; the table then keeps its bytes.
+// Refusals 1, 2, 26, 3, 4, 20, 6; the table then keeps its bytes.
 pub fn clear_link(shape: Shape, table: &mut [u8], server: usize, level: usize) -> Refusal
     ensures { λ r. ⌜ (r ≡ linkAnswer shape (now (table .entry)) server level) × (now (table .exit) ≡ clearedTable shape (now (table .entry)) server level) ⌝ }
 {

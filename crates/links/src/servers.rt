@@ -7,7 +7,7 @@ use refusals::Refusal;
 use room::Shape;
 use room::server_refusal;
 
-// The first of 1, 2, 3, 4, 6 that refuses a server of a table, or 0.
+// The first of 1, 2, 26, 3, 4, 6 that refuses a server of a table, or 0.
 fn table_server_refusal(shape: Shape, table: &[u8], server: usize) -> usize
     ensures { λ r. ⌜ r ≡ tableServerRefusal shape (now (table .entry)) server ⌝ }
 {
@@ -18,7 +18,7 @@ fn table_server_refusal(shape: Shape, table: &[u8], server: usize) -> usize
     own_refusal(shape, table)
 }
 
-// Marks all links of a server as failed: the server is dead. Refusals 1, 2, 3, 4, 6; the table then keeps its
+// Marks all links of a server as failed: the server is dead. Refusals 1, 2, 26, 3, 4, 6; the table then keeps its
 // bytes.
 pub fn mark_server(shape: Shape, table: &mut [u8], server: usize) -> Refusal
     ensures { λ r. ⌜ (r ≡ serverAnswer shape (now (table .entry)) server) × (now (table .exit) ≡ markedServer shape (now (table .entry)) server) ⌝ }
@@ -31,7 +31,7 @@ pub fn mark_server(shape: Shape, table: &mut [u8], server: usize) -> Refusal
     Refusal::none()
 }
 
-// Clears all links of a server. Refusals 1, 2, 3, 4, 6; the table then keeps its bytes.
+// Clears all links of a server. Refusals 1, 2, 26, 3, 4, 6; the table then keeps its bytes.
 pub fn clear_server(shape: Shape, table: &mut [u8], server: usize) -> Refusal
     ensures { λ r. ⌜ (r ≡ serverAnswer shape (now (table .entry)) server) × (now (table .exit) ≡ clearedServer shape (now (table .entry)) server) ⌝ }
 {

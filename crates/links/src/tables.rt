@@ -66,7 +66,7 @@ pub(crate) fn own_refusal(shape: Shape, table: &[u8]) -> usize
     Refusal::TABLE
 }
 
-// The first of 1, 2, 3, 6 that refuses a table of a room, or 0.
+// The first of 1, 2, 26, 3, 6 that refuses a table of a room, or 0.
 pub fn table_refusal(shape: Shape, table: &[u8]) -> usize
     ensures { λ r. ⌜ r ≡ roomTableRefusal shape (now (table .entry)) ⌝ }
 {
@@ -77,7 +77,7 @@ pub fn table_refusal(shape: Shape, table: &[u8]) -> usize
     own_refusal(shape, table)
 }
 
-// The first of 1, 2, 3, 4, 5, 6 that refuses a room with its ends and its table, or 0.
+// The first of 1, 2, 26, 3, 4, 5, 6 that refuses a room with its ends and its table, or 0.
 pub fn room_refusal(shape: Shape, table: &[u8], source: usize, destination: usize) -> usize
     ensures { λ r. ⌜ r ≡ roomRefusal shape (now (table .entry)) source destination ⌝ }
 {

@@ -1,22 +1,25 @@
 -- Laws of one path byte: what the programs find, and that making a byte and taking it apart undo each other.
-use Prim.Native.Nat.{ℕ, zero, suc, _+_, _*_, _/_, _%_, _≤_, _<_}
+use Prim.Native.Nat.{ℕ, _+_, _*_, _/_, _%_, _≤_, _<_}
 use mathlib.Core.Path.{_≡_, refl, sym, ap, ap₂, _∙_}
 use mathlib.Core.Logic.{_≢_}
+use mathlib.Core.Bool.{Bool, true, false, _&&_}
 use native.Mathlib.Omega.{arith}
 use lib.Dec.{ltb, leb}
+use mir.Syntax.{w64}
+use mir.Val.{Fits}
 use borrow.Author.Tests.{lt-ltb, le-ltb, le-leb, lt-leb, ltb-true, leb-true}
+use Rattle.lists.proofs.ListLaws.{both-held}
 use Rattle.refusals.specs.declared.Refusal.{Refusal}
-use Rattle.refusals.specs.Refusals.{none, plain, refusedAt, _or-else_, _unless_, answer}
+use Rattle.refusals.specs.Refusals.{none, plain, refusedAt, _unless_}
 use Rattle.refusals.proofs.AnswerLaws.{answered, answer-refused, answer-given, answer-none}
 use Rattle.refusals.proofs.ChainLaws.{or-else-zero, chain-stops, chain-goes, test-held}
 use Rattle.room.specs.declared.Shape.{Shape}
 use Rattle.room.specs.declared.Number.{Number}
 use Rattle.room.specs.Shapes.{bound}
 use Rattle.room.specs.Refusals.{shapeRefusal, levelRefusal}
-use Rattle.room.specs.Answers.{noNumber, aNumber, boundAnswer}
+use Rattle.room.specs.Answers.{noNumber, aNumber}
 use Rattle.room.proofs.RefusalLaws.{valid-of, valid-none, level-of, level-none}
 use Rattle.room.proofs.RoomLaws.{bound-le}
-use Rattle.room.proofs.AnswerLaws.{bound-answered}
 use Rattle.path.specs.declared.Parts.{Parts}
 use Rattle.path.specs.Routes.{byteOf, levelOf, valueOf}
 use Rattle.path.specs.Bytes.{madeRefusal, Made, byteAnswer, partsRefusal, noParts, someParts, partsAnswer}
@@ -45,43 +48,53 @@ unfolding partsRefusal
 parts-none {s} b h =
     chain-goes _ _ _ _ (rw (le-leb (levelOf b) (s .k) (h .level))) refl (rw (lt-ltb (valueOf b) (bound s (levelOf b)) (h .value)))
 
--- ---- making a byte, from the bound of its level
+-- ---- making a byte: b is the bound of its level, t what the program found of both tests
 
-module _ (s : Shape) (l v : ℕ) (x : Number) (found : x ≡ boundAnswer s l) where
-  -- the level is refused
-  pub made-refused : x .refusal .number ≢ 0 → _≡_ {A = Number} (record { refusal = x .refusal; value = 0 }) (byteAnswer s l v)
-  unfolding boundAnswer byteAnswer madeRefusal _or-else_
-  made-refused n = go (levelRefusal s l) found
-    where
-      go : (q : ℕ) → x ≡ answer q noNumber (aNumber (bound s l)) → _≡_ {A = Number} (record { refusal = x .refusal; value = 0 }) (answer (q or-else 21 unless ltb v (bound s l)) noNumber (aNumber (byteOf l v)))
-      go zero f = absurd (n (ap (λ (y : Number). y .refusal .number) f))
-      go (suc q) f = ap (λ (y : Number). record { refusal = y .refusal; value = 0 }) f
+module _ (k l v b : ℕ) where
+  pub level-high : k < l → leb l k ≡ (leb l k && ltb v b)
+  level-high h = rw (lt-leb l k h)
 
-  module _ (z : x .refusal .number ≡ 0) where
-    given : (levelRefusal s l ≡ 0) × (x ≡ aNumber (bound s l))
-    unfolding boundAnswer
-    given = answered (λ (y : Number). y .refusal .number) noNumber (λ r. refl) (levelRefusal s l) x (aNumber (bound s l)) found z
+  pub level-fine : l ≤ k → ltb v b ≡ (leb l k && ltb v b)
+  level-fine h = rw (le-leb l k h)
 
-    value-is : x .value ≡ bound s l
-    value-is = ap (λ (y : Number). y .value) (given .1)
+module _ (s : Shape) (l v r : ℕ) (found : r ≡ shapeRefusal s) where
+  pub made-shape : r ≢ 0 → r ≡ madeRefusal s l v
+  unfolding madeRefusal levelRefusal
+  made-shape n = chain-stops r _ _ (chain-stops r _ _ found n) n
 
-    pub made-level : (l ≤ 3) × (x .value ≤ 64)
-    made-level = let h = level-of s l (given .0) in (omega (arith, h .1, h .0 .levels), omega (arith, value-is, bound-le (h .0) l, h .0 .ports))
+  module _ (z : r ≡ 0) where
+    pub made-level : s .k < l → 20 ≡ madeRefusal s l v
+    unfolding madeRefusal levelRefusal
+    made-level h = chain-stops 20 _ _ (chain-goes r _ _ 20 found z (rw (lt-leb l (s .k) h))) (λ q. omega arith)
 
-    -- the value is
-    pub made-high : (r : Refusal) → r ≡ plain 21 → x .value ≤ v → _≡_ {A = Number} (record { refusal = r; value = 0 }) (byteAnswer s l v)
-    unfolding byteAnswer madeRefusal
-    made-high r f h =
-        let t : bound s l ≤ v = omega (arith, value-is) in
-        ap (λ (y : Refusal). record { refusal = y; value = 0 }) f
-        ∙ answer-refused 21 _ noNumber _ _ refl (chain-goes _ _ _ _ (sym (given .0)) refl (rw (le-ltb v (bound s l) t))) (λ e. omega arith)
+    module _ (b : ℕ) (f : b ≡ bound s l) (t : Bool) (g : t ≡ (leb l (s .k) && ltb v b)) where
+      pub made-fits : t ≡ true → 0 ≡ madeRefusal s l v
+      made-fits h =
+          let p = both-held (leb l (s .k)) (ltb v b) (sym g ∙ h) in
+          let below = ltb-true v b (p .1) in
+          made-none (record { valid = valid-of s (sym found ∙ z); level = leb-true l (s .k) (p .0); value = omega arith })
 
-    pub made-given : (r : Refusal) → r ≡ none → v < x .value → _≡_ {A = Number} (record { refusal = r; value = 64 * l + v }) (byteAnswer s l v)
-    unfolding byteAnswer madeRefusal byteOf
-    made-given r f h =
-        let t : v < bound s l = omega (arith, value-is) in
-        ap (λ (y : Refusal). record { refusal = y; value = 64 * l + v }) f
-        ∙ answer-given 0 _ noNumber _ _ (chain-goes _ _ _ _ (sym (given .0)) refl (rw (lt-ltb v (bound s l) t))) refl refl
+      pub made-high : t ≡ false → l ≤ s .k → 21 ≡ madeRefusal s l v
+      unfolding madeRefusal
+      made-high h q =
+          let e : ltb v (bound s l) ≡ false = rw (← f) (level-fine (s .k) l v b q ∙ sym g ∙ h) in
+          chain-goes _ _ _ 21 (level-none (valid-of s (sym found ∙ z)) q) refl (rw e)
+
+module _ (s : Shape) (l v q : ℕ) (found : q ≡ madeRefusal s l v) (r : Refusal) where
+  pub made-refused : q ≢ 0 → r ≡ plain q → _≡_ {A = Number} (record { refusal = r; value = 0 }) (byteAnswer s l v)
+  unfolding byteAnswer
+  made-refused n f = ap (λ (y : Refusal). record { refusal = y; value = 0 }) f ∙ answer-refused q _ noNumber _ _ refl found n
+
+  module _ (z : q ≡ 0) where
+    pub made-given : r ≡ none → _≡_ {A = Number} (record { refusal = r; value = 64 * l + v }) (byteAnswer s l v)
+    unfolding byteAnswer byteOf
+    made-given f = ap (λ (y : Refusal). record { refusal = y; value = 64 * l + v }) f ∙ answer-given q _ noNumber _ _ found z refl
+
+    pub made-small : Fits w64 (64 * l + v)
+    made-small = let h = made-of s l v (sym found ∙ z) in omega (arith, h .level, h .value, bound-le (h .valid) l, h .valid .ports, h .valid .levels)
+
+    pub made-weight : Fits w64 (64 * l)
+    made-weight = omega (arith, made-small)
 
 -- ---- taking it apart
 

@@ -3,7 +3,7 @@
 use Prim.Native.Nat.{ℕ, suc, _+_, _-_, _*_, _/_, _%_, _^_, _≤_, _<_}
 use mathlib.Core.Path.{_≡_, refl, sym, ap, ap₂, _∙_, subst}
 use mathlib.Core.Logic.{_≢_, _↔_}
-use mathlib.Core.Bool.{not}
+use mathlib.Core.Bool.{Bool, true, false, not, _&&_}
 use mathlib.Core.List.{List, [], _∷_}
 use native.Mathlib.Omega.{arith}
 use native.Mathlib.Decide.{ℕ-discrete}
@@ -11,7 +11,8 @@ use lib.ListN.{getD}
 use mir.Syntax.{w64}
 use mir.Val.{Fits}
 use lib.Dec.{ltb, leb, eqb}
-use borrow.Author.Tests.{lt-ltb, le-ltb, le-leb, lt-leb, ltb-true, leb-true, eqb-false, eq-eqb, ne-eqb, not-true}
+use borrow.Author.Tests.{lt-ltb, le-ltb, le-leb, lt-leb, ltb-true, leb-true, eqb-true, eqb-false, eq-eqb, ne-eqb, not-true, not-false}
+use Rattle.lists.proofs.ListLaws.{both-held}
 use Rattle.refusals.specs.Refusals.{_or-else_, _unless_}
 use Rattle.refusals.proofs.ChainLaws.{or-else-zero, test-held}
 use Rattle.refusals.proofs.AnswerLaws.{answer-refused, answer-given, answer-number, answered}
@@ -23,6 +24,7 @@ use Rattle.room.specs.Digits.{differFrom}
 use Rattle.room.specs.Addresses.{digits, digit, withDigit, switchOf, differing, Neighbours}
 use Rattle.room.specs.Refusals.{serverRefusal}
 use Rattle.room.specs.Answers.{digitAnswer, switchAnswer}
+use Rattle.room.proofs.PowerLaws.{power-within}
 use Rattle.room.proofs.RefusalLaws.{server-of, server-none}
 use Rattle.room.proofs.AnswerLaws.{digit-answered, switch-answered}
 use Rattle.room.proofs.RoomLaws.{bound-le, digit-lt, digit-closed-at, with-server, with-same, with-beside, beside-with, same-switch, switch-small, neighbours-exactly, weight-pos}
@@ -115,7 +117,21 @@ hop-exactly {s} {a} h b = (there, λ p. back (p .0) (p .1))
     back : Value s a l v → digit s l a ≢ v → hopRefusal s a b ≡ 0
     back k q = rw (le-leb l (s .k) (k .link .level), lt-ltb v (bound s l) (k .value), ne-eqb (digit s l a) v q)
 
--- ---- one hop as the program makes it: the level l and the value v of its byte, the bound m of the level, the power p of n
+-- ---- one hop as the program makes it: the level l and the value v of its byte, the bound m of the level, the power p of n, and t,
+-- what it found of the tests in one go
+
+abbrev pub hopFits : ℕ → ℕ → ℕ → ℕ → ℕ → Bool
+hopFits k l v m o = leb l k && (ltb v m && not (eqb o v))
+
+module _ (k l v m o : ℕ) where
+  pub level-fails : k < l → leb l k ≡ hopFits k l v m o
+  level-fails h = rw (lt-leb l k h)
+
+  pub value-fails : l ≤ k → m ≤ v → ltb v m ≡ hopFits k l v m o
+  value-fails f h = rw (le-leb l k f, le-ltb v m h)
+
+  pub own-decides : l ≤ k → v < m → not (eqb o v) ≡ hopFits k l v m o
+  own-decides f h = rw (le-leb l k f, lt-ltb v m h)
 
 module _ (s : Shape) (a b l v : ℕ) (el : l ≡ levelOf b) (ev : v ≡ valueOf b) where
   refuses : (r : ℕ) (x : Hop) → suc r ≡ hopRefusal s a b → x ≡ noHop (suc r) → x ≡ hopFrom s a b
@@ -126,56 +142,80 @@ module _ (s : Shape) (a b l v : ℕ) (el : l ≡ levelOf b) (ev : v ≡ valueOf 
   unfolding hopRefusal _or-else_
   hop-eight x h = refuses 7 x (rw (← el) (simp (lt-leb l (s .k) h)))
 
-  module _ (m : ℕ) (level : l ≤ s .k) (most : m ≡ bound s l) where
-    pub hop-nine : (x : Hop) → m ≤ v → x ≡ noHop 9 → x ≡ hopFrom s a b
+  module _ (m : ℕ) (most : m ≡ bound s l) where
+    pub hop-nine : (x : Hop) → l ≤ s .k → m ≤ v → x ≡ noHop 9 → x ≡ hopFrom s a b
     unfolding hopRefusal _or-else_
-    hop-nine x h = let q : bound s l ≤ v = omega arith in refuses 8 x (rw (← el, ← ev) (simp (le-leb l (s .k) level, le-ltb v (bound s l) q)))
+    hop-nine x level h = let q : bound s l ≤ v = omega arith in refuses 8 x (rw (← el, ← ev) (simp (le-leb l (s .k) level, le-ltb v (bound s l) q)))
 
-    module _ (q : v < m) (tested : serverRefusal s a ≡ 0) (p : ℕ) (power : p ≡ powerOf (s .n) l) where
-      sets : Value s a l v
-      sets = record { link = record { server = server-of s a tested; level = level }; value = omega arith }
-
-      weight : p ≡ s .n ^ l
-      weight = power ∙ power-link (sets .link)
-
-      own : a / p % s .n ≡ digit s l a
-      own = digit-closed-at (sets .link) p weight
-
-      pub hop-weight : 0 < p
-      hop-weight = weight-pos (sets .link .server .valid) l p weight
+    module _ (tested : serverRefusal s a ≡ 0) (p : ℕ) (power : p ≡ powerOf (s .n) l) where
+      here : Server s a
+      here = server-of s a tested
 
       pub hop-ports : 0 < s .n
-      hop-ports = let k = sets .link .server .valid in omega arith
+      hop-ports = let k = here .valid in omega arith
+
+      -- a byte names no level above 3
+      pub hop-weight : b < 256 → 0 < p
+      hop-weight h =
+          let k = here .valid in
+          let low : l ≤ 3 = omega arith in
+          weight-pos k l p (power ∙ power-within (s .n) l hop-ports (k .ports) low)
+
+      module _ (level : l ≤ s .k) (q : v < m) where
+        sets : Value s a l v
+        sets = record { link = record { server = here; level = level }; value = omega arith }
+
+        weight : p ≡ s .n ^ l
+        weight = power ∙ power-link (sets .link)
+
+        own : a / p % s .n ≡ digit s l a
+        own = digit-closed-at (sets .link) p weight
+
+        fits : Moved s a l v p
+        fits = moved sets p weight
+
+        goes : a / p % s .n ≢ v → aHop (a - a / p % s .n * p + v * p) ≡ hopFrom s a b
+        unfolding hopFrom hopTo
+        goes e =
+            let n : Named s a b = (rw (← el, ← ev) sets, rw (← el, ← ev) (λ z. e (own ∙ z))) in
+            answer-given 0 _ noHop _ _ (sym (hop-exactly here b .1 n)) refl (ap aHop (fits .whole ∙ ap₂ (λ (x y : ℕ). withDigit s x y a) el ev))
+
+        same : (x : Hop) → a / p % s .n ≡ v → x ≡ noHop 10 → x ≡ hopFrom s a b
+        unfolding hopRefusal _or-else_
+        same x e =
+            refuses 9 x (rw (← el, ← ev) (simp (le-leb l (s .k) level, lt-ltb v (bound s l) (sets .value), eq-eqb (digit s l a) v (sym own ∙ e))))
 
       -- what is taken off and put on
       abbrev pub Own : ℕ
       Own = a / p % s .n * p
 
-      fits : Moved s a l v p
-      fits = moved sets p weight
+      module _ (t : Bool) (g : t ≡ hopFits (s .k) l v m (a / p % s .n)) where
+        module _ (h : t ≡ true) where
+          passed : (l ≤ s .k) × (v < m) × (a / p % s .n ≢ v)
+          passed =
+              let x = both-held (leb l (s .k)) _ (sym g ∙ h) in
+              let y = both-held (ltb v m) _ (x .1) in
+              (leb-true l (s .k) (x .0), ltb-true v m (y .0), eqb-false (a / p % s .n) v (not-true _ (y .1)))
 
-      pub own-fits : Fits w64 Own
-      own-fits = let k = sets .link .server in let f = fits in omega (arith, k .below, k .valid .small)
+          pub own-there : Own ≤ a
+          own-there = fits (passed .0) (passed .1) .own
 
-      pub own-there : Own ≤ a
-      own-there = fits .own
+          pub own-fits : Fits w64 Own
+          own-fits = omega (arith, own-there, here .below, here .valid .small)
 
-      pub new-fits : Fits w64 (v * p)
-      new-fits = let f = fits in omega arith
+          pub new-fits : Fits w64 (v * p)
+          new-fits = let f = fits (passed .0) (passed .1) in omega (arith, f .new)
 
-      pub next-fits : Fits w64 (a - Own + v * p)
-      next-fits = let k = sets .link .server in let f = fits in omega (arith, k .below, k .valid .small)
+          pub next-fits : Fits w64 (a - Own + v * p)
+          next-fits = let f = fits (passed .0) (passed .1) in omega (arith, f .new, here .below, here .valid .small)
 
-      pub hop-ten : (x : Hop) → a / p % s .n ≡ v → x ≡ noHop 10 → x ≡ hopFrom s a b
-      unfolding hopRefusal _or-else_
-      hop-ten x e =
-          refuses 9 x (rw (← el, ← ev) (simp (le-leb l (s .k) level, lt-ltb v (bound s l) (sets .value), eq-eqb (digit s l a) v (sym own ∙ e))))
+          pub hop-goes : aHop (a - Own + v * p) ≡ hopFrom s a b
+          hop-goes = goes (passed .0) (passed .1) (passed .2)
 
-      pub hop-goes : a / p % s .n ≢ v → aHop (a - Own + v * p) ≡ hopFrom s a b
-      unfolding hopFrom hopTo
-      hop-goes e =
-          let n : Named s a b = (rw (← el, ← ev) sets, rw (← el, ← ev) (λ z. e (own ∙ z))) in
-          answer-given 0 _ noHop _ _ (sym (hop-exactly (sets .link .server) b .1 n)) refl (ap aHop (fits .whole ∙ ap₂ (λ (x y : ℕ). withDigit s x y a) el ev))
+        pub hop-ten : t ≡ false → l ≤ s .k → v < m → (x : Hop) → x ≡ noHop 10 → x ≡ hopFrom s a b
+        hop-ten h level q x f =
+            let e = own-decides (s .k) l v m (a / p % s .n) level q ∙ sym g ∙ h in
+            same level q x (eqb-true (a / p % s .n) v (not-false _ e)) f
 
 -- ---- for a caller: the number is that of the byte, and with none the hop leads where it says
 

@@ -4,6 +4,7 @@ pub mod RouteLaws
 pub mod ReverseLaws
 pub mod CodecLaws
 pub mod WalkLaws
+pub mod DistanceLaws
 pub mod WriteLaws
 pub mod TurnLaws
 pub mod ByteLaws

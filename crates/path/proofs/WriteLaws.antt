@@ -47,27 +47,26 @@ pub next-level : {s : Shape} {a b : ℕ} → Next s a b → (x : Between) → x 
 next-level n x e =
     ap (λ (y : Between). y .level) (between-answered (n .from) (n .to) x e ∙ ap onlyLevel (next-differing n))
 
--- what the code finds of a hop: its level l and the new value v
-module _ {s : Shape} {a b : ℕ} (n : Next s a b) (x : Between) (e : x ≡ betweenAnswer s a b) (y : Number) (f : y ≡ digitAnswer s b (x .level)) where
+-- what the code finds of a hop: its level l and the new value
+module _ {s : Shape} {a b : ℕ} (n : Next s a b) (l : ℕ) (e : l ≡ levelTo s a b) (y : Number) (f : y ≡ digitAnswer s b l) where
   byte-value : y .value ≡ digit s (levelTo s a b) b
-  byte-value = digit-found (record { server = n .to; level = n .hop .level }) y (f ∙ ap (digitAnswer s b) (next-level n x e))
+  byte-value = digit-found (record { server = n .to; level = n .hop .level }) y (f ∙ ap (digitAnswer s b) e)
 
-  pub byte-level : Fits w64 (64 * x .level)
-  byte-level = let l = next-level n x e in omega (arith, n .hop .level, n .to .valid .levels)
+  pub byte-level : Fits w64 (64 * l)
+  byte-level = omega (arith, n .hop .level, n .to .valid .levels)
 
-  pub byte-small : 64 * x .level + y .value < 256
+  pub byte-small : 64 * l + y .value < 256
   byte-small =
-      let l = next-level n x e in
       let v = byte-value in
       let d = levelTo s a b in
       omega (arith, n .hop .level, n .to .valid .levels, digit-lt (n .to) d (n .hop .level), bound-le (n .to .valid) d, n .to .valid .ports)
 
-  pub byte-fits : Fits w64 (64 * x .level + y .value)
+  pub byte-fits : Fits w64 (64 * l + y .value)
   byte-fits = omega (arith, byte-small)
 
-  pub byte-is : 64 * x .level + y .value ≡ byteTo s a b
+  pub byte-is : 64 * l + y .value ≡ byteTo s a b
   unfolding byteTo byteOf
-  byte-is = ap₂ (λ (l v : ℕ). 64 * l + v) (next-level n x e) byte-value
+  byte-is = ap₂ (λ (i v : ℕ). 64 * i + v) e byte-value
 
 -- two in a row on a route
 pub route-next : {s : Shape} {t vs : List ℕ} → Route s t vs → (i : ℕ) → i + 1 < length vs → Next s (getD vs i 0) (getD vs (i + 1) 0)
@@ -115,7 +114,7 @@ put-end {s} {vs} {bytes} {i} g h =
     let e : take i bytes ≡ inTurn (byteTo s) vs = sym (append-nil (take i bytes)) ∙ ap (λ (xs : List ℕ). take i bytes ++ xs) (sym (turn-short (byteTo s) (drop i vs) q)) ∙ g .same in
     sym (filled-is 8 bytes i (g .within) (g .long) (g .blank)) ∙ ap (filled 8) e
 
--- ---- what is refused before the way: the first of the servers, by 1, 2, 3, 4
+-- ---- what is refused before the way: the first of the servers, by 1, 2, 26, 3, 4
 
 -- the loop's invariant: what refuses the servers from i on refuses the list
 pub record FineTo (s : Shape) (vs : List ℕ) (i : ℕ) : Type 0 where

@@ -16,7 +16,7 @@ use Rattle.path.specs.declared.Writing.{Writing}
 use Rattle.path.specs.Routes.{encode}
 use Rattle.path.specs.Walks.{Walk, stopped, arrived, hopTo, hopRefusal, walk, writeFrom}
 
--- ---- one hop: 1 to 3, 4, 8, 9, 10
+-- ---- one hop: 1, 2, 26, 3, 4, 8, 9, 10
 
 abbrev pub noHop : ℕ → Hop
 noHop r = record { number = r; next = 0 }
@@ -27,7 +27,7 @@ aHop a = record { number = 0; next = a }
 unfoldable pub hopAnswer : Shape → ℕ → ℕ → Hop
 hopAnswer s a b = answer (serverRefusal s a or-else hopRefusal s a b) noHop (aHop (hopTo s a b))
 
--- ---- walking an array: 1 to 3, 4, 5, 7, then hop after hop
+-- ---- walking an array: 1, 2, 26, 3, 4, 5, 7, then hop after hop
 
 -- one array of eight bytes: 7
 unfoldable pub arrayRefusal : Shape → ℕ → ℕ → List ℕ → ℕ
@@ -67,7 +67,7 @@ reversed s (arrived vs ws) = aWriting (encode s (reverse vs))
 unfoldable pub reverseAnswer : Shape → ℕ → ℕ → List ℕ → Writing
 reverseAnswer s a d bs = answer (arrayRefusal s a d bs) (λ r. noWriting (plain r)) (reversed s (walk s [] a d bs))
 
--- ---- writing: 1 to 3, 22, 4, 5, then 23 and 12 at each hop
+-- ---- writing: 1, 2, 26, 3, 22, 4, 5, then 23 and 12 at each hop
 
 -- the first refusal of an address in a list: 4
 unfoldable pub serversRefusal : Shape → List ℕ → ℕ

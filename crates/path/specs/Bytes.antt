@@ -12,7 +12,7 @@ use Rattle.room.specs.Answers.{noNumber, aNumber}
 use Rattle.path.specs.declared.Parts.{Parts}
 use Rattle.path.specs.Routes.{byteOf, levelOf, valueOf}
 
--- a level and a value that some server has there: 1 to 3, 20, 21
+-- a level and a value that some server has there: 1, 2, 26, 3, 20, 21
 unfoldable pub madeRefusal : Shape → ℕ → ℕ → ℕ
 madeRefusal s l v = levelRefusal s l or-else 21 unless ltb v (bound s l)
 
@@ -41,7 +41,7 @@ noParts r = record { refusal = r; level = 0; value = 0 }
 abbrev pub someParts : ℕ → ℕ → Parts
 someParts l v = record { refusal = none; level = l; value = v }
 
--- its level and its value: 1 to 3; then 8 and 9, at hop 1 of route 1
+-- its level and its value: 1, 2, 26, 3; then 8 and 9, at hop 1 of route 1
 unfoldable pub partsAnswer : Shape → ℕ → Parts
 partsAnswer s b =
     answer (shapeRefusal s) (λ r. noParts (plain r)) (answer (partsRefusal s b) (λ r. noParts (refusedAt r 1 1)) (someParts (levelOf b) (valueOf b)))

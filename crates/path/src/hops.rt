@@ -1,5 +1,7 @@
 // One hop, by its byte.
 ghost use mathlib.Core.Path.{_≡_};
+ghost use mathlib.Core.Bool.{not, _&&_};
+ghost use lib.Dec.{ltb, leb, eqb};
 ghost use Rattle.room.specs.Refusals.{serverRefusal};
 ghost use Rattle.path.specs.Routes.{levelOf, valueOf};
 ghost use Rattle.path.specs.Answers.{noHop, hopAnswer};
@@ -31,6 +33,13 @@ fn no_hop(number: usize) -> Hop
     Hop { number, next: 0 }
 }
 
+// Whether a level is at most k, a value below its bound, and the own value another, in one go.
+fn is_hop(k: usize, level: usize, value: usize, bound: usize, own: usize) -> bool
+    ensures { λ r. ⌜ r ≡ (leb level k && (ltb value bound && not (eqb own value))) ⌝ }
+{
+    level <= k && (value < bound && own != value)
+}
+
 // Where the hop by a byte leads from a server of the room, by one power of n. Refusals 8, 9, 10.
 pub(crate) fn hop_from(shape: Shape, server: usize, byte: u8) -> Hop
     requires { ⌜ serverRefusal shape server ≡ 0 ⌝ }
@@ -38,24 +47,25 @@ pub(crate) fn hop_from(shape: Shape, server: usize, byte: u8) -> Hop
 {
     let level = level_of(byte as usize);
     let value = value_of(byte as usize);
+    let bound = digit_bound(shape, level);
+    let weight = power(shape.n, level);
+    let own = server / weight % shape.n;
+    if is_hop(shape.k, level, value, bound, own) {
+        return Hop {
+            number: 0,
+            next: server - own * weight + value * weight,
+        };
+    }
     if shape.k < level {
         return no_hop(Refusal::POSITION);
     }
-    if digit_bound(shape, level) <= value {
+    if bound <= value {
         return no_hop(Refusal::VALUE);
     }
-    let weight = power(shape.n, level);
-    let own = server / weight % shape.n;
-    if own == value {
-        return no_hop(Refusal::NO_CHANGE);
-    }
-    Hop {
-        number: 0,
-        next: server - own * weight + value * weight,
-    }
+    no_hop(Refusal::NO_CHANGE)
 }
 
-// Where the hop by a byte leads from a server. Refusals 1, 2, 3, 4, 8, 9, 10.
+// Where the hop by a byte leads from a server. Refusals 1, 2, 26, 3, 4, 8, 9, 10.
 pub fn hop_of(shape: Shape, server: usize, byte: u8) -> Hop
     ensures { λ r. ⌜ r ≡ hopAnswer shape server byte ⌝ }
 {

@@ -15,7 +15,7 @@ pub(crate) fn plain_walk(shape: Shape, source: usize, destination: usize, path: 
     walk(shape, &byte[..0], source, destination, path)
 }
 
-// The servers that an array meets, in turn. Refusals 1, 2, 3, 4, 5, 7, 8, 9, 10, 12, 13, 14.
+// The servers that an array meets, in turn. Refusals 1, 2, 26, 3, 4, 5, 7, 8, 9, 10, 12, 13, 14.
 pub fn read_path(shape: Shape, source: usize, destination: usize, path: &[u8]) -> Reading
     ensures { λ r. ⌜ r ≡ readAnswer shape source destination (now (path .entry)) ⌝ }
 {

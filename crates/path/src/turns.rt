@@ -26,7 +26,7 @@ fn backwards(servers: [usize; 9], count: usize) -> [usize; 9]
 }
 
 // The bytes of the route backwards: the same servers, from the destination.
-// Refusals 1, 2, 3, 4, 5, 7, 8, 9, 10, 12, 13, 14.
+// Refusals 1, 2, 26, 3, 4, 5, 7, 8, 9, 10, 12, 13, 14.
 pub fn reverse_path(shape: Shape, source: usize, destination: usize, path: &[u8]) -> Writing
     ensures { λ r. ⌜ r ≡ reverseAnswer shape source destination (now (path .entry)) ⌝ }
 {

@@ -19,7 +19,7 @@ use refusals::Refusal;
 use room::Shape;
 use room::ends_refusal;
 
-// The first of 1, 2, 3, 4, 5, 7 that refuses the ends and the length of an array, or 0.
+// The first of 1, 2, 26, 3, 4, 5, 7 that refuses the ends and the length of an array, or 0.
 fn array_refusal(shape: Shape, source: usize, destination: usize, path: &[u8]) -> usize
     ensures { λ r. ⌜ r ≡ arrayRefusal shape source destination (now (path .entry)) ⌝ }
 {
@@ -115,7 +115,7 @@ fn walk_bytes(shape: Shape, table: &[u8], source: usize, destination: usize, pat
 }
 
 // The servers met and the switches used by an array, over the live links of a table.
-// Refusals 1, 2, 3, 4, 5, 7, then 8 to 14 at a hop.
+// Refusals 1, 2, 26, 3, 4, 5, 7, then 8 to 14 at a hop.
 pub fn walk(shape: Shape, table: &[u8], source: usize, destination: usize, path: &[u8]) -> Walked
     ensures { λ r. ⌜ r ≡ walkAnswer shape (now (table .entry)) source destination (now (path .entry)) ⌝ }
 {

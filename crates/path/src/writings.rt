@@ -1,8 +1,9 @@
 // The bytes of servers in turn.
 ghost use mathlib.Core.Path.{_≡_};
+ghost use Prim.Native.Nat.{_+_, _-_};
 ghost use mathlib.Core.List.{[]};
 ghost use Rattle.room.specs.Refusals.{pairRefusal};
-ghost use Rattle.path.specs.Routes.{byteTo, encode, Route};
+ghost use Rattle.path.specs.Routes.{levelTo, byteTo, encode, Route};
 ghost use Rattle.path.specs.Inside.{Next, triedTo};
 ghost use Rattle.path.specs.Answers.{noWriting, aWriting, serversRefusal, writeRefusal, onTheWay, writeAnswer};
 use crate::Tried;
@@ -26,14 +27,44 @@ pub(crate) fn no_writing(refusal: Refusal) -> Writing
     }
 }
 
+// How far two servers are apart, as numbers.
+fn distance(one: usize, other: usize) -> usize
+    ensures { λ r. ⌜ r ≡ (one - other) + (other - one) ⌝ }
+{
+    if one < other {
+        return other - one;
+    }
+    one - other
+}
+
+// The level of the hop from a server to its neighbour: they are apart by the level's power of n or more, and by less
+// than the next.
+fn level_to(shape: Shape, from: usize, to: usize) -> usize
+    requires { ⌜ Next shape from to ⌝ }
+    ensures { λ r. ⌜ r ≡ levelTo shape from to ⌝ }
+{
+    let n = shape.n;
+    let apart = distance(from, to);
+    if apart < n {
+        return 0;
+    }
+    if apart < n * n {
+        return 1;
+    }
+    if apart < n * n * n {
+        return 2;
+    }
+    3
+}
+
 // The byte of the hop from a server to its neighbour.
 fn byte_to(shape: Shape, from: usize, to: usize) -> u8
     requires { ⌜ Next shape from to ⌝ }
     ensures { λ r. ⌜ r ≡ byteTo shape from to ⌝ }
 {
-    let between = level_between(shape, from, to);
-    let digit = digit_of(shape, to, between.level);
-    (64 * between.level + digit.value) as u8
+    let level = level_to(shape, from, to);
+    let digit = digit_of(shape, to, level);
+    (64 * level + digit.value) as u8
 }
 
 // The bytes of servers in turn, and zeros after them.
@@ -61,7 +92,7 @@ pub(crate) fn a_writing(shape: Shape, servers: &[usize]) -> Writing
     }
 }
 
-// The first of 1, 2, 3, 4 that refuses one of the servers, or 0.
+// The first of 1, 2, 26, 3, 4 that refuses one of the servers, or 0.
 fn servers_refusal(shape: Shape, servers: &[usize]) -> usize
     ensures { λ r. ⌜ r ≡ serversRefusal shape (now (servers .entry)) ⌝ }
 {
@@ -76,7 +107,7 @@ fn servers_refusal(shape: Shape, servers: &[usize]) -> usize
     0
 }
 
-// The first of 1, 2, 3, 22, 4, 5 that refuses a list of servers, or 0.
+// The first of 1, 2, 26, 3, 22, 4, 5 that refuses a list of servers, or 0.
 fn write_refusal(shape: Shape, servers: &[usize]) -> usize
     ensures { λ r. ⌜ r ≡ writeRefusal shape (now (servers .entry)) ⌝ }
 {
@@ -138,7 +169,7 @@ fn on_the_way(shape: Shape, servers: &[usize]) -> Refusal
     Refusal::none()
 }
 
-// The eight bytes of the route that meets these servers. Refusals 1, 2, 3, 22, 4, 5, then 23, 12 at a hop.
+// The eight bytes of the route that meets these servers. Refusals 1, 2, 26, 3, 22, 4, 5, then 23, 12 at a hop.
 pub fn write_path(shape: Shape, servers: &[usize]) -> Writing
     ensures { λ r. ⌜ r ≡ writeAnswer shape (now (servers .entry)) ⌝ }
 {

@@ -44,7 +44,7 @@ found s t a d fs ks =
 unfoldable pub fits : Shape → ℕ → Bool
 fits s n = eqb (n % 8) 0 && leb n (8 * (s .k + 1))
 
--- what is tested before any reading: 1 to 3, 4, 5, 6, 7
+-- what is tested before any reading: 1, 2, 26, 3, 4, 5, 6, 7
 unfoldable pub listsRefusal : Shape → List ℕ → ℕ → ℕ → List ℕ → List ℕ → ℕ
 listsRefusal s t a d fs ks = roomRefusal s t a d or-else 7 unless (fits s (length fs) && fits s (length ks))
 

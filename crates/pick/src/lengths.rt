@@ -17,7 +17,7 @@ fn are_arrays(shape: Shape, bytes: usize) -> bool
     bytes <= 8 * (shape.k + 1)
 }
 
-// The first of 1, 2, 3, 4, 5, 6, 7 that refuses two lists before they are read, or 0.
+// The first of 1, 2, 26, 3, 4, 5, 6, 7 that refuses two lists before they are read, or 0.
 pub(crate) fn lists_refusal(
     shape: Shape,
     table: &[u8],

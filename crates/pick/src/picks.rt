@@ -51,7 +51,7 @@ fn a_place(list: usize, route: usize) -> Place
     }
 }
 
-// Which list holds the picked route, and at which place; or why there is none: refusals 1 to 7, and 16
+// Which list holds the picked route, and at which place; or why there is none: refusals 1, 2, 26, 3 to 7, and 16
 // where neither list has a usable route.
 pub fn pick_place(
     shape: Shape,
@@ -102,7 +102,7 @@ pub fn pick_route<'a>(
     &fresh[0..0]
 }
 
-// Why picking gives no route: refusals 1 to 7, 16 where neither list has a usable route, or none.
+// Why picking gives no route: refusals 1, 2, 26, 3 to 7, 16 where neither list has a usable route, or none.
 pub fn pick_refusal(
     shape: Shape,
     table: &[u8],

@@ -25,7 +25,7 @@ pub fn item(n: usize)
     number(n);
 }
 
-// "NAME (n,k)"
+// "NAME (n,k)" of a full room, "NAME (n,k,m)" of any other.
 pub fn question(name: &[u8], shape: Shape)
     ensures { λ r. ⌜ r ≡ tt ⌝ }
 {
@@ -34,6 +34,10 @@ pub fn question(name: &[u8], shape: Shape)
     number(shape.n);
     text(b",");
     number(shape.k);
+    if shape.m != shape.n {
+        text(b",");
+        number(shape.m);
+    }
     text(b")");
 }
 

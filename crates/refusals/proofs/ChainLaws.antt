@@ -17,6 +17,12 @@ unfolding _or-else_
 or-else-zero zero q e = (refl, e)
 or-else-zero (suc p) q e = omega arith
 
+-- the second refuses nothing that the first lets pass
+pub or-else-passed : (p q : ℕ) → (p ≡ 0 → q ≡ 0) → p or-else q ≡ p
+unfolding _or-else_
+or-else-passed zero q f = f refl
+or-else-passed (suc p) q f = refl
+
 -- r is what a call found of the first of two tests
 pub chain-stops : (r p q : ℕ) → r ≡ p → (r ≡ 0 → ⊥) → r ≡ p or-else q
 chain-stops r p q e h = rw (← e) (sym (or-else-left r q h))

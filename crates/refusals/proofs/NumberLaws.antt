@@ -1,11 +1,12 @@
 -- Laws of numbers: a chain of tests gives one of its numbers, and what holds of them all holds of the one that it gives.
 use Prim.Native.Nat.{ℕ, zero, suc, _≤_}
 use mathlib.Core.Path.{_≡_, refl, ap, _∙_}
-use mathlib.Core.Bool.{Bool, true, false}
+use mathlib.Core.Logic.{_≢_}
+use mathlib.Core.Bool.{Bool, true, false, not}
 use mathlib.Core.List.{List, [], _∷_, _++_}
 use native.Mathlib.Omega.{arith}
-use lib.Dec.{leb}
-use borrow.Author.Tests.{eq-eqb, le-leb, leb-true}
+use lib.Dec.{leb, eqb}
+use borrow.Author.Tests.{eq-eqb, eqb-false, le-leb, leb-true, not-true}
 use Rattle.lists.specs.Lists.{isIn}
 use Rattle.lists.proofs.ListLaws.{every, every-at, in-left, in-right}
 use Rattle.refusals.specs.Refusals.{_or-else_, _unless_, OneOf, nought, listed}
@@ -37,6 +38,10 @@ one-passes {A} {r} f z h (listed e) = every-at f A r h e
 pub refused-passes : {A : List ℕ} {r : ℕ} (f : ℕ → Bool) → every f A ≡ true → OneOf A r → (r ≡ 0 → ⊥) → f r ≡ true
 refused-passes f h (nought e) n = absurd (n e)
 refused-passes {A} {r} f h (listed e) n = every-at f A r h e
+
+-- what is none of the numbers is not given
+pub one-not : {A : List ℕ} {r : ℕ} (m : ℕ) → not (eqb 0 m) ≡ true → every (λ x. not (eqb x m)) A ≡ true → OneOf A r → r ≢ m
+one-not {A} {r} m z h k = eqb-false r m (not-true _ (one-passes (λ x. not (eqb x m)) z h k))
 
 -- none of the numbers is above m
 pub one-le : {A : List ℕ} {r : ℕ} (m : ℕ) → every (λ x. leb x m) A ≡ true → OneOf A r → r ≤ m

@@ -81,6 +81,9 @@ impl Refusal {
     // Two servers in a row are not neighbours.
     pub const NOT_NEIGHBOURS: usize = 23;
 
+    // m is below 2 or above n.
+    pub const FILL: usize = 26;
+
     // No refusal.
     pub fn none() -> Self
         ensures { λ r. ⌜ r ≡ none ⌝ }

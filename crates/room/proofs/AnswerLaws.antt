@@ -1,8 +1,8 @@
 -- For the layers above: what the answers of the room are where nothing is refused, and that digits and addresses undo each other.
-use Prim.Native.Nat.{ℕ, suc, _-_, _≤_}
+use Prim.Native.Nat.{ℕ, suc, _-_}
 use mathlib.Core.Path.{_≡_, refl, ap, ap₂, _∙_}
 use mathlib.Core.List.{List}
-use lib.ListN.{length, getD, take}
+use lib.ListN.{length, take}
 use Rattle.lists.specs.Lists.{filled}
 use Rattle.refusals.specs.declared.Refusal.{Refusal}
 use Rattle.refusals.specs.Refusals.{none, answer}
@@ -13,13 +13,13 @@ use Rattle.room.specs.declared.Digits.{Digits}
 use Rattle.room.specs.declared.Switch.{Switch}
 use Rattle.room.specs.declared.Between.{Between}
 use Rattle.room.specs.Digits.{addressOf, differFrom}
-use Rattle.room.specs.Shapes.{serversOf, bound, Valid, Server, Link, Value}
+use Rattle.room.specs.Shapes.{serversOf, Valid, Server, Link, Value}
 use Rattle.room.specs.Addresses.{digits, digit, withDigit, switchOf, differing}
 use Rattle.room.specs.Refusals.{serverRefusal, pairRefusal, linkRefusal}
-use Rattle.room.specs.Answers.{noNumber, aNumber, noDigits, someDigits, noSwitch, aSwitch, noBetween, onlyLevel, serversAnswer, boundAnswer, digitsAnswer, digitAnswer, addressAnswer, switchAnswer, neighbourAnswer, betweenAnswer}
+use Rattle.room.specs.Answers.{noNumber, aNumber, noDigits, someDigits, noSwitch, aSwitch, noBetween, onlyLevel, serversAnswer, digitsAnswer, digitAnswer, addressAnswer, switchAnswer, neighbourAnswer, betweenAnswer}
 use Rattle.room.proofs.DigitLaws.{address-padded}
-use Rattle.room.proofs.RefusalLaws.{Places, valid-none, level-none, server-none, pair-none, link-none, value-none, places-none}
-use Rattle.room.proofs.RoomLaws.{place-digit, differ-four, read-back, write-back, written-server, places-digits, places-written, places-padded, places-address}
+use Rattle.room.proofs.RefusalLaws.{Places, valid-none, server-none, pair-none, link-none, value-none, places-none}
+use Rattle.room.proofs.RoomLaws.{differ-four, read-back, write-back, written-server, places-digits, places-written, places-padded, places-address}
 
 -- ---- as the program answers: r is what it found of the tests q
 
@@ -30,10 +30,6 @@ module _ (r q : ℕ) (e : r ≡ q) where
   -- w is the number that it found, v the one asked for
   pub number-given : r ≡ 0 → (w v : ℕ) → w ≡ v → (x : Number) → x ≡ aNumber w → x ≡ answer q noNumber (aNumber v)
   number-given z w v g x f = answer-given r q noNumber x _ e z (f ∙ ap aNumber g)
-
--- one of the four digits that it found
-pub digit-held : (s : Shape) (a l : ℕ) (ds : List ℕ) → ds ≡ filled 4 (digits s a) → getD ds l 0 ≡ digit s l a
-digit-held s a l ds e = ap (λ (x : List ℕ). getD x l 0) e ∙ place-digit s a l
 
 module _ (s : Shape) (a : ℕ) (r : ℕ) (e : r ≡ serverRefusal s a) where
   pub digits-refused : (r ≡ 0 → ⊥) → (x : Digits) → x ≡ noDigits r → x ≡ digitsAnswer s a
@@ -67,10 +63,6 @@ module _ (s : Shape) (a b r : ℕ) (e : r ≡ pairRefusal s a b) where
 pub servers-answered : {s : Shape} → Valid s → (x : Number) → x ≡ serversAnswer s → x ≡ aNumber (serversOf s)
 unfolding serversAnswer
 servers-answered {s} h x e = e ∙ answer-none _ noNumber _ (valid-none h)
-
-pub bound-answered : {s : Shape} {l : ℕ} → Valid s → l ≤ s .k → (x : Number) → x ≡ boundAnswer s l → x ≡ aNumber (bound s l)
-unfolding boundAnswer
-bound-answered h p x e = e ∙ answer-none _ noNumber _ (level-none h p)
 
 pub digits-answered : {s : Shape} {a : ℕ} → Server s a → (x : Digits) → x ≡ digitsAnswer s a → x ≡ someDigits (filled 4 (digits s a))
 unfolding digitsAnswer

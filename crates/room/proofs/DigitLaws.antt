@@ -3,14 +3,14 @@ use Prim.Native.Nat.{ℕ, zero, suc, _+_, _-_, _*_, _/_, _%_, _^_, _≤_, _<_, z
 use mathlib.Core.Path.{_≡_, refl, sym, ap, ap₂, _∙_}
 use mathlib.Core.Logic.{_≢_, _⊎_, inl, inr, ⊎-elim}
 use mathlib.Core.List.{List, [], _∷_, _++_}
-use native.Mathlib.Nat.{mod-lt, mod-add-div, div-lt-iff-lt-mul, pow-zero, pow-suc, pow-succ', mod-eq-of-lt, div-eq-of-lt, zero-div, zero-add, mul-zero, mul-assoc, mul-add, add-assoc, mul-comm, mul-suc, one-mul, add-mul-mod-self-left, add-mul-div-left, div-div-eq-div-mul, mod-one, div-one, pow-le-pow-left, pow-le-pow-right, one-le-pow, mul-le-mul-left, le-of-suc-le-suc, lt-of-lt-of-le, le-trans, le-of-lt, zero-mod, suc-add}
+use native.Mathlib.Nat.{mod-lt, mod-add-div, div-lt-iff-lt-mul, pow-zero, pow-suc, pow-succ', mod-eq-of-lt, div-eq-of-lt, zero-div, zero-add, mul-zero, mul-assoc, mul-add, add-assoc, mul-comm, mul-suc, mul-one, one-mul, add-mul-mod-self-left, add-mul-div-left, div-div-eq-div-mul, mod-one, div-one, pow-le-pow-left, pow-le-pow-right, one-le-pow, mul-le-mul-left, mul-left-comm, suc-inj, le-of-suc-le-suc, lt-of-lt-of-le, lt-of-le-of-lt, mod-le, le-trans, le-of-lt, zero-mod, suc-add}
 use native.Mathlib.Numerals.{add-one}
 use native.Mathlib.Omega.{arith}
-use native.Mathlib.Decide.{decLt, ℕ-discrete}
+use native.Mathlib.Decide.{decLt}
 use lib.Dec.{lit<}
 use lib.Arith.{mod-mul, lt-one}
 use lib.ListN.{length, getD, take, drop, set, replicate, length-set, length-drop}
-use lib.Seq.{ext-getD, set-split, getD-set-same, getD-set-other, length-take-le, getD-drop, drop-cons}
+use lib.Seq.{ext-getD, set-split, getD-set-other, length-take-le, getD-drop, drop-cons}
 use Rattle.lists.specs.Lists.{filled}
 use Rattle.room.specs.Digits.{digitsOf, addressOf, strike, Below}
 
@@ -77,6 +77,16 @@ address-lt n [] h = omega (arith, pow-zero n)
 address-lt n (d ∷ ds) h =
     let w : n * suc (addressOf n ds) ≤ n * n ^ length ds = mul-le-mul-left n (address-lt n ds (below-tail h)) in
     rw pow-succ' (omega (arith, w, mul-suc n (addressOf n ds), below-head h))
+
+-- where the top digit is below m, the number is below m times the weight of its place
+pub address-top : (n k m : ℕ) (ds : List ℕ) → length ds ≡ suc k → Below n ds → getD ds k 0 < m → addressOf n ds < m * n ^ k
+unfolding addressOf
+address-top n k m [] l b h = omega arith
+address-top n zero m (d ∷ []) l b h = rw (pow-zero, mul-one) (omega (arith, mul-zero n))
+address-top n zero m (d ∷ e ∷ ds) l b h = omega arith
+address-top n (suc k) m (d ∷ ds) l b h =
+    let w : n * suc (addressOf n ds) ≤ n * (m * n ^ k) = mul-le-mul-left n (address-top n k m ds (suc-inj l) (below-tail b) h) in
+    rw (pow-succ', mul-left-comm) (omega (arith, w, mul-suc n (addressOf n ds), below-head b))
 
 -- ---- two that agree
 
@@ -146,14 +156,6 @@ strike-agree l ds es q e = record { long = q; agree = at }
 
 -- ---- changing a place
 
-pub set-keeps : (n l v : ℕ) (ds : List ℕ) → Below n ds → v < n → Below n (set ds l v)
-set-keeps n l v ds h b =
-    record {
-      at = λ i p.
-          let p' : i < length ds = simp length-set at p in
-          elim (ℕ-discrete i l) [ yes q ↦ rw q (rw (getD-set-same ds l v 0 (omega arith)) b) | no q ↦ rw (getD-set-other ds l i v 0 q) (h .at i p') ];
-    }
-
 pub set-but : (l v : ℕ) (ds : List ℕ) → But l (set ds l v) ds
 set-but l v ds = record { long = length-set ds l v; agree = λ i q. getD-set-other ds l i v 0 q }
 
@@ -185,6 +187,12 @@ digit-closed n zero l a h = omega arith
 digit-closed n (suc m) zero a h = sym (rw pow-zero (ap (λ (x : ℕ). x % n) (div-one a)))
 digit-closed n (suc m) (suc l) a h =
     digit-closed n m l (a / n) (le-of-suc-le-suc h) ∙ ap (λ (x : ℕ). x % n) (rest-div n l a)
+
+-- the top digit of a number below m times the weight of its place is below m
+pub digit-top : (n k m a : ℕ) → 0 < n → a < m * n ^ k → getD (digitsOf n (suc k) a) k 0 < m
+digit-top n k m a p h =
+    rw (digit-closed n (suc k) k a (omega arith))
+    (lt-of-le-of-lt (mod-le (a / n ^ k) n) (div-lt-iff-lt-mul (one-le-pow k n p) .1 h))
 
 pub with-closed : (n m l v a : ℕ) → 0 < n → a < n ^ m → l < m → addressOf n (set (digitsOf n m a) l v) ≡ a % n ^ l + n ^ l * (v + n * (a / n ^ l / n))
 unfolding addressOf

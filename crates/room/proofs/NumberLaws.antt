@@ -1,8 +1,8 @@
 -- Each chain of the room gives one of its numbers.
 use Prim.Native.Nat.{ℕ}
-use mathlib.Core.Path.{refl}
+use mathlib.Core.Path.{_≡_, refl}
 use mathlib.Core.Bool.{not, _&&_}
-use mathlib.Core.List.{List}
+use mathlib.Core.List.{List, [], _∷_}
 use lib.Dec.{ltb, leb, eqb}
 use Rattle.lists.specs.Lists.{isIn}
 use Rattle.refusals.specs.Refusals.{OneOf}
@@ -10,13 +10,31 @@ use Rattle.refusals.proofs.NumberLaws.{test-one, chain-one, one-of}
 use Rattle.room.specs.declared.Shape.{Shape}
 use Rattle.room.specs.Shapes.{serversOf, bound}
 use Rattle.room.specs.Addresses.{switchesAt}
+use Rattle.room.proofs.RefusalLaws.{full-refusal}
 use Rattle.room.specs.Wiring.{portRefusal, portNumbers}
 use Rattle.room.specs.Refusals.{shapeRefusal, shapeNumbers, levelRefusal, levelNumbers, serverRefusal, pairRefusal, serverNumbers, endsRefusal, endsNumbers, linkRefusal, linkNumbers, valueRefusal, valueNumbers, placesFit, placesRefusal, placesNumbers}
 
 module _ (s : Shape) where
   pub shape-numbers : OneOf shapeNumbers (shapeRefusal s)
   unfolding shapeRefusal
-  shape-numbers = chain-one _ _ (chain-one _ _ (test-one 1 (leb 2 (s .n) && leb (s .n) 64)) (test-one 2 (leb (s .k) 3))) (test-one 3 (leb (serversOf s) 4096))
+  shape-numbers =
+      chain-one _ _
+      (chain-one _ _ (chain-one _ _ (test-one 1 (leb 2 (s .n) && leb (s .n) 64)) (test-one 2 (leb (s .k) 3))) (test-one 26 (leb 2 (s .m) && leb (s .m) (s .n))))
+      (test-one 3 (leb (serversOf s) 4096))
+
+  -- 26 is no number of a full room
+  pub full-numbers : s .m ≡ s .n → (a d : ℕ) → OneOf (1 ∷ 2 ∷ 3 ∷ 4 ∷ 5 ∷ []) (endsRefusal s a d)
+  unfolding endsRefusal pairRefusal serverRefusal isIn
+  full-numbers full a d =
+      one-of refl
+      (chain-one _ _
+      (chain-one _ _ (chain-one _ _ shape (test-one 4 (ltb a (serversOf s)))) (chain-one _ _ shape (test-one 4 (ltb d (serversOf s)))))
+      (test-one 5 (not (eqb a d))))
+    where
+      shape : OneOf (1 ∷ 2 ∷ 3 ∷ []) (shapeRefusal s)
+      shape =
+          rw (full-refusal s full)
+          (chain-one _ _ (chain-one _ _ (test-one 1 (leb 2 (s .n) && leb (s .n) 64)) (test-one 2 (leb (s .k) 3))) (test-one 3 (leb (serversOf s) 4096)))
 
   pub level-numbers : (l : ℕ) → OneOf levelNumbers (levelRefusal s l)
   unfolding levelRefusal

@@ -2,10 +2,10 @@
 use Prim.Native.Nat.{ℕ, zero, suc, _*_, _%_, _^_, _≤_, _<_}
 use mathlib.Core.Path.{_≡_, sym, ap, _∙_}
 use mathlib.Core.Logic.{_≢_, _⊎_, inl, inr, ⊎-elim}
-use mathlib.Core.Bool.{cond}
+use mathlib.Core.Bool.{Bool, true, false, cond}
 use native.Mathlib.Omega.{arith}
 use native.Mathlib.Decide.{decLe}
-use native.Mathlib.Nat.{pow-zero, pow-succ', mul-one, one-mul, mul-zero, mul-assoc, mul-le-mul}
+use native.Mathlib.Nat.{pow-zero, mul-one, one-mul, mul-zero, mul-le-mul, le-trans}
 use lib.Dec.{leb, eqb}
 use mir.Syntax.{w64}
 use mir.Val.{Fits}
@@ -48,43 +48,52 @@ power-some n l h = ⊎-elim (λ p. p .0) (λ z. absurd (h (sym z))) (power-cases
 
 -- ---- as the program makes it
 
--- n where l is odd, and its square from 2 on
-product : (n l : ℕ) → l ≤ 3 → cond (eqb (l % 2) 1) n 1 * cond (leb 2 l) (n * n) 1 ≡ n ^ l
+cond-most : {n : ℕ} (t : Bool) → n ≤ 64 → cond t n 1 ≤ 64
+cond-most true h = h
+cond-most false h = omega arith
+
+-- the square of n from 2 on, and n once more where l is odd
+product : (n l : ℕ) → l ≤ 3 → cond (leb 2 l) n 1 * cond (leb 2 l) n 1 * cond (eqb (l % 2) 1) n 1 ≡ n ^ l
 product n zero h = sym (pow-zero n)
-product n (suc zero) h = mul-one n ∙ power-one n
-product n (suc (suc zero)) h = one-mul (n * n) ∙ power-two n
-product n (suc (suc (suc zero))) h = sym (mul-assoc n n n) ∙ power-three n
+product n (suc zero) h = one-mul n ∙ power-one n
+product n (suc (suc zero)) h = mul-one (n * n) ∙ power-two n
+product n (suc (suc (suc zero))) h = power-three n
 product n (suc (suc (suc (suc l)))) h = let z : ⊥ = omega arith in absurd z
 
--- x and y are the two factors that it found
-module _ (n l : ℕ) (a : 1 ≤ n) (b : n ≤ 64) (d : l ≤ 3) where
-  pub square-fits : Fits w64 (n * n)
-  square-fits = omega (arith, mul-le-mul b b)
+-- x is the root and y the factor that it found
+module _ (n l : ℕ) (a : 1 ≤ n) (b : n ≤ 64) (d : l ≤ 3) (x : ℕ) (ex : x ≡ cond (leb 2 l) n 1) where
+  pub square-fits : Fits w64 (x * x)
+  square-fits = let h : x ≤ 64 = rw ex (cond-most (leb 2 l) b) in omega (arith, mul-le-mul h h)
 
-  module _ (x y : ℕ) (ex : x ≡ cond (eqb (l % 2) 1) n 1) (ey : y ≡ cond (leb 2 l) (n * n) 1) where
-    pub power-made : x * y ≡ powerOf n l
+  module _ (y : ℕ) (ey : y ≡ cond (eqb (l % 2) 1) n 1) where
+    pub power-made : x * x * y ≡ powerOf n l
     power-made = rw (ex, ey) (product n l d ∙ sym (power-within n l a b d))
 
-    pub power-fits : Fits w64 (x * y)
+    pub power-fits : Fits w64 (x * x * y)
     power-fits = omega (arith, power-made, power-within n l a b d, pow-small n l b (omega arith))
 
 -- ---- the number of servers
 
-pub count-within : (s : Shape) → 2 ≤ s .n → s .n ≤ 64 → s .k ≤ 3 → serverCount s ≡ serversOf s
+pub count-within : (s : Shape) → 2 ≤ s .n → s .n ≤ 64 → s .k ≤ 3 → s .m ≤ s .n → serverCount s ≡ serversOf s
 unfolding serverCount serversOf
-count-within s a b d = ap (λ (x : ℕ). s .n * x) (power-within (s .n) (s .k) (omega arith) b d) ∙ sym (pow-succ' (s .n) (s .k))
+count-within s a b d f = rw (le-leb (s .m) (s .n) f, power-within (s .n) (s .k) (omega arith) b d)
 
 pub count-servers : {s : Shape} → Valid s → serverCount s ≡ serversOf s
-count-servers {s} v = count-within s (v .two) (v .ports) (v .levels)
+count-servers {s} v = count-within s (v .two) (v .ports) (v .levels) (v .most)
+
+pub count-none : (s : Shape) → s .n < s .m → 0 ≡ serverCount s
+unfolding serverCount
+count-none s h = rw (lt-leb (s .m) (s .n) h)
 
 -- p is the power that the program found
-pub count-fits : (s : Shape) (p : ℕ) → p ≡ powerOf (s .n) (s .k) → Fits w64 (s .n * p)
-count-fits s p e =
-    ⊎-elim
-    (λ h. let q : p ≤ 16777216 = omega (arith, power-within (s .n) (s .k) (h .0) (h .1) (h .2), pow-small (s .n) (s .k) (h .1) (omega arith)) in omega (arith, mul-le-mul (h .1) q))
-    (λ z. let q : s .n * p ≡ 0 = ap (λ (x : ℕ). s .n * x) (e ∙ sym z) ∙ mul-zero (s .n) in omega arith)
-    (power-cases (s .n) (s .k))
+module _ (s : Shape) (h : s .m ≤ s .n) (p : ℕ) (e : p ≡ powerOf (s .n) (s .k)) where
+  pub count-fits : Fits w64 (s .m * p)
+  count-fits =
+      ⊎-elim
+      (λ g. let q : p ≤ 16777216 = omega (arith, power-within (s .n) (s .k) (g .0) (g .1) (g .2), pow-small (s .n) (s .k) (g .1) (omega arith)) in omega (arith, mul-le-mul (le-trans h (g .1)) q))
+      (λ z. let q : s .m * p ≡ 0 = ap (λ (x : ℕ). s .m * x) (e ∙ sym z) ∙ mul-zero (s .m) in omega arith)
+      (power-cases (s .n) (s .k))
 
-pub count-made : (s : Shape) (p : ℕ) → p ≡ powerOf (s .n) (s .k) → s .n * p ≡ serverCount s
-unfolding serverCount
-count-made s p e = ap (λ (x : ℕ). s .n * x) e
+  pub count-made : s .m * p ≡ serverCount s
+  unfolding serverCount
+  count-made = rw (le-leb (s .m) (s .n) h, ← e)

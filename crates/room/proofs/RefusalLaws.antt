@@ -1,5 +1,5 @@
 -- Laws of refusals: which test refuses, and what no refusal means.
-use Prim.Native.Nat.{ℕ, zero, suc, _+_, _*_, _≤_, _<_, suc-le-suc}
+use Prim.Native.Nat.{ℕ, zero, suc, _+_, _≤_, _<_, suc-le-suc}
 use mathlib.Core.Path.{_≡_, refl, sym, ap, _∙_}
 use mathlib.Core.Bool.{Bool, true, false, not, _&&_}
 use mathlib.Core.List.{List, [], _∷_}
@@ -8,13 +8,12 @@ use native.Mathlib.Omega.{arith}
 use native.Mathlib.Nat.{add-zero, zero-add, add-suc, suc-add, le-of-suc-le-suc}
 use lib.ListN.{length, getD, drop, drop-of-length-le}
 use lib.Seq.{drop-cons}
+use native.Mathlib.Decide.{decLe}
 use lib.Dec.{ltb, leb, eqb}
-use mir.Syntax.{w64}
-use mir.Val.{Fits}
-use borrow.Author.Tests.{lt-ltb, le-ltb, le-leb, lt-leb, ltb-true, leb-true, eqb-false, ne-eqb, not-true}
+use borrow.Author.Tests.{lt-ltb, le-ltb, le-leb, lt-leb, ltb-true, leb-true, eqb-true, eqb-false, eq-eqb, ne-eqb, not-true}
 use Rattle.lists.proofs.ListLaws.{both-held}
 use Rattle.refusals.specs.Refusals.{_or-else_, _unless_}
-use Rattle.refusals.proofs.ChainLaws.{or-else-zero, chain-goes, test-held}
+use Rattle.refusals.proofs.ChainLaws.{or-else-zero, or-else-passed, chain-stops, chain-goes, test-held}
 use Rattle.room.specs.declared.Shape.{Shape}
 use Rattle.room.specs.Shapes.{serversOf, bound, serverCount, Valid, Server, Ends, Link, Value}
 use Rattle.room.specs.Refusals.{shapeRefusal, levelRefusal, serverRefusal, pairRefusal, endsRefusal, linkRefusal, valueRefusal, placeBound, placesFit, placesRefusal}
@@ -26,12 +25,16 @@ pub valid-of : (s : Shape) → shapeRefusal s ≡ 0 → Valid s
 unfolding shapeRefusal
 valid-of s e =
     let x = or-else-zero _ (3 unless leb (serversOf s) 4096) e in
-    let y = or-else-zero (1 unless (leb 2 (s .n) && leb (s .n) 64)) (2 unless leb (s .k) 3) (x .0) in
+    let w = or-else-zero _ (26 unless (leb 2 (s .m) && leb (s .m) (s .n))) (x .0) in
+    let y = or-else-zero (1 unless (leb 2 (s .n) && leb (s .n) 64)) (2 unless leb (s .k) 3) (w .0) in
     let n = both-held (leb 2 (s .n)) (leb (s .n) 64) (test-held _ 0 (y .0)) in
+    let m = both-held (leb 2 (s .m)) (leb (s .m) (s .n)) (test-held _ 25 (w .1)) in
     record {
       two = leb-true 2 (s .n) (n .0);
       ports = leb-true (s .n) 64 (n .1);
       levels = leb-true (s .k) 3 (test-held _ 1 (y .1));
+      some = leb-true 2 (s .m) (m .0);
+      most = leb-true (s .m) (s .n) (m .1);
       small = leb-true (serversOf s) 4096 (test-held _ 2 (x .1));
     }
 
@@ -47,13 +50,32 @@ pub many-levels : (s : Shape) → 2 ≤ s .n → s .n ≤ 64 → 3 < s .k → 2 
 unfolding shapeRefusal _or-else_
 many-levels s a b d = simp (le-leb, lt-leb)
 
-pub many-servers : (s : Shape) → 2 ≤ s .n → s .n ≤ 64 → s .k ≤ 3 → 4096 < serversOf s → 3 ≡ shapeRefusal s
+pub little-fill : (s : Shape) → 2 ≤ s .n → s .n ≤ 64 → s .k ≤ 3 → s .m < 2 → 26 ≡ shapeRefusal s
 unfolding shapeRefusal _or-else_
-many-servers s a b d e = simp (le-leb, lt-leb)
+little-fill s a b d e = simp (le-leb, lt-leb)
+
+pub much-fill : (s : Shape) → 2 ≤ s .n → s .n ≤ 64 → s .k ≤ 3 → 2 ≤ s .m → s .n < s .m → 26 ≡ shapeRefusal s
+unfolding shapeRefusal _or-else_
+much-fill s a b d e f = simp (le-leb, lt-leb)
+
+pub many-servers : (s : Shape) → 2 ≤ s .n → s .n ≤ 64 → s .k ≤ 3 → 2 ≤ s .m → s .m ≤ s .n → 4096 < serversOf s → 3 ≡ shapeRefusal s
+unfolding shapeRefusal _or-else_
+many-servers s a b d f g e = simp (le-leb, lt-leb)
 
 pub valid-none : {s : Shape} → Valid s → 0 ≡ shapeRefusal s
 unfolding shapeRefusal _or-else_
-valid-none {s} v = simp (le-leb 2 (s .n) (v .two), le-leb (s .n) 64 (v .ports), le-leb (s .k) 3 (v .levels), le-leb (serversOf s) 4096 (v .small))
+valid-none {s} v = simp (le-leb 2 (s .n) (v .two), le-leb (s .n) 64 (v .ports), le-leb (s .k) 3 (v .levels), le-leb 2 (s .m) (v .some), le-leb (s .m) (s .n) (v .most), le-leb (serversOf s) 4096 (v .small))
+
+-- in a full room 26 refuses nothing: the tests are those of two numbers
+pub full-refusal : (s : Shape) → s .m ≡ s .n → shapeRefusal s ≡ (1 unless (leb 2 (s .n) && leb (s .n) 64) or-else 2 unless leb (s .k) 3 or-else 3 unless leb (serversOf s) 4096)
+unfolding shapeRefusal
+full-refusal s full =
+    ap (λ (x : ℕ). x or-else 3 unless leb (serversOf s) 4096)
+    (or-else-passed _ (26 unless (leb 2 (s .m) && leb (s .m) (s .n)))
+    (λ z.
+    let p = test-held _ 0 (or-else-zero (1 unless (leb 2 (s .n) && leb (s .n) 64)) (2 unless leb (s .k) 3) z .0) in
+    let two = leb-true 2 (s .n) (both-held (leb 2 (s .n)) (leb (s .n) 64) p .0) in
+    rw (le-leb 2 (s .m) (omega arith), le-leb (s .m) (s .n) (omega arith))))
 
 -- ---- servers, links, values: no refusal, and there is one; there is one, and no refusal
 
@@ -117,12 +139,53 @@ value-none {s} {a} {l} {v} h = chain-goes _ _ _ _ (link-none (h .link)) refl (si
 
 -- ---- as the program tests: r is what it found of the tests before, x the number of servers that it counted
 
-module _ (s : Shape) (some : 2 ≤ s .n) (few : s .n ≤ 64) (low : s .k ≤ 3) (x : ℕ) (e : x ≡ serverCount s) where
-  pub count-many : 4096 < x → 3 ≡ shapeRefusal s
-  count-many h = let n = count-within s some few low in many-servers s some few low (omega arith)
+-- a shape that fails a test of a room is no room's
+module _ (s : Shape) where
+  no-room : (Valid s → ⊥) → false ≡ eqb (shapeRefusal s) 0
+  no-room h = sym (ne-eqb (shapeRefusal s) 0 (λ e. h (valid-of s e)))
 
-  pub count-fine : x ≤ 4096 → 0 ≡ shapeRefusal s
-  count-fine h = let n = count-within s some few low in valid-none (record { two = some; ports = few; levels = low; small = omega arith })
+  fails : (x y : ℕ) → y < x → (Valid s → x ≤ y) → leb x y ≡ eqb (shapeRefusal s) 0
+  fails x y h v = lt-leb x y h ∙ no-room (λ r. let f = v r in omega arith)
+
+  pub ports-fail : 64 < s .n → leb (s .n) 64 ≡ eqb (shapeRefusal s) 0
+  ports-fail h = fails (s .n) 64 h (λ v. v .ports)
+
+  pub levels-fail : 3 < s .k → leb (s .k) 3 ≡ eqb (shapeRefusal s) 0
+  levels-fail h = fails (s .k) 3 h (λ v. v .levels)
+
+  pub some-fail : s .m < 2 → leb 2 (s .m) ≡ eqb (shapeRefusal s) 0
+  some-fail h = fails 2 (s .m) h (λ v. v .some)
+
+  pub most-fail : s .n < s .m → leb (s .m) (s .n) ≡ eqb (shapeRefusal s) 0
+  most-fail h = fails (s .m) (s .n) h (λ v. v .most)
+
+module _ (s : Shape) (few : s .n ≤ 64) (low : s .k ≤ 3) (some : 2 ≤ s .m) (most : s .m ≤ s .n) where
+  -- the last test decides
+  pub room-counted : (x : ℕ) → x ≡ serverCount s → leb x 4096 ≡ eqb (shapeRefusal s) 0
+  room-counted x e =
+      let two : 2 ≤ s .n = omega arith in
+      let n = count-within s two few low most in
+      elim (decLe x 4096) [
+        | yes h ↦ le-leb x 4096 h ∙ sym (eq-eqb (shapeRefusal s) 0 (sym (valid-none (record { two = two; ports = few; levels = low; some = some; most = most; small = omega arith }))))
+        | no h ↦ lt-leb x 4096 (omega arith) ∙ no-room s (λ v. omega (arith, v .small))
+      ]
+
+  -- no room, and no other test has failed
+  pub past-servers : eqb (shapeRefusal s) 0 ≡ false → 3 ≡ shapeRefusal s
+  past-servers e =
+      let two : 2 ≤ s .n = omega arith in
+      elim (decLe (serversOf s) 4096) [
+        | yes h ↦ absurd (eqb-false (shapeRefusal s) 0 e (sym (valid-none (record { two = two; ports = few; levels = low; some = some; most = most; small = h }))))
+        | no h ↦ many-servers s two few low some most (omega arith)
+      ]
+
+-- t is what it found of whether there is such a room
+module _ (s : Shape) (t : Bool) (e : t ≡ eqb (shapeRefusal s) 0) where
+  pub room-there : t ≡ true → 0 ≡ shapeRefusal s
+  room-there h = sym (eqb-true (shapeRefusal s) 0 (sym e ∙ h))
+
+  pub room-not : t ≡ false → eqb (shapeRefusal s) 0 ≡ false
+  room-not h = sym e ∙ h
 
 pub counted : (s : Shape) (r x : ℕ) → r ≡ shapeRefusal s → r ≡ 0 → x ≡ serverCount s → x ≡ serversOf s
 counted s r x e z f = f ∙ count-servers (valid-of s (sym e ∙ z))
@@ -140,6 +203,51 @@ module _ (s : Shape) (a b r x : ℕ) (e : r ≡ serverRefusal s a) (z : r ≡ 0)
 
   pub second-failed : x ≤ b → 4 ≡ pairRefusal s a b
   second-failed h = second 4 (rw (le-ltb b x h))
+
+-- two ends, of x servers: the tests in one go
+abbrev pub endsFit : ℕ → ℕ → ℕ → Bool
+endsFit x a d = ltb a x && (ltb d x && not (eqb a d))
+
+module _ (x a d : ℕ) where
+  pub source-fails : x ≤ a → ltb a x ≡ endsFit x a d
+  source-fails h = rw (le-ltb a x h)
+
+  pub destination-fails : a < x → x ≤ d → ltb d x ≡ endsFit x a d
+  destination-fails f h = rw (lt-ltb a x f, le-ltb d x h)
+
+  pub both-fit : a < x → d < x → not (eqb a d) ≡ endsFit x a d
+  both-fit f h = rw (lt-ltb a x f, lt-ltb d x h)
+
+module _ (s : Shape) (a d r : ℕ) (e : r ≡ shapeRefusal s) where
+  pub shape-stops : (r ≡ 0 → ⊥) → r ≡ endsRefusal s a d
+  unfolding endsRefusal pairRefusal serverRefusal
+  shape-stops n = chain-stops r _ _ (chain-stops r _ _ (chain-stops r _ _ e n) n) n
+
+  -- t is what it found of the tests in one go
+  module _ (z : r ≡ 0) (x : ℕ) (f : x ≡ serverCount s) (t : Bool) (g : t ≡ endsFit x a d) where
+    valid : Valid s
+    valid = valid-of s (sym e ∙ z)
+
+    pub ends-there : t ≡ true → 0 ≡ endsRefusal s a d
+    ends-there h =
+        let n = count-servers valid in
+        let p = both-held (ltb a x) _ (sym g ∙ h) in
+        let q = both-held (ltb d x) _ (p .1) in
+        let below = ltb-true a x (p .0) in
+        let under = ltb-true d x (q .0) in
+        ends-none (record {
+          source = record { valid = valid; below = omega arith };
+          destination = record { valid = valid; below = omega arith };
+          differ = eqb-false a d (not-true _ (q .1));
+        })
+
+    pub ends-same : t ≡ false → (q : ℕ) → q ≡ pairRefusal s a d → q ≡ 0 → 5 ≡ endsRefusal s a d
+    unfolding endsRefusal
+    ends-same h q u w =
+        let n = count-servers valid in
+        let p = pair-of s a d (sym u ∙ w) in
+        let i = both-fit x a d (omega (arith, p .0 .below)) (omega (arith, p .1 .below)) in
+        chain-goes q _ _ 5 u w (rw (i ∙ sym g ∙ h))
 
 module _ (s : Shape) (a l r : ℕ) (e : r ≡ serverRefusal s a) (z : r ≡ 0) where
   level-tested : (y : ℕ) → y ≡ 20 unless leb l (s .k) → y ≡ linkRefusal s a l
@@ -159,16 +267,6 @@ module _ (s : Shape) (a b r : ℕ) (e : r ≡ pairRefusal s a b) (z : r ≡ 0) w
 
   pub pair-second : serverRefusal s b ≡ 0
   pair-second = sym (server-none (pair-of s a b (sym e ∙ z) .1))
-
-module _ (s : Shape) (a l r : ℕ) (e : r ≡ linkRefusal s a l) (z : r ≡ 0) where
-  pub link-server : serverRefusal s a ≡ 0
-  link-server = sym (server-none (link-of s a l (sym e ∙ z) .server))
-
-  pub link-low : l < 4
-  link-low = let h = link-of s a l (sym e ∙ z) in omega (arith, h .level, h .server .valid .levels)
-
-  pub link-fits : Fits w64 (l * 8)
-  link-fits = omega (arith, link-low)
 
 -- ---- four places
 

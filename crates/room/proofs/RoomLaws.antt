@@ -7,9 +7,9 @@ use mathlib.Core.List.{List, [], _∷_, _++_}
 use native.Mathlib.Numerals.{add-one}
 use native.Mathlib.Omega.{arith}
 use native.Mathlib.Decide.{decLe, decLt, ℕ-discrete}
-use native.Mathlib.Nat.{one-le-pow, div-le-self, pow-suc, le-refl, mul-div-cancel, le-of-suc-le-suc, add-zero, zero-add, add-suc, suc-add}
+use native.Mathlib.Nat.{mod-eq-of-lt, pow-le-pow-right, one-le-pow, div-le-self, pow-suc, pow-succ', le-refl, mul-comm, mul-assoc, mul-le-mul-right, mul-div-cancel, div-le-of-le-mul, le-of-suc-le-suc, add-zero, zero-add, add-suc, suc-add}
 use lib.ListN.{length, getD, set, take, drop, replicate, length-set, length-take, drop-of-length-le, List·getD-eq-default}
-use lib.Seq.{getD-set-same, getD-set-other, set-getD, set-append-left, ext-getD, length-take-le, drop-cons, getD-take}
+use lib.Seq.{getD-set-same, getD-set-other, set-getD, ext-getD, length-take-le, drop-cons, getD-take}
 use lib.Dec.{leb, lit<}
 use lib.Arith.{lt-one}
 use borrow.Author.Tests.{le-leb, lt-leb, eq-eqb, ne-eqb}
@@ -20,30 +20,41 @@ use Rattle.room.specs.Digits.{digitsOf, addressOf, strike, differFrom, B
 use Rattle.room.specs.Shapes.{serversOf, bound, Valid, Server, Link, Value}
 use Rattle.room.specs.Addresses.{digits, digit, withDigit, switchOf, switchesAt, differing, Written, Beside, Neighbours}
 use Rattle.room.specs.Refusals.{placeBound}
-use Rattle.room.proofs.DigitLaws.{length-digits, digits-below, address-digits, digits-address, address-lt, address-injective, strike-keeps, strike-same, strike-agree, length-strike, set-keeps, digit-closed, with-closed, strike-closed, padded-digits, address-padded}
+use Rattle.room.proofs.DigitLaws.{rest-lt, power-one, length-digits, digits-below, address-digits, digits-address, address-lt, address-top, address-injective, strike-above, strike-keeps, strike-same, strike-agree, length-strike, digit-closed, digit-top, with-closed, strike-closed, padded-digits, address-padded}
 use Rattle.room.proofs.RefusalLaws.{Places}
 
 -- ---- the bound of a level, and the number of servers
 
-pub bound-le : {s : Shape} → Valid s → (l : ℕ) → bound s l ≤ s .n
+pub bound-top : (s : Shape) → bound s (s .k) ≡ s .m
 unfolding bound
-bound-le {s} v l = le-refl (s .n)
+bound-top s = rw (eq-eqb (s .k) (s .k) refl)
+
+pub bound-other : (s : Shape) (l : ℕ) → l ≢ s .k → bound s l ≡ s .n
+unfolding bound
+bound-other s l h = rw (ne-eqb l (s .k) h)
+
+-- what holds of m at the top and of n elsewhere holds of every bound
+pub bound-either : (s : Shape) (P : ℕ → Type 0) → P (s .m) → P (s .n) → (l : ℕ) → P (bound s l)
+bound-either s P top other l =
+    elim (ℕ-discrete l (s .k)) [ yes e ↦ rw (e, bound-top s) top | no e ↦ rw (bound-other s l e) other ]
+
+pub bound-le : {s : Shape} → Valid s → (l : ℕ) → bound s l ≤ s .n
+bound-le {s} v l = bound-either s (λ (b : ℕ). b ≤ s .n) (v .most) (le-refl (s .n)) l
 
 -- every digit has two values or more
 pub bound-two : {s : Shape} → Valid s → (l : ℕ) → 2 ≤ bound s l
-unfolding bound
-bound-two v l = v .two
+bound-two {s} v l = bound-either s (λ (b : ℕ). 2 ≤ b) (v .some) (v .two) l
 
 pub positive : {s : Shape} → Valid s → 0 < s .n
 positive v = omega arith
 
-pub servers-power : (s : Shape) → s .n ^ (s .k + 1) ≡ serversOf s
+pub servers-are : (s : Shape) → serversOf s ≡ s .m * s .n ^ s .k
 unfolding serversOf
-servers-power s = ap (λ (x : ℕ). s .n ^ x) (add-one (s .k))
+servers-are s = refl
 
 pub servers-le : {s : Shape} → Valid s → serversOf s ≤ s .n ^ suc (s .k)
 unfolding serversOf
-servers-le {s} v = le-refl (s .n ^ suc (s .k))
+servers-le {s} v = rw pow-succ' (mul-le-mul-right (s .n ^ s .k) (v .most))
 
 -- ---- digits and addresses
 
@@ -51,15 +62,28 @@ pub digits-long : (s : Shape) (a : ℕ) → length (digits s a) ≡ suc (s .k)
 unfolding digits
 digits-long s a = length-digits (s .n) (suc (s .k)) a
 
--- a digit is below its level's bound
-pub digit-lt : {s : Shape} {a : ℕ} → Server s a → (l : ℕ) → l ≤ s .k → digit s l a < bound s l
-unfolding digit digits bound
-digit-lt {s} {a} h l p =
-    digits-below (s .n) (suc (s .k)) a (positive (h .valid)) .at l (rw (length-digits (s .n) (suc (s .k)) a) (omega arith))
+-- digits below the base, the top one below m, are below their bounds
+pub written-of : {s : Shape} {ds : List ℕ} → length ds ≡ suc (s .k) → Below (s .n) ds → getD ds (s .k) 0 < s .m → Written s ds
+written-of {s} {ds} e b h =
+    record {
+      long = e;
+      small = λ l p.
+          elim (ℕ-discrete l (s .k)) [ yes q ↦ rw (q, bound-top s) h | no q ↦ rw (bound-other s l q) (b .at l (omega arith)) ];
+    }
+
+pub written-top : {s : Shape} {ds : List ℕ} → Written s ds → getD ds (s .k) 0 < s .m
+written-top {s} {ds} w = rw (bound-top s) at (w .small (s .k) (le-refl (s .k)))
 
 pub written-digits : {s : Shape} {a : ℕ} → Server s a → Written s (digits s a)
+unfolding digits serversOf
+written-digits {s} {a} h =
+    let p = positive (h .valid) in
+    written-of (digits-long s a) (digits-below (s .n) (suc (s .k)) a p) (digit-top (s .n) (s .k) (s .m) a p (h .below))
+
+-- a digit is below its level's bound
+pub digit-lt : {s : Shape} {a : ℕ} → Server s a → (l : ℕ) → l ≤ s .k → digit s l a < bound s l
 unfolding digit
-written-digits {s} {a} h = record { long = digits-long s a; small = digit-lt h }
+digit-lt h l p = written-digits h .small l p
 
 -- digits that are below their bounds are below the base
 pub written-below : {s : Shape} {ds : List ℕ} → Valid s → Written s ds → Below (s .n) ds
@@ -81,7 +105,8 @@ write-back {s} {ds} v w =
 -- the address of digits is a server
 pub written-server : {s : Shape} {ds : List ℕ} → Valid s → Written s ds → Server s (addressOf (s .n) ds)
 unfolding serversOf
-written-server {s} {ds} v w = record { valid = v; below = rw (← w .long) (address-lt (s .n) ds (written-below v w)) }
+written-server {s} {ds} v w =
+    record { valid = v; below = address-top (s .n) (s .k) (s .m) ds (w .long) (written-below v w) (written-top w) }
 
 -- equal digits, equal servers
 pub same-digits : {s : Shape} {a b : ℕ} → Server s a → Server s b → ((l : ℕ) → l ≤ s .k → digit s l a ≡ digit s l b) → a ≡ b
@@ -176,27 +201,57 @@ with-switch h = sym (same-switch (h .link .level) (with-beside h))
 
 -- ---- how many switches a level has
 
-pub switches-power : {s : Shape} → Valid s → (l : ℕ) → switchesAt s l ≡ s .n ^ s .k
-unfolding switchesAt serversOf bound
-switches-power {s} v l = rw pow-suc (mul-div-cancel (s .n ^ s .k) (positive v))
+-- n^k at the top level
+pub switches-top : {s : Shape} → Valid s → switchesAt s (s .k) ≡ s .n ^ s .k
+unfolding switchesAt serversOf
+switches-top {s} v = rw (bound-top s, mul-comm (s .m) (s .n ^ s .k)) (mul-div-cancel (s .n ^ s .k) (omega (arith, v .some)))
+
+-- m*n^(k-1) at each level below
+pub switches-below : {s : Shape} → Valid s → (l j : ℕ) → l ≤ j → s .k ≡ suc j → switchesAt s l ≡ s .m * s .n ^ j
+unfolding switchesAt serversOf
+switches-below {s} v l j h e =
+    rw (bound-other s l (λ q. omega arith), e, pow-suc, ← mul-assoc (s .m) (s .n ^ j) (s .n)) (mul-div-cancel (s .m * s .n ^ j) (positive v))
+
+-- the digits that name a switch: some number below that of the switches of its level
+struck-lt : {s : Shape} {l : ℕ} (ds : List ℕ) → Valid s → Written s ds → l ≤ s .k → addressOf (s .n) (strike l ds) < switchesAt s l
+struck-lt {s} {l} ds v w h = elim (ℕ-discrete l (s .k)) [ yes e ↦ top e | no e ↦ below (s .k - 1) (omega arith) (omega arith) ]
+  where
+    q : l < length ds
+    q = omega (arith, w .long)
+
+    long : length (strike l ds) ≡ s .k
+    long = omega (arith, length-strike l ds q, w .long)
+
+    small : Below (s .n) (strike l ds)
+    small = strike-keeps (s .n) l ds (written-below v w) q
+
+    top : l ≡ s .k → addressOf (s .n) (strike l ds) < switchesAt s l
+    top e = omega (arith, ap (switchesAt s) e, switches-top v, ap (λ (x : ℕ). s .n ^ x) long, address-lt (s .n) (strike l ds) small)
+
+    below : (j : ℕ) → l ≤ j → s .k ≡ suc j → addressOf (s .n) (strike l ds) < switchesAt s l
+    below j b e =
+        let m : getD ds (suc j) 0 < s .m = rw (← e) (written-top w) in
+        rw (switches-below v l j b e)
+        (address-top (s .n) j (s .m) (strike l ds) (long ∙ e) small (rw (strike-above l ds j b) m))
 
 -- a switch's number is below the number of switches of its level
 pub switch-lt : {s : Shape} {a l : ℕ} → Link s a l → switchOf s l a < switchesAt s l
 unfolding switchOf
-switch-lt {s} {a} {l} h =
-    let v = h .server .valid in
-    let q : l < length (digits s a) = rw digits-long (omega arith) in
-    let e : length (strike l (digits s a)) ≡ s .k = omega (arith, length-strike l (digits s a) q, digits-long s a) in
-    omega (
-      arith,
-      switches-power v l,
-      ap (λ (x : ℕ). s .n ^ x) e,
-      address-lt (s .n) (strike l (digits s a)) (strike-keeps (s .n) l (digits s a) (written-below v (written-digits (h .server))) q),
-    )
+switch-lt {s} {a} {l} h = struck-lt (digits s a) (h .server .valid) (written-digits (h .server)) (h .level)
+
+-- a level never has more than n^k switches: no bound is below m
+pub switches-le : {s : Shape} → Valid s → (l : ℕ) → switchesAt s l ≤ s .n ^ s .k
+unfolding switchesAt serversOf
+switches-le {s} v l =
+    let b = bound-either s (λ (b : ℕ). s .m ≤ b) (le-refl (s .m)) (v .most) l in
+    div-le-of-le-mul (bound s l) (mul-le-mul-right (s .n ^ s .k) b)
+
+pub switches-small : {s : Shape} → Valid s → (l : ℕ) → switchesAt s l ≤ 4096
+unfolding switchesAt
+switches-small {s} v l = omega (arith, div-le-self (serversOf s) (bound s l), v .small)
 
 pub switch-small : {s : Shape} {a l : ℕ} → Link s a l → switchOf s l a < 4096
-unfolding switchesAt
-switch-small {s} {a} {l} h = omega (arith, switch-lt h, div-le-self (serversOf s) (bound s l), h .server .valid .small)
+switch-small {s} {a} {l} h = omega (arith, switch-lt h, switches-small (h .server .valid) l)
 
 -- ---- neighbours
 
@@ -293,10 +348,18 @@ neighbours-exactly {s} {a} {b} ha hb l = (there, back)
 
 -- ---- four places
 
-pub digits-four : {s : Shape} {a : ℕ} → Server s a → digitsOf (s .n) 4 a ≡ filled 4 (digits s a)
-unfolding digits
+-- the highest of four has no digit above it: it is the quotient itself
+pub digits-four : {s : Shape} {a : ℕ} → Server s a → (a % s .n ∷ a / s .n % s .n ∷ a / s .n / s .n % s .n ∷ a / s .n / s .n / s .n ∷ []) ≡ filled 4 (digits s a)
+unfolding digits digitsOf
 digits-four {s} {a} h =
-    padded-digits (s .n) (suc (s .k)) a (positive (h .valid)) (omega (arith, h .valid .levels)) (omega (arith, h .below, servers-le (h .valid)))
+    let n = s .n in
+    let p = positive (h .valid) in
+    let w : a < n ^ suc (s .k) = omega (arith, h .below, servers-le (h .valid)) in
+    let four : n ^ suc (s .k) ≤ n ^ 4 = pow-le-pow-right p (omega (arith, h .valid .levels)) in
+    let top : a / n / n / n < n ^ 1 = rest-lt n 1 (a / n / n) p (rest-lt n 2 (a / n) p (rest-lt n 3 a p (omega arith))) in
+    let q : a / n / n / n < n = omega (arith, power-one n) in
+    ap (λ (x : ℕ). a % n ∷ a / n % n ∷ a / n / n % n ∷ x ∷ []) (sym (mod-eq-of-lt q))
+    ∙ padded-digits n (suc (s .k)) a p (omega (arith, h .valid .levels)) w
 
 pub place-digit : (s : Shape) (a l : ℕ) → getD (filled 4 (digits s a)) l 0 ≡ digit s l a
 unfolding digit
@@ -314,20 +377,6 @@ below-padded n ds m p b =
 pub padded-below : {s : Shape} {ds : List ℕ} → Valid s → Written s ds → Below (s .n) (filled 4 ds)
 unfolding filled
 padded-below {s} {ds} v w = below-padded (s .n) ds (4 - length ds) (positive v) (written-below v w)
-
--- setting a digit among four places
-pub with-four : {s : Shape} {a l v : ℕ} → Value s a l v → addressOf (s .n) (set (filled 4 (digits s a)) l v) ≡ withDigit s l v a
-unfolding withDigit filled
-with-four {s} {a} {l} {v} h =
-    let q : l < length (digits s a) = rw digits-long (omega arith) in
-    let z = 4 - length (digits s a) in
-    ap (addressOf (s .n)) (set-append-left (digits s a) (replicate z 0) l v q)
-    ∙ address-padded (s .n) (set (digits s a) l v) z
-
-pub with-four-below : {s : Shape} {a l v : ℕ} → Value s a l v → Below (s .n) (set (filled 4 (digits s a)) l v)
-with-four-below {s} {a} {l} {v} h =
-    set-keeps (s .n) l v (filled 4 (digits s a)) (padded-below (h .link .server .valid) (written-digits (h .link .server)))
-    (omega (arith, h .value, bound-le (h .link .server .valid) l))
 
 strike-padded : (l : ℕ) (ds zs : List ℕ) → l < length ds → strike l (ds ++ zs) ≡ strike l ds ++ zs
 strike-padded l [] zs h = let z : ⊥ = omega arith in absurd z

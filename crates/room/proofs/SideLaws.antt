@@ -5,15 +5,19 @@ use mathlib.Core.Path.{_≡_, refl, sym, ap, _∙_}
 use mathlib.Core.Logic.{_≢_}
 use native.Mathlib.Omega.{arith}
 use native.Mathlib.Nat.{mod-add-div, mod-le, mul-add, mul-comm, mul-le-mul-left}
+use mir.Syntax.{w64}
+use mir.Val.{Fits}
 use borrow.Author.Tests.{ne-eqb}
 use Rattle.room.specs.declared.Shape.{Shape}
 use Rattle.room.specs.declared.Side.{Side}
 use Rattle.room.specs.Shapes.{serversOf, bound, powerOf, Link, Value}
-use Rattle.room.specs.Addresses.{withDigit}
+use Rattle.room.specs.Addresses.{digit, withDigit}
+use Rattle.room.specs.Refusals.{linkRefusal, valueRefusal}
 use Rattle.room.specs.Sides.{sideBy, sideOf}
 use Rattle.room.proofs.DigitLaws.{pow-small}
 use Rattle.room.proofs.PowerLaws.{power-within, power-some}
-use Rattle.room.proofs.RoomLaws.{bound-le, bound-two, with-closed-at, with-server, weight-pos}
+use Rattle.room.proofs.RefusalLaws.{link-of, value-of}
+use Rattle.room.proofs.RoomLaws.{positive, bound-le, bound-two, with-closed-at, with-server, digit-closed-at, weight-pos}
 
 -- what is taken off is there
 pub own-le : (a p n : ℕ) → a / p % n * p ≤ a
@@ -84,3 +88,29 @@ module _ {s : Shape} {a l : ℕ} (h : Link s a l) where
       let f = side-reach 0 z in
       let w = with-server (record { link = h; value = z }) .below in
       (omega arith, omega (arith, side-stride, pow-small (s .n) l (v .ports) (omega (arith, h .level, v .levels))))
+
+-- ---- the digit of a link, and a digit set, as the program finds them: p is the power, x the side that it found
+
+module _ (s : Shape) (a l p : ℕ) (e : p ≡ powerOf (s .n) l) (z : linkRefusal s a l ≡ 0) where
+  weight : p ≡ s .n ^ l
+  weight = e ∙ power-link (link-of s a l z)
+
+  pub link-weight : 0 < p
+  link-weight = weight-pos (link-of s a l z .server .valid) l p weight
+
+  pub link-ports : 0 < s .n
+  link-ports = positive (link-of s a l z .server .valid)
+
+  pub digit-found : a / p % s .n ≡ digit s l a
+  digit-found = digit-closed-at (link-of s a l z) p weight
+
+module _ (s : Shape) (a l v : ℕ) (z : valueRefusal s a l v ≡ 0) (x : Side) (e : x ≡ sideOf s a l) where
+  pub set-found : x .first + v * x .stride ≡ withDigit s l v a
+  set-found =
+      let h = value-of s a l v z in ap (λ (y : Side). y .first + v * y .stride) e ∙ side-reach (h .link) v (h .value)
+
+  pub set-fits : Fits w64 (x .first + v * x .stride)
+  set-fits = let w = with-server (value-of s a l v z) in omega (arith, set-found, w .below, w .valid .small)
+
+  pub stride-fits : Fits w64 (v * x .stride)
+  stride-fits = omega (arith, set-fits)

@@ -1,6 +1,8 @@
 -- Each public function's contract determines its answer: whatever meets it on some arguments is the one answer to them.
 use mathlib.Core.Path.{_∙_, sym}
 use Rattle.refusals.specs.Determined.{Determined}
+use Rattle.room.proofs.Shape.new.Reads as new
+use Rattle.room.proofs.Shape.new.Kinds as new-kinds
 use Rattle.room.proofs.Shape.full.Reads as full
 use Rattle.room.proofs.Shape.full.Kinds as full-kinds
 use Rattle.room.proofs.tests.shape_refusal.Reads as shape-refusal
@@ -41,6 +43,9 @@ use Rattle.room.proofs.neighbours.neighbour_of.Reads as neighbour-of
 use Rattle.room.proofs.neighbours.neighbour_of.Kinds as neighbour-of-kinds
 use Rattle.room.proofs.neighbours.level_between.Reads as level-between
 use Rattle.room.proofs.neighbours.level_between.Kinds as level-between-kinds
+
+pub new-unique : Determined 0 new-kinds.ps new-kinds.r new.Post
+new-unique κs a x y s t e f = e ∙ sym f
 
 pub full-unique : Determined 0 full-kinds.ps full-kinds.r full.Post
 full-unique κs a x y s t e f = e ∙ sym f

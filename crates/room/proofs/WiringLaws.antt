@@ -1,27 +1,31 @@
 -- Laws of switches and ports: the server at a port has that switch and that digit, and every server is at one port of its switch.
-use Prim.Native.Nat.{ℕ, zero, suc, _+_, _*_, _/_, _%_, _^_, _≤_, _<_, suc-le-suc, zero-le}
-use mathlib.Core.Path.{_≡_, refl, sym, ap, ap₂, _∙_}
-use mathlib.Core.Bool.{Bool, true, false, _&&_}
+use Prim.Native.Nat.{ℕ, zero, suc, _+_, _-_, _*_, _/_, _%_, _^_, _≤_, _<_, suc-le-suc, zero-le}
+use mathlib.Core.Path.{_≡_, refl, sym, ap, ap₂, _∙_, subst}
+use mathlib.Core.Logic.{_≢_}
+use mathlib.Core.Bool.{Bool, true, false, _&&_, true≢false}
 use mathlib.Core.List.{List, [], _∷_}
 use native.Mathlib.Omega.{arith}
-use native.Mathlib.Nat.{le-of-suc-le-suc, one-le-pow, mul-le-mul-left, mul-comm}
+use native.Mathlib.Decide.{ℕ-discrete, decLe}
+use native.Mathlib.Nat.{le-of-suc-le-suc, one-le-pow, mul-le-mul, mul-le-mul-left, mul-le-mul-right, mul-comm, mul-assoc, suc-mul, pow-suc}
 use lib.ListN.{length, getD, take, drop}
 use lib.Seq.{length-take-le}
-use lib.Dec.{ltb}
-use borrow.Author.Tests.{ltb-true, lt-ltb, le-ltb}
+use lib.Dec.{ltb, leb}
+use mir.Syntax.{w64}
+use mir.Val.{Fits}
+use borrow.Author.Tests.{ltb-true, lt-ltb, le-ltb, leb-true, le-leb, lt-leb}
 use Rattle.lists.proofs.ListLaws.{both-held}
 use Rattle.refusals.specs.Refusals.{_unless_}
-use Rattle.refusals.proofs.ChainLaws.{or-else-zero, chain-goes, test-held}
+use Rattle.refusals.proofs.ChainLaws.{or-else-zero, chain-stops, chain-goes, test-held}
 use Rattle.room.specs.declared.Shape.{Shape}
 use Rattle.room.specs.Digits.{digitsOf, addressOf, strike, Below}
-use Rattle.room.specs.Shapes.{bound, powerOf, serverCount, Valid, Server, Link}
+use Rattle.room.specs.Shapes.{serversOf, bound, powerOf, serverCount, Valid, Server, Link}
 use Rattle.room.specs.Addresses.{digits, digit, switchOf, switchesAt, Written}
 use Rattle.room.specs.Refusals.{shapeRefusal, levelRefusal}
 use Rattle.room.specs.Wiring.{putIn, serverAt, Port, portRefusal}
-use Rattle.room.proofs.DigitLaws.{length-digits, digits-below, address-digits, digits-address, address-append, address-take, address-drop, length-strike, strike-keeps}
+use Rattle.room.proofs.DigitLaws.{length-digits, digits-below, address-digits, digits-address, address-append, address-take, address-drop, digit-top, length-strike, strike-keeps}
 use Rattle.room.proofs.PowerLaws.{power-within, count-servers}
 use Rattle.room.proofs.RefusalLaws.{valid-of, level-of, level-none}
-use Rattle.room.proofs.RoomLaws.{positive, bound-two, digits-long, digit-lt, written-digits, written-below, read-back, write-back, written-server, switches-power, switch-lt}
+use Rattle.room.proofs.RoomLaws.{positive, bound-two, digits-long, digit-lt, written-digits, written-below, read-back, write-back, written-of, written-server, servers-are, bound-le, bound-top, bound-other, switches-le, switches-top, switches-below, switches-small, switch-lt}
 
 -- ---- a list with a place put in
 
@@ -39,6 +43,12 @@ put-at : (l x : ℕ) (ds : List ℕ) → l ≤ length ds → getD (putIn l x ds)
 put-at zero x ds h = refl
 put-at (suc l) x [] h = let z : ⊥ = omega arith in absurd z
 put-at (suc l) x (d ∷ ds) h = put-at l x ds (le-of-suc-le-suc h)
+
+put-above : (l x : ℕ) (ds : List ℕ) (i : ℕ) → l ≤ i → getD (putIn l x ds) (suc i) 0 ≡ getD ds i 0
+put-above zero x ds i h = refl
+put-above (suc l) x [] i h = refl
+put-above (suc l) x (d ∷ ds) zero h = let z : ⊥ = omega arith in absurd z
+put-above (suc l) x (d ∷ ds) (suc i) h = put-above l x ds i (le-of-suc-le-suc h)
 
 put-long : (l x : ℕ) (ds : List ℕ) → length (putIn l x ds) ≡ suc (length ds)
 put-long zero x ds = refl
@@ -84,7 +94,7 @@ no-port s l w v e h = chain-goes _ _ _ _ e refl (both (ltb w (switchesAt s l)) (
 
 module _ {s : Shape} {l w v : ℕ} (h : Port s l w v) where
   fits : w < s .n ^ s .k
-  fits = omega (arith, h .switch, switches-power (h .valid) l)
+  fits = omega (arith, h .switch, switches-le (h .valid) l)
 
   places : List ℕ
   places = digitsOf (s .n) (s .k) w
@@ -96,13 +106,29 @@ module _ {s : Shape} {l w v : ℕ} (h : Port s l w v) where
   level-in : l ≤ length places
   level-in = omega (arith, places-long, h .level)
 
+  -- the top digit is the port, or the top digit of the switch
+  top : getD (putIn l v places) (s .k) 0 < s .m
+  unfolding places
+  top = elim (ℕ-discrete l (s .k)) [ yes e ↦ own e | no e ↦ kept (s .k - 1) (omega (arith, h .level)) (omega (arith, h .level)) ]
+    where
+      own : l ≡ s .k → getD (putIn l v places) (s .k) 0 < s .m
+      own e =
+          subst (λ (x : ℕ). getD (putIn l v places) x 0 < s .m) e
+          (omega (arith, put-at l v places level-in, h .port, ap (bound s) e, bound-top s))
+
+      kept : (j : ℕ) → l ≤ j → s .k ≡ suc j → getD (putIn l v places) (s .k) 0 < s .m
+      kept j b e =
+          let f : w < s .m * s .n ^ j = omega (arith, h .switch, switches-below (h .valid) l j b e) in
+          rw (e, put-above l v (digitsOf (s .n) (suc j) w) j b) (digit-top (s .n) j (s .m) w (positive (h .valid)) f)
+
   written : Written s (putIn l v places)
-  unfolding places bound
+  unfolding places
   written =
-      record {
-        long = put-long l v places ∙ ap suc places-long;
-        small = λ i q. put-small (s .n) l v places (h .port) (digits-below (s .n) (s .k) w (positive (h .valid))) i (omega (arith, put-long l v places, places-long));
-      }
+      written-of (put-long l v places ∙ ap suc places-long)
+      (record {
+        at = put-small (s .n) l v places (omega (arith, h .port, bound-le (h .valid) l)) (digits-below (s .n) (s .k) w (positive (h .valid)));
+      })
+      top
 
   -- it is a server
   pub port-server : Server s (serverAt s l w v)
@@ -196,3 +222,98 @@ module _ (s : Shape) (l x y : ℕ) (z : shapeRefusal s ≡ 0) (f : y ≡ bound s
   pub switches-made : x ≡ serverCount s → x / y ≡ switchesAt s l
   unfolding switchesAt
   switches-made e = ap₂ (λ (u v : ℕ). u / v) (e ∙ count-servers (valid-of s z)) f
+
+-- ---- a port as the program tests it: r is what it found of the shape, x the number of servers, b the bound of the level, t of the tests in one go
+
+-- the switches of a level, times the servers at each, are all servers
+switches-times : {s : Shape} {l : ℕ} → Valid s → l ≤ s .k → switchesAt s l * bound s l ≡ serversOf s
+switches-times {s} {l} v h = elim (ℕ-discrete l (s .k)) [ yes e ↦ top e | no e ↦ below (s .k - 1) (omega arith) (omega arith) e ]
+  where
+    top : l ≡ s .k → switchesAt s l * bound s l ≡ serversOf s
+    top e =
+        ap₂ (λ (x y : ℕ). x * y) (ap (switchesAt s) e ∙ switches-top v) (ap (bound s) e ∙ bound-top s)
+        ∙ mul-comm (s .n ^ s .k) (s .m)
+        ∙ sym (servers-are s)
+
+    below : (j : ℕ) → l ≤ j → s .k ≡ suc j → l ≢ s .k → switchesAt s l * bound s l ≡ serversOf s
+    below j b e n =
+        ap₂ (λ (x y : ℕ). x * y) (switches-below v l j b e) (bound-other s l n)
+        ∙ mul-assoc (s .m) (s .n ^ j) (s .n)
+        ∙ ap (λ (x : ℕ). s .m * x) (sym (pow-suc (s .n) j) ∙ ap (λ (x : ℕ). s .n ^ x) (sym e))
+        ∙ sym (servers-are s)
+
+-- the tests in one go
+abbrev pub portFits : ℕ → ℕ → ℕ → ℕ → ℕ → ℕ → Bool
+portFits k l w x v b = ltb w 4096 && (ltb (w * b) x && (ltb v b && leb l k))
+
+module _ (k l w x v b : ℕ) where
+  pub many-fails : 4096 ≤ w → ltb w 4096 ≡ portFits k l w x v b
+  many-fails h = rw (le-ltb w 4096 h)
+
+  module _ (few : w < 4096) where
+    pub product-fits : b ≤ 64 → Fits w64 (w * b)
+    product-fits q = let g : w ≤ 4096 = omega arith in omega (arith, mul-le-mul g q)
+
+    pub switch-fails : x ≤ w * b → ltb (w * b) x ≡ portFits k l w x v b
+    switch-fails h = rw (lt-ltb w 4096 few, le-ltb (w * b) x h)
+
+    module _ (some : w * b < x) where
+      pub port-fails : b ≤ v → ltb v b ≡ portFits k l w x v b
+      port-fails h = rw (lt-ltb w 4096 few, lt-ltb (w * b) x some, le-ltb v b h)
+
+      pub level-decides : v < b → leb l k ≡ portFits k l w x v b
+      level-decides h = rw (lt-ltb w 4096 few, lt-ltb (w * b) x some, lt-ltb v b h)
+
+module _ (s : Shape) (l w v r : ℕ) (e : r ≡ shapeRefusal s) where
+  pub room-stops : (r ≡ 0 → ⊥) → r ≡ portRefusal s l w v
+  unfolding portRefusal levelRefusal
+  room-stops n = chain-stops r _ _ (chain-stops r _ _ e n) n
+
+  module _ (z : r ≡ 0) where
+    pub level-stops : s .k < l → 20 ≡ portRefusal s l w v
+    unfolding portRefusal levelRefusal
+    level-stops h = chain-stops 20 _ _ (chain-goes r _ _ 20 e z (rw (lt-leb l (s .k) h))) (λ q. omega arith)
+
+    valid : Valid s
+    valid = valid-of s (sym e ∙ z)
+
+    module _ (b : ℕ) (f : b ≡ bound s l) where
+      pub bound-few : b ≤ 64
+      bound-few = omega (arith, bound-le valid l, valid .ports)
+
+      module _ (x : ℕ) (n : x ≡ serverCount s) (t : Bool) (g : t ≡ portFits (s .k) l w x v b) where
+        -- all switches of the level hold all servers
+        all-servers : l ≤ s .k → switchesAt s l * b ≡ x
+        all-servers h = ap (λ (y : ℕ). switchesAt s l * y) f ∙ switches-times valid h ∙ sym (n ∙ count-servers valid)
+
+        pub port-there : t ≡ true → 0 ≡ portRefusal s l w v
+        port-there h =
+            let p = both-held (ltb w 4096) _ (sym g ∙ h) in
+            let q = both-held (ltb (w * b) x) _ (p .1) in
+            let o = both-held (ltb v b) (leb l (s .k)) (q .1) in
+            let level = leb-true l (s .k) (o .1) in
+            let port = ltb-true v b (o .0) in
+            let all = all-servers level in
+            let below = ltb-true (w * b) x (q .0) in
+            elim (decLe (switchesAt s l) w) [
+              | yes m ↦ let i = mul-le-mul-right b m in let c : ⊥ = omega arith in absurd c
+              | no m ↦ port-none (record { valid = valid; level = level; switch = omega arith; port = omega arith })
+            ]
+
+        pub port-not : t ≡ false → l ≤ s .k → 21 ≡ portRefusal s l w v
+        port-not h k =
+            let level = level-none valid k in
+            let all = all-servers k in
+            elim (decLe (suc w) (switchesAt s l)) [
+              | no a ↦ no-switch s l w v level (omega arith)
+              | yes a ↦
+                  elim (decLe (suc v) b) [
+                    | no c ↦ no-port s l w v level (omega arith)
+                    | yes c ↦
+                        let i = mul-le-mul-right b a in
+                        let j = suc-mul w b in
+                        let few : w < 4096 = omega (arith, switches-small valid l) in
+                        let some : w * b < x = omega arith in
+                        absurd (true≢false (sym (le-leb l (s .k) k) ∙ level-decides (s .k) l w x v b few some c ∙ sym g ∙ h))
+                  ]
+            ]

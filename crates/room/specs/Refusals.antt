@@ -10,10 +10,13 @@ use Rattle.room.specs.Shapes.{serversOf, bound}
 -- a shape
 unfoldable pub shapeRefusal : Shape → ℕ
 shapeRefusal s =
-    1 unless (leb 2 (s .n) && leb (s .n) 64) or-else 2 unless leb (s .k) 3 or-else 3 unless leb (serversOf s) 4096
+    1 unless (leb 2 (s .n) && leb (s .n) 64)
+    or-else 2 unless leb (s .k) 3
+    or-else 26 unless (leb 2 (s .m) && leb (s .m) (s .n))
+    or-else 3 unless leb (serversOf s) 4096
 
 abbrev pub shapeNumbers : List ℕ
-shapeNumbers = 1 ∷ 2 ∷ 3 ∷ []
+shapeNumbers = 1 ∷ 2 ∷ 26 ∷ 3 ∷ []
 
 -- a level of a room
 unfoldable pub levelRefusal : Shape → ℕ → ℕ

@@ -28,7 +28,7 @@ pub record Port (s : Shape) (l w v : ℕ) : Type 0 where
   pub switch : w < switchesAt s l
   pub port : v < bound s l
 
--- 1 to 3, 20; 21 where the level has no such switch, or the switch no such port
+-- those of a level; 21 where the level has no such switch, or the switch no such port
 unfoldable pub portRefusal : Shape → ℕ → ℕ → ℕ → ℕ
 portRefusal s l w v = levelRefusal s l or-else 21 unless (ltb w (switchesAt s l) && ltb v (bound s l))
 

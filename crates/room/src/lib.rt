@@ -1,7 +1,7 @@
 // The room: shapes, addresses and switches of a BCube room. Every call takes every input: it
 // answers, or refuses by number.
 ghost use mathlib.Core.Path.{_≡_};
-ghost use Rattle.room.specs.Shapes.{fullRoom};
+ghost use Rattle.room.specs.Shapes.{shapeOf, fullRoom};
 use refusals::Refusal;
 // addresses.rt: the digits of an address, and the address of digits
 mod addresses;
@@ -42,10 +42,11 @@ pub use tests::shape_refusal;
 pub use wiring::server_at;
 pub use wiring::switches_of;
 
-// The shape of a room: n ports a switch, and levels 0 to k.
+// The shape of a room: n ports a switch, levels 0 to k, and m values of digit k.
 pub struct Shape {
     pub n: usize,
     pub k: usize,
+    pub m: usize,
 }
 
 impl Shape {
@@ -58,17 +59,28 @@ impl Shape {
     // The highest level of a room is at most this.
     pub const MOST_LEVEL: usize = 3;
 
+    // Digit k has at least this many values.
+    pub const LEAST_FILL: usize = 2;
+
     // A room has at most this many servers.
     pub const MOST_SERVERS: usize = 4096;
 
     // A route has at most this many hops.
     pub const MOST_HOPS: usize = 8;
 
-    // The full room of n ports and levels 0 to k; no call takes it for granted that there is one.
+    // The room of n ports and levels 0 to k whose digit k has m values; no call takes it for granted
+    // that there is one.
+    pub fn new(n: usize, k: usize, m: usize) -> Self
+        ensures { λ r. ⌜ r ≡ shapeOf n k m ⌝ }
+    {
+        Self { n, k, m }
+    }
+
+    // The full room of n ports and levels 0 to k: digit k has n values, as the others.
     pub fn full(n: usize, k: usize) -> Self
         ensures { λ r. ⌜ r ≡ fullRoom n k ⌝ }
     {
-        Self { n, k }
+        Self { n, k, m: n }
     }
 }
 

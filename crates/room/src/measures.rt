@@ -10,7 +10,7 @@ use crate::shapes::server_count;
 use crate::tests::level_refusal;
 use crate::tests::shape_refusal;
 
-// N, the number of servers. Refusals 1, 2, 3.
+// N, the number of servers. Refusals 1, 2, 26, 3.
 pub fn servers_of(shape: Shape) -> Number
     ensures { λ r. ⌜ r ≡ serversAnswer shape ⌝ }
 {
@@ -21,7 +21,7 @@ pub fn servers_of(shape: Shape) -> Number
     a_number(server_count(shape))
 }
 
-// The bound of the digit of a level: the digit runs below it. Refusals 1, 2, 3, 20.
+// The bound of the digit of a level: the digit runs below it. Refusals 1, 2, 26, 3, 20.
 pub fn bound_of(shape: Shape, level: usize) -> Number
     ensures { λ r. ⌜ r ≡ boundAnswer shape level ⌝ }
 {

@@ -8,26 +8,25 @@ use crate::Between;
 use crate::Number;
 use crate::Shape;
 use crate::addresses::digit_places;
-use crate::addresses::number_of;
 use crate::answers::a_number;
 use crate::answers::no_between;
 use crate::answers::no_number;
+use crate::sides::side_of;
 use crate::tests::pair_refusal;
 use crate::tests::value_refusal;
 use refusals::Refusal;
 
-// The server with one digit set to a value, the others as they are.
+// The server with one digit set to a value, the others as they are: one of the servers at its switch.
 fn with_digit(shape: Shape, server: usize, level: usize, value: usize) -> usize
     requires { ⌜ valueRefusal shape server level value ≡ 0 ⌝ }
     ensures { λ r. ⌜ r ≡ withDigit shape level value server ⌝ }
 {
-    let mut places = digit_places(shape, server);
-    places[level] = value;
-    number_of(shape.n, places)
+    let side = side_of(shape, server, level);
+    side.first + value * side.stride
 }
 
 // The neighbour of a server at a level that has the value there; the server itself where the value
-// is its own. Refusals 1, 2, 3, 4, 20, 21.
+// is its own. Refusals 1, 2, 26, 3, 4, 20, 21.
 pub fn neighbour_of(shape: Shape, server: usize, level: usize, value: usize) -> Number
     ensures { λ r. ⌜ r ≡ neighbourAnswer shape server level value ⌝ }
 {
@@ -62,7 +61,7 @@ fn only_place(one: [usize; 4], other: [usize; 4]) -> Between
     }
 }
 
-// Whether two servers are neighbours, and at which level. Refusals 1, 2, 3, 4.
+// Whether two servers are neighbours, and at which level. Refusals 1, 2, 26, 3, 4.
 pub fn level_between(shape: Shape, one: usize, other: usize) -> Between
     ensures { λ r. ⌜ r ≡ betweenAnswer shape one other ⌝ }
 {

@@ -28,20 +28,26 @@ pub fn power(n: usize, level: usize) -> usize
     if Shape::MOST_LEVEL < level {
         return 0;
     }
-    factor(n, level % 2 == 1) * factor(n * n, 2 <= level)
+    let root = factor(n, 2 <= level);
+    root * root * factor(n, level % 2 == 1)
 }
 
-// The number of servers, where n is among 1 to 64 and k is at most 3; else 0.
+// The number of servers, where n is among 1 to 64, k is at most 3 and m is at most n; else 0.
 pub fn server_count(shape: Shape) -> usize
     ensures { λ r. ⌜ r ≡ serverCount shape ⌝ }
 {
-    shape.n * power(shape.n, shape.k)
+    if shape.n < shape.m {
+        return 0;
+    }
+    shape.m * power(shape.n, shape.k)
 }
 
 // The digit of a level is below this.
 pub fn digit_bound(shape: Shape, level: usize) -> usize
     ensures { λ r. ⌜ r ≡ bound shape level ⌝ }
 {
-    let _level = level;
+    if level == shape.k {
+        return shape.m;
+    }
     shape.n
 }

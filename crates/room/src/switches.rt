@@ -40,7 +40,7 @@ fn switch_number(shape: Shape, server: usize, level: usize) -> usize
     number_of(shape.n, struck(places, level))
 }
 
-// The switch of a server at a level: the level and the switch's number there. Refusals 1, 2, 3, 4, 20.
+// The switch of a server at a level: the level and the switch's number there. Refusals 1, 2, 26, 3, 4, 20.
 pub fn switch_of(shape: Shape, server: usize, level: usize) -> Switch
     ensures { λ r. ⌜ r ≡ switchAnswer shape server level ⌝ }
 {

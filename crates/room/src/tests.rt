@@ -1,35 +1,58 @@
-// What is tested before a call answers: each function gives the number of the first refusal that
+// What is tested before a call answers: each `.._refusal` gives the number of the first refusal that
 // applies, or 0.
 ghost use mathlib.Core.Path.{_≡_};
-ghost use mathlib.Core.Bool.{true, false};
+ghost use mathlib.Core.Bool.{true, false, not, _&&_};
+ghost use lib.Dec.{ltb, eqb};
 ghost use Rattle.room.specs.Refusals.{shapeRefusal, levelRefusal, serverRefusal, pairRefusal, endsRefusal, linkRefusal, valueRefusal, placeBound, placesFit, placesRefusal};
 use crate::Shape;
 use crate::shapes::digit_bound;
 use crate::shapes::server_count;
 use refusals::Refusal;
 
-// The first of 1, 2, 3 that refuses a shape, or 0.
+// Whether a room can have this shape, in one go: where the fill is right, so is the least n.
+fn is_room(shape: Shape) -> bool
+    ensures { λ r. ⌜ r ≡ eqb (shapeRefusal shape) 0 ⌝ }
+{
+    shape.n <= Shape::MOST_PORTS
+        && (shape.k <= Shape::MOST_LEVEL
+            && (Shape::LEAST_FILL <= shape.m
+                && (shape.m <= shape.n && server_count(shape) <= Shape::MOST_SERVERS)))
+}
+
+// The first of 1, 2, 26, 3 that refuses a shape that no room has.
+fn first_refusal(shape: Shape) -> usize
+    requires { ⌜ eqb (shapeRefusal shape) 0 ≡ false ⌝ }
+    ensures { λ r. ⌜ r ≡ shapeRefusal shape ⌝ }
+{
+    if shape.n < Shape::FEWEST_PORTS {
+        return Refusal::PORTS;
+    }
+    if Shape::MOST_PORTS < shape.n {
+        return Refusal::PORTS;
+    }
+    if Shape::MOST_LEVEL < shape.k {
+        return Refusal::LEVELS;
+    }
+    if shape.m < Shape::LEAST_FILL {
+        return Refusal::FILL;
+    }
+    if shape.n < shape.m {
+        return Refusal::FILL;
+    }
+    Refusal::SERVERS
+}
+
+// The first of 1, 2, 26, 3 that refuses a shape, or 0.
 pub fn shape_refusal(shape: Shape) -> usize
     ensures { λ r. ⌜ r ≡ shapeRefusal shape ⌝ }
 {
-    let n = shape.n;
-    let k = shape.k;
-    if n < Shape::FEWEST_PORTS {
-        return Refusal::PORTS;
+    if is_room(shape) {
+        return 0;
     }
-    if Shape::MOST_PORTS < n {
-        return Refusal::PORTS;
-    }
-    if Shape::MOST_LEVEL < k {
-        return Refusal::LEVELS;
-    }
-    if Shape::MOST_SERVERS < server_count(shape) {
-        return Refusal::SERVERS;
-    }
-    0
+    first_refusal(shape)
 }
 
-// The first of 1, 2, 3, 20 that refuses a level of a room, or 0.
+// The first of 1, 2, 26, 3, 20 that refuses a level of a room, or 0.
 pub(crate) fn level_refusal(shape: Shape, level: usize) -> usize
     ensures { λ r. ⌜ r ≡ levelRefusal shape level ⌝ }
 {
@@ -43,7 +66,7 @@ pub(crate) fn level_refusal(shape: Shape, level: usize) -> usize
     Refusal::LEVEL
 }
 
-// The first of 1, 2, 3, 4 that refuses a server of a room, or 0.
+// The first of 1, 2, 26, 3, 4 that refuses a server of a room, or 0.
 pub fn server_refusal(shape: Shape, server: usize) -> usize
     ensures { λ r. ⌜ r ≡ serverRefusal shape server ⌝ }
 {
@@ -57,7 +80,7 @@ pub fn server_refusal(shape: Shape, server: usize) -> usize
     Refusal::ADDRESS
 }
 
-// The first of 1, 2, 3, 4 that refuses one of two servers of a room, or 0.
+// The first of 1, 2, 26, 3, 4 that refuses one of two servers of a room, or 0.
 pub fn pair_refusal(shape: Shape, one: usize, other: usize) -> usize
     ensures { λ r. ⌜ r ≡ pairRefusal shape one other ⌝ }
 {
@@ -71,21 +94,32 @@ pub fn pair_refusal(shape: Shape, one: usize, other: usize) -> usize
     Refusal::ADDRESS
 }
 
-// The first of 1, 2, 3, 4, 5 that refuses a source and a destination, or 0.
+// Whether two numbers are two of so many servers.
+fn are_ends(count: usize, source: usize, destination: usize) -> bool
+    ensures { λ r. ⌜ r ≡ (ltb source count && (ltb destination count && not (eqb source destination))) ⌝ }
+{
+    source < count && (destination < count && source != destination)
+}
+
+// The first of 1, 2, 26, 3, 4, 5 that refuses a source and a destination, or 0.
 pub fn ends_refusal(shape: Shape, source: usize, destination: usize) -> usize
     ensures { λ r. ⌜ r ≡ endsRefusal shape source destination ⌝ }
 {
-    let r = pair_refusal(shape, source, destination);
+    let r = shape_refusal(shape);
     if r != 0 {
         return r;
     }
-    if source == destination {
-        return Refusal::SAME_ENDS;
+    if are_ends(server_count(shape), source, destination) {
+        return 0;
     }
-    0
+    let q = pair_refusal(shape, source, destination);
+    if q != 0 {
+        return q;
+    }
+    Refusal::SAME_ENDS
 }
 
-// The first of 1, 2, 3, 4, 20 that refuses a link of a room, or 0.
+// The first of 1, 2, 26, 3, 4, 20 that refuses a link of a room, or 0.
 pub fn link_refusal(shape: Shape, server: usize, level: usize) -> usize
     ensures { λ r. ⌜ r ≡ linkRefusal shape server level ⌝ }
 {
@@ -99,7 +133,7 @@ pub fn link_refusal(shape: Shape, server: usize, level: usize) -> usize
     Refusal::LEVEL
 }
 
-// The first of 1, 2, 3, 4, 20, 21 that refuses a value for a digit of a server, or 0.
+// The first of 1, 2, 26, 3, 4, 20, 21 that refuses a value for a digit of a server, or 0.
 pub(crate) fn value_refusal(shape: Shape, server: usize, level: usize, value: usize) -> usize
     ensures { λ r. ⌜ r ≡ valueRefusal shape server level value ⌝ }
 {
@@ -139,7 +173,7 @@ fn places_fit(shape: Shape, places: [usize; 4]) -> bool
     true
 }
 
-// The first of 1, 2, 3, 21 that refuses the places of an address, or 0.
+// The first of 1, 2, 26, 3, 21 that refuses the places of an address, or 0.
 pub(crate) fn places_refusal(shape: Shape, places: [usize; 4]) -> usize
     ensures { λ r. ⌜ r ≡ placesRefusal shape places ⌝ }
 {

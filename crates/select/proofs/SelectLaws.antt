@@ -17,7 +17,7 @@ use Rattle.room.specs.Shapes.{Ends}
 use Rattle.room.specs.Refusals.{endsRefusal}
 use Rattle.room.proofs.RefusalLaws.{ends-none}
 use Rattle.links.specs.Table.{roomRefusal}
-use Rattle.refusals.proofs.NumberLaws.{one-le}
+use Rattle.refusals.proofs.NumberLaws.{one-not}
 use Rattle.links.proofs.NumberLaws.{room-numbers}
 use Rattle.links.proofs.TableLaws.{room-of, live-zeros}
 use Rattle.path.specs.Routes.{encode, RouteTo}
@@ -177,7 +177,7 @@ pub sixteen-only : (s : Shape) (t : List ℕ) (a d : ℕ) (r : Selection) → Se
 sixteen-only s t a d r h n =
     elim (ℕ-discrete (roomRefusal s t a d) 0) [
       | yes e ↦ e
-      | no e ↦ let z : ⊥ = omega (arith, ap (λ (x : Selection). x .refusal .number) (h .refused e), one-le 6 refl (room-numbers s t a d), n) in absurd z
+      | no e ↦ absurd (one-not 16 refl refl (room-numbers s t a d) (sym (ap (λ (x : Selection). x .refusal .number) (h .refused e)) ∙ n))
     ]
 
 none-sixteen : (s : Shape) (routes : List (List ℕ)) → selection s routes .refusal .number ≡ 16 → routes ≡ []

@@ -19,7 +19,7 @@ fn no_selection(refusal: usize) -> Selection
 }
 
 // The routes from one server to another for slots k down to 0, closed up: the built ones that no
-// failed link breaks, and alternates for the others. Refusals 1, 2, 3, 4, 5, 6, 16.
+// failed link breaks, and alternates for the others. Refusals 1, 2, 26, 3, 4, 5, 6, 16.
 pub fn select_routes(shape: Shape, table: &[u8], source: usize, destination: usize) -> Selection
     ensures { λ r. ⌜ Selecting shape (now (table .entry)) source destination r ⌝ }
 {

@@ -27,7 +27,7 @@ portAt e b = entry e b 6
 unfoldable pub flagAt : List ℕ → ℕ → ℕ
 flagAt e b = entry e b 7
 
--- what is refused before it is asked whether the packet has arrived: 1 to 3, 4, 17, 7
+-- what is refused before it is asked whether the packet has arrived: 1, 2, 26, 3, 4, 17, 7
 unfoldable pub givenRefusal : Shape → ℕ → ℕ → List ℕ → List ℕ → ℕ
 givenRefusal s a d bs e = pairRefusal s a d or-else 17 unless eqb (length e) 2048 or-else 7 unless eqb (length bs) 8
 

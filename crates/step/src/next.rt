@@ -14,7 +14,7 @@ fn stop(refusal: Refusal) -> Number
     Number { refusal, value: 0 }
 }
 
-// The next server, or 0 at the destination. Refusals 1, 2, 3, 4, 17, 7; away from the destination
+// The next server, or 0 at the destination. Refusals 1, 2, 26, 3, 4, 17, 7; away from the destination
 // 18, then 8, 9, 10, 19 at the hop.
 pub(crate) fn next_server(
     shape: Shape,

@@ -38,7 +38,7 @@ fn mac_at(table: &[u8], byte: u8) -> [u8; 6]
 }
 
 // One step of a packet for the destination, at the server here, whose neighbour table this is; the
-// index is the NHI. Refusals 1, 2, 3, 4, 17, 7; away from the destination 18, then 8, 9, 10, 19.
+// index is the NHI. Refusals 1, 2, 26, 3, 4, 17, 7; away from the destination 18, then 8, 9, 10, 19.
 pub fn step_once(
     shape: Shape,
     here: usize,

@@ -6,7 +6,7 @@ use refusals::Refusal;
 use room::Shape;
 use room::pair_refusal;
 
-// The first of 1, 2, 3, 4, 17, 7 that refuses what a step is given, or 0.
+// The first of 1, 2, 26, 3, 4, 17, 7 that refuses what a step is given, or 0.
 pub(crate) fn given_refusal(
     shape: Shape,
     here: usize,

@@ -277,7 +277,7 @@ of-accepted s t a d bs e h =
     ∙ ap (λ (ws : List Walked). firstOf (firstStop 1 ws) (firstPair 1 ws)) w
     ∙ ap₂ firstOf (none-stop s 1 (h .routes)) (clear-pair s 1 (h .routes) (record { pair = h .apart }))
 
--- where refusals 1 to 6 do not apply, checking accepts a list exactly when it is 1 to k + 1 arrays, each of them the
+-- where refusals 1, 2, 26 and 3 to 6 do not apply, checking accepts a list exactly when it is 1 to k + 1 arrays, each of them the
 -- encoding of a route over live links, every two parallel
 pub accept-exactly : (s : Shape) (t : List ℕ) (a d : ℕ) (bs : List ℕ) → roomRefusal s t a d ≡ 0 → (checkAnswer s t a d bs ≡ none) ↔ Accepted s t a d bs
 accept-exactly s t a d bs e = (accepted-of s t a d bs, of-accepted s t a d bs e)

@@ -7,7 +7,7 @@ use path::Walked;
 use refusals::Refusal;
 use room::Shape;
 
-// The first of 1, 2, 3, 4, 5, 6, 7 that refuses a list before it is walked, or 0.
+// The first of 1, 2, 26, 3, 4, 5, 6, 7 that refuses a list before it is walked, or 0.
 fn list_refusal(shape: Shape, table: &[u8], source: usize, destination: usize, list: &[u8]) -> usize
     ensures { λ r. ⌜ r ≡ listRefusal shape (now (table .entry)) source destination (now (list .entry)) ⌝ }
 {
@@ -62,8 +62,8 @@ fn check_arrays(
 }
 
 // Checks a list of arrays, one after another, as routes from source to destination over the live
-// links of the table: no refusal where it is accepted. Refusals 1 to 7; 8 to 14 at a route and hop; 15
-// at the later route of the first pair that is not parallel.
+// links of the table: no refusal where it is accepted. Refusals 1, 2, 26, 3 to 7; 8 to 14 at a route
+// and hop; 15 at the later route of the first pair that is not parallel.
 pub fn check_list(
     shape: Shape,
     table: &[u8],

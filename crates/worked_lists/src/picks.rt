@@ -93,3 +93,17 @@ pub(crate) fn picks() {
     let high = [4u8, 0, 0, 0, 0, 0, 0, 0, 0, 0, 0, 0, 0, 0, 0, 0];
     pick_row(shape, &high, 0, 7, b"\x03", b"");
 }
+
+// A half-filled room: a value of m is not usable, and the table of the full room is refused.
+pub(crate) fn half_filled() {
+    let shape = Shape::new(4, 1, 2);
+    let table = [0u8; 8];
+    let beyond = b"\x42\x03\x41\0\0\0\0\0";
+    let within = b"\x41\x03\0\0\0\0\0\0";
+    pick_row(shape, &table, 0, 7, beyond, within);
+    pick_row(shape, &table, 0, 7, within, beyond);
+    pick_row(shape, &table, 0, 7, beyond, beyond);
+    pick_row(shape, &[0; 16], 0, 7, within, within);
+    pick_row(shape, &table, 0, 8, within, within);
+    pick_row(Shape::new(4, 1, 1), &table, 8, 8, within, within);
+}

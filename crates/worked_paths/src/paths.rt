@@ -3,8 +3,7 @@ use path::Reading;
 use path::Writing;
 use room::Shape;
 
-fn read_row(n: usize, k: usize, source: usize, destination: usize, path: &[u8]) {
-    let shape = Shape::full(n, k);
+fn read_row(shape: Shape, source: usize, destination: usize, path: &[u8]) {
     print::question(b"read", shape);
     print::item(source);
     print::item(destination);
@@ -33,8 +32,7 @@ fn writing(answer: Writing) {
     print::end();
 }
 
-fn reverse_row(n: usize, k: usize, source: usize, destination: usize, path: &[u8]) {
-    let shape = Shape::full(n, k);
+fn reverse_row(shape: Shape, source: usize, destination: usize, path: &[u8]) {
     print::question(b"reverse", shape);
     print::item(source);
     print::item(destination);
@@ -42,8 +40,7 @@ fn reverse_row(n: usize, k: usize, source: usize, destination: usize, path: &[u8
     writing(path::reverse_path(shape, source, destination, path));
 }
 
-fn write_row(n: usize, k: usize, servers: &[usize]) {
-    let shape = Shape::full(n, k);
+fn write_row(shape: Shape, servers: &[usize]) {
     print::question(b"write", shape);
     print::all(servers);
     writing(path::write_path(shape, servers));
@@ -51,57 +48,104 @@ fn write_row(n: usize, k: usize, servers: &[usize]) {
 
 // The rows of the rules, and an array of zeros that is a route.
 pub(crate) fn readings() {
-    read_row(8, 3, 1, 521, b"\xc1\x41\0\0\0\0\0\0");
-    read_row(8, 3, 1, 521, b"\x81\x41\xc1\x80\0\0\0\0");
-    read_row(2, 0, 1, 0, b"\0\0\0\0\0\0\0\0");
-    read_row(2, 0, 0, 1, b"\0\0\0\0\0\0\0\0");
-    read_row(4, 1, 0, 3, b"\x01\x03\0\0\0\0\0\0");
-    read_row(4, 1, 0, 7, b"\x01\x42\x03\x41\0\0\0\0");
-    read_row(8, 3, 1, 521, b"\x08\0\0\0\0\0\0\0");
-    read_row(4, 1, 0, 3, b"\x80\0\0\0\0\0\0\0");
-    read_row(8, 3, 0, 512, b"\x01\x41\0\0\xc1\x40\0\0");
-    read_row(4, 0, 0, 3, b"\x03\0\0\0\0\0\0\0");
+    let eight = Shape::full(8, 3);
+    let four = Shape::full(4, 1);
+    let two = Shape::full(2, 0);
+    read_row(eight, 1, 521, b"\xc1\x41\0\0\0\0\0\0");
+    read_row(eight, 1, 521, b"\x81\x41\xc1\x80\0\0\0\0");
+    read_row(two, 1, 0, b"\0\0\0\0\0\0\0\0");
+    read_row(two, 0, 1, b"\0\0\0\0\0\0\0\0");
+    read_row(four, 0, 3, b"\x01\x03\0\0\0\0\0\0");
+    read_row(four, 0, 7, b"\x01\x42\x03\x41\0\0\0\0");
+    read_row(eight, 1, 521, b"\x08\0\0\0\0\0\0\0");
+    read_row(four, 0, 3, b"\x80\0\0\0\0\0\0\0");
+    read_row(eight, 0, 512, b"\x01\x41\0\0\xc1\x40\0\0");
+    read_row(Shape::full(4, 0), 0, 3, b"\x03\0\0\0\0\0\0\0");
 }
 
 // Every refusal that reading can give, in its order.
 pub(crate) fn refused_readings() {
-    read_row(9, 3, 0, 0, b"\0");
-    read_row(4, 1, 16, 16, b"\0");
-    read_row(4, 1, 0, 16, b"\0");
-    read_row(4, 1, 5, 5, b"\0");
-    read_row(4, 1, 0, 5, b"\0\0\0\0\0\0\0");
-    read_row(4, 1, 0, 5, b"\0\0\0\0\0\0\0\0\0");
-    read_row(4, 1, 0, 5, b"");
-    read_row(4, 1, 0, 5, b"\xff\0\0\0\0\0\0\0");
-    read_row(4, 1, 0, 5, b"\x44\0\0\0\0\0\0\0");
-    read_row(4, 1, 0, 5, b"\x40\0\0\0\0\0\0\0");
-    read_row(4, 1, 0, 5, b"\x41\x41\0\0\0\0\0\0");
-    read_row(4, 1, 0, 5, b"\x41\x40\0\0\0\0\0\0");
-    read_row(4, 1, 0, 5, b"\x41\x42\0\0\0\0\0\0");
-    read_row(4, 1, 0, 5, b"\x41\x01\x02\0\0\0\0\0");
-    read_row(4, 1, 0, 5, b"\x41\x01\0\0\0\0\0\x01");
-    read_row(8, 3, 0, 4095, b"\x01\x41\x81\xc1\x02\x42\x82\xc2");
-    read_row(8, 3, 0, 4095, b"\x01\x41\x81\xc1\x02\x42\x82\x83");
+    let eight = Shape::full(8, 3);
+    let four = Shape::full(4, 1);
+    read_row(Shape::full(9, 3), 0, 0, b"\0");
+    read_row(four, 16, 16, b"\0");
+    read_row(four, 0, 16, b"\0");
+    read_row(four, 5, 5, b"\0");
+    read_row(four, 0, 5, b"\0\0\0\0\0\0\0");
+    read_row(four, 0, 5, b"\0\0\0\0\0\0\0\0\0");
+    read_row(four, 0, 5, b"");
+    read_row(four, 0, 5, b"\xff\0\0\0\0\0\0\0");
+    read_row(four, 0, 5, b"\x44\0\0\0\0\0\0\0");
+    read_row(four, 0, 5, b"\x40\0\0\0\0\0\0\0");
+    read_row(four, 0, 5, b"\x41\x41\0\0\0\0\0\0");
+    read_row(four, 0, 5, b"\x41\x40\0\0\0\0\0\0");
+    read_row(four, 0, 5, b"\x41\x42\0\0\0\0\0\0");
+    read_row(four, 0, 5, b"\x41\x01\x02\0\0\0\0\0");
+    read_row(four, 0, 5, b"\x41\x01\0\0\0\0\0\x01");
+    read_row(eight, 0, 4095, b"\x01\x41\x81\xc1\x02\x42\x82\xc2");
+    read_row(eight, 0, 4095, b"\x01\x41\x81\xc1\x02\x42\x82\x83");
 }
 
 // A route from 1 to 521 and back, and every refusal of the writer.
 pub(crate) fn writings() {
-    reverse_row(8, 3, 1, 521, b"\xc1\x41\0\0\0\0\0\0");
-    reverse_row(8, 3, 521, 1, b"\x40\xc0\0\0\0\0\0\0");
-    reverse_row(2, 0, 1, 0, b"\0\0\0\0\0\0\0\0");
-    reverse_row(4, 1, 0, 3, b"\x01\x03\0\0\0\0\0\0");
-    reverse_row(4, 1, 0, 3, b"\x03\0\0");
-    write_row(8, 3, &[1, 513, 521]);
-    write_row(4, 1, &[0, 1, 9, 11, 7]);
-    write_row(2, 0, &[1, 0]);
-    write_row(65, 0, &[1]);
-    write_row(4, 1, &[1]);
-    write_row(4, 1, &[0, 1, 5, 6, 10, 11, 15, 12, 8, 9]);
-    write_row(4, 1, &[0, 99, 0]);
-    write_row(4, 1, &[0, 1, 0]);
-    write_row(4, 1, &[0, 1, 6]);
-    write_row(4, 1, &[0, 1, 1, 2]);
-    write_row(4, 1, &[0, 1, 5, 1, 2]);
-    write_row(4, 1, &[0, 1, 3]);
-    write_row(8, 3, &[0, 1, 9, 73, 585, 586, 594, 658, 1170]);
+    let eight = Shape::full(8, 3);
+    let four = Shape::full(4, 1);
+    let two = Shape::full(2, 0);
+    reverse_row(eight, 1, 521, b"\xc1\x41\0\0\0\0\0\0");
+    reverse_row(eight, 521, 1, b"\x40\xc0\0\0\0\0\0\0");
+    reverse_row(two, 1, 0, b"\0\0\0\0\0\0\0\0");
+    reverse_row(four, 0, 3, b"\x01\x03\0\0\0\0\0\0");
+    reverse_row(four, 0, 3, b"\x03\0\0");
+    write_row(eight, &[1, 513, 521]);
+    write_row(four, &[0, 1, 9, 11, 7]);
+    write_row(two, &[1, 0]);
+    write_row(Shape::full(65, 0), &[1]);
+    write_row(four, &[1]);
+    write_row(four, &[0, 1, 5, 6, 10, 11, 15, 12, 8, 9]);
+    write_row(four, &[0, 99, 0]);
+    write_row(four, &[0, 1, 0]);
+    write_row(four, &[0, 1, 6]);
+    write_row(four, &[0, 1, 1, 2]);
+    write_row(four, &[0, 1, 5, 1, 2]);
+    write_row(four, &[0, 1, 3]);
+    write_row(eight, &[0, 1, 9, 73, 585, 586, 594, 658, 1170]);
+}
+
+// A value at level k is below m, at the others below n, and every server is below m n^k.
+pub(crate) fn half_filled_readings() {
+    let half = Shape::new(4, 1, 2);
+    let pair = Shape::new(64, 0, 2);
+    read_row(half, 0, 3, b"\x42\x03\x40\0\0\0\0\0");
+    read_row(Shape::new(4, 1, 4), 0, 3, b"\x42\x03\x40\0\0\0\0\0");
+    read_row(half, 0, 3, b"\x41\x03\x40\0\0\0\0\0");
+    read_row(half, 0, 3, b"\x43\0\0\0\0\0\0\0");
+    read_row(half, 0, 3, b"\x44\0\0\0\0\0\0\0");
+    read_row(half, 0, 3, b"\x04\0\0\0\0\0\0\0");
+    read_row(half, 4, 7, b"\x02\x43\0\0\0\0\0\0");
+    read_row(half, 0, 7, b"\x41\x40\0\0\0\0\0\0");
+    read_row(half, 0, 8, b"\x42\0\0\0\0\0\0\0");
+    read_row(Shape::new(4, 1, 5), 16, 16, b"\0");
+    read_row(Shape::new(8, 3, 4), 1537, 1545, b"\xc0\x41\xc3\0\0\0\0\0");
+    read_row(Shape::new(8, 3, 4), 1537, 1545, b"\xc4\x41\xc3\0\0\0\0\0");
+    read_row(pair, 0, 1, b"\x01\0\0\0\0\0\0\0");
+    read_row(pair, 0, 1, b"\x02\x01\0\0\0\0\0\0");
+    read_row(pair, 0, 1, b"\x3f\x01\0\0\0\0\0\0");
+    read_row(pair, 0, 1, b"\x41\0\0\0\0\0\0\0");
+}
+
+// Routes over level k and back, and the edges of 4, 23 and 26.
+pub(crate) fn half_filled_writings() {
+    let half = Shape::new(4, 1, 2);
+    let eight = Shape::new(8, 3, 4);
+    reverse_row(half, 0, 3, b"\x41\x03\x40\0\0\0\0\0");
+    reverse_row(half, 3, 0, b"\x41\0\x40\0\0\0\0\0");
+    reverse_row(half, 0, 3, b"\x42\x03\x40\0\0\0\0\0");
+    reverse_row(eight, 1537, 1545, b"\xc0\x41\xc3\0\0\0\0\0");
+    reverse_row(Shape::new(4, 1, 5), 16, 16, b"\0");
+    write_row(half, &[0, 4, 7, 3]);
+    write_row(half, &[0, 8, 11, 3]);
+    write_row(eight, &[1537, 1, 9, 1545]);
+    write_row(eight, &[0, 1536, 1537, 2047]);
+    write_row(Shape::new(64, 0, 2), &[1, 0]);
+    write_row(Shape::new(8, 3, 1), &[1]);
 }

@@ -85,3 +85,23 @@ pub(crate) fn refusals() {
     failed_row(Shape::full(2, 0), &high, 2, 1);
     failed_row(Shape::full(2, 0), &high, 1, 0);
 }
+
+// A half-filled room's table has m n^k bytes; 6 for that of the full room, 26 before it, and the last server's links.
+pub(crate) fn half_filled() {
+    let shape = Shape::new(4, 1, 2);
+    let mut table = [0u8; 8];
+    mark_row(shape, &mut table, 7, 1);
+    mark_row(shape, &mut table, 7, 0);
+    failed_row(shape, &table, 7, 1);
+    clear_row(shape, &mut table, 7, 1);
+    mark_row(shape, &mut table, 8, 2);
+    mark_row(shape, &mut table, 7, 2);
+    let mut full = [0u8; 16];
+    mark_row(shape, &mut full, 7, 1);
+    clear_row(shape, &mut full, 7, 1);
+    failed_row(shape, &full, 7, 1);
+    mark_row(Shape::new(4, 1, 5), &mut full, 16, 2);
+    clear_row(Shape::new(4, 1, 5), &mut full, 16, 2);
+    failed_row(Shape::new(4, 1, 5), &full, 16, 2);
+    failed_row(Shape::new(64, 0, 2), &[1, 0], 0, 0);
+}

@@ -6,7 +6,11 @@ mod selections;
 
 fn main() {
     routes::built();
+    routes::half_filled();
     routes::pairs();
+    routes::half_filled_pairs();
     selections::sixteen();
     selections::far();
+    selections::half_filled();
+    selections::half_filled_deep();
 }

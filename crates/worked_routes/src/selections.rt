@@ -104,3 +104,40 @@ pub(crate) fn far() {
     select_row(wide, &some, 1, 25);
     select_row(wide, &some, 9, 17);
 }
+
+// Half-filled rooms of one level and of two: an alternate over level k keeps below m, so there may be none.
+pub(crate) fn half_filled() {
+    let half = Shape::new(4, 1, 2);
+    let healthy = [0u8; 8];
+    select_row(half, &healthy, 0, 7);
+    select_row(half, &healthy, 4, 7);
+    let dead = [0u8, 0, 0, 3, 0, 0, 0, 0];
+    select_row(half, &dead, 0, 7);
+    select_row(half, &dead, 0, 3);
+    select_row(half, &[0; 16], 0, 7);
+    select_row(half, &healthy, 0, 8);
+    select_row(Shape::new(4, 1, 5), &healthy, 8, 8);
+    let most = Shape::new(4, 1, 3);
+    let link = [0u8, 0, 0, 2, 0, 0, 0, 0, 0, 0, 0, 0];
+    select_row(most, &link, 11, 8);
+    let server = [0u8, 0, 0, 3, 0, 0, 0, 0, 0, 0, 0, 0];
+    select_row(most, &server, 0, 7);
+    let pair = Shape::new(64, 0, 2);
+    select_row(pair, &[0; 2], 1, 0);
+    select_row(pair, &[1, 0], 1, 0);
+}
+
+// Half-filled rooms of three levels and of four, each with a failed link or a dead server.
+pub(crate) fn half_filled_deep() {
+    let three = Shape::new(3, 2, 2);
+    let mut link = [0u8; 18];
+    link[12] = 1;
+    select_row(three, &link, 5, 3);
+    let mut servers = [0u8; 18];
+    servers[11] = 7;
+    servers[16] = 7;
+    select_row(three, &servers, 13, 15);
+    let mut server = [0u8; 54];
+    server[15] = 15;
+    select_row(Shape::new(3, 3, 2), &server, 39, 44);
+}

@@ -32,4 +32,8 @@ wrong-build =
       detour-to-value-below = clash (λ (y : Building). getD (y .routes .bytes) 8 0) refl;
       zero-array-left-out = clash (λ (y : Building). y .routes .count) refl;
       same-ends-built = clash (λ (y : Building). y .refusal .number) refl;
+      detour-mod-n = clash (λ (y : Building). getD (y .routes .bytes) 0 0) refl;
+      detour-mod-n-of-two = clash (λ (y : Building). getD (y .routes .bytes) 0 0) refl;
+      detour-mod-m = clash (λ (y : Building). getD (y .routes .bytes) 24 0) refl;
+      built-in-the-full-room = clash (λ (y : Building). y .refusal .number) refl;
     }

@@ -19,6 +19,10 @@ clash f n κ x = differ f n
 pub clash-left : {now left bs : List ℕ} (i : ℕ) → eqb (getD left i 0) (getD bs i 0) ≡ false → now ≡ left → now ≡ bs → ⊥
 clash-left i n p e = differ (λ (l : List ℕ). getD l i 0) n (sym p ∙ e)
 
+-- a result that is the answer a does not tell the number v where a does not
+pub tells : {R : Type 0} (f : R → ℕ) {r a : R} {v : ℕ} → eqb (f a) v ≡ false → r ≡ a → f r ≡ v → ⊥
+tells f {r} {a} {v} n p e = eqb-false (f a) v n (sym (ap f p) ∙ e)
+
 -- a truth value as a number
 abbrev pub bit : Bool → ℕ
 bit b = cond b 1 0

@@ -30,8 +30,11 @@ wrong-desk-line o =
       rest-not-ignored = clash (λ (y : Question). y .n) refl;
       newline-missed = clash (λ (y : Question). y .n) refl;
       newline-not-counted = clash (λ (y : Question). y .n) refl;
+      five-numbers-taken = clash (λ (y : Question). y .n) refl;
       zero-bytes-for-no-hops = clash (λ (y : Text). getD (y .bytes) 17 0) refl;
       hex-upper-case = clash (λ (y : Text). getD (y .bytes) 0 0) refl;
       lower-slots-first = clash (λ (y : Text). getD (y .bytes) 0 0) refl;
       refusal-is-input = clash (λ (y : Text). getD (y .bytes) 0 0) refl;
+      twenty-six-printed = clash (λ (y : Text). getD (y .bytes) 0 0) refl;
+      fill-before-ports = clash (λ (y : Text). getD (y .bytes) 8 0) refl;
     }

@@ -2,13 +2,15 @@
 use Prim.Native.Nat.{ℕ, zero, suc, _-_, _≤_, _<_}
 use mathlib.Core.Path.{_≡_, refl, sym, ap, _∙_, subst}
 use mathlib.Core.Logic.{_≢_, inl, inr}
-use mathlib.Core.Bool.{true}
+use mathlib.Core.Bool.{true, false}
 use mathlib.Core.List.{List, [], _∷_}
 use native.Mathlib.Omega.{arith}
+use native.Mathlib.Decide.{ℕ-discrete}
+use lib.Dec.{eqb}
 use lib.ListN.{length, getD, take}
 use Rattle.lists.specs.Lists.{filled, isIn, inTurn, middle}
 use Rattle.refusals.specs.declared.Refusal.{Refusal}
-use Rattle.refusals.specs.Refusals.{_or-else_}
+use Rattle.refusals.specs.Refusals.{plain, _or-else_}
 use Rattle.room.specs.declared.Shape.{Shape}
 use Rattle.room.specs.Shapes.{serversOf, bound, fullRoom}
 use Rattle.room.specs.Digits.{digitsOf, addressOf, differFrom}
@@ -42,7 +44,7 @@ use Rattle.driver.specs.declared.Room.{Room}
 use Rattle.driver.specs.declared.Answer.{Answer}
 use Rattle.driver.specs.declared.Stepped.{Stepped}
 use Rattle.driver.specs.Rooms.{held, roomOf, shapeIn}
-use Rattle.driver.specs.Words.{word, refusalIn, valueIn, betweenWord, askedWord}
+use Rattle.driver.specs.Words.{word, refusalIn, valueIn, left, betweenWord, askedWord}
 use Rattle.driver.specs.Packed.{bytesNumber, macNumber, stepWord, packed}
 use Rattle.driver.specs.Routes.{FoundWord, SelectedWord}
 use Rattle.driver.proofs.WordLaws.{refusal-back, value-back, left-given, left-lent}
@@ -53,7 +55,7 @@ use Rattle.wrong.specs.Driver.{Driver}
 use Rattle.wrong.proofs.Clash.{differ, clash, clash-left, bit}
 use Rattle.wrong.proofs.Routes.{Walks, walks}
 use Rattle.wrong.proofs.Finder.{no-route, beaten, fewest, no-refusal, some-hops}
-use Rattle.wrong.proofs.Select.{straight, one-route, slot-1-first}
+use Rattle.wrong.proofs.Select.{straight, first-walks, one-route, slot-1-first}
 
 -- the whole word of an answer
 abbrev said : Answer → ℕ
@@ -85,6 +87,19 @@ module _ {s : Shape} {t : List ℕ} {a d : ℕ} {w : Answer} {lent path vs xs : 
   find-beaten : {bs us ws : List ℕ} → walk s t a d bs ≡ arrived us ws → Before s vs us → path ≡ bs → ⊥
   find-beaten c b e = beaten taken some (x .finding) (ap (walk s t a d) (written e) ∙ c) k b
 
+-- ---- the search, where there may be none
+
+-- the bytes that it writes are zeros or walk to the destination
+find-nothing : {s : Shape} {t : List ℕ} {a d : ℕ} {w : Answer} {lent path bs : List ℕ} {q i : ℕ} → roomRefusal s t a d ≡ 0 → FoundWord s t a d w lent path → walk s t a d bs ≡ stopped q i → eqb 0 (getD bs 0 0) ≡ false → path ≡ bs → ⊥
+find-nothing {s} {t} {a} {d} {lent = lent} taken x c n e =
+    elim (ℕ-discrete (x .answer .hops) 0) [
+      | yes z ↦ clash-left 0 n (x .leaves ∙ ap (λ (y : Found). left (y .refusal .number) lent (y .bytes)) (x .finding .none taken z .0)) e
+      | no m ↦
+          let some : 0 < x .answer .hops = omega arith in
+          let f = left-given (x .answer .refusal .number) lent (x .answer .bytes) (no-refusal taken some (x .finding)) ∙ sym (x .leaves) ∙ e in
+          no-route taken some (x .finding) (ap (walk s t a d) f ∙ c)
+    ]
+
 -- ---- selection
 
 module _ {s : Shape} {t : List ℕ} {a d : ℕ} {w : Answer} {lent routes : List ℕ} (x : SelectedWord s t a d w lent routes) where
@@ -93,6 +108,17 @@ module _ {s : Shape} {t : List ℕ} {a d : ℕ} {w : Answer} {lent routes : List
 
   count : valueIn w ≡ x .answer .routes .count
   count = ap valueIn (x .says) ∙ value-back (x .answer .refusal) (x .answer .routes .count) (select-small (x .answer) (x .selecting))
+
+  -- what it writes begins with a route, where it is not what was lent
+  select-first-walks : {bs : List ℕ} {q i : ℕ} → walk s t a d (take 8 bs) ≡ stopped q i → eqb (getD lent 0 0) (getD bs 0 0) ≡ false → routes ≡ bs → ⊥
+  unfolding arrayIn
+  select-first-walks c n e =
+      elim (ℕ-discrete (x .answer .refusal .number) 0) [
+        | yes z ↦
+            let f = left-given (x .answer .refusal .number) lent (x .answer .routes .bytes) z ∙ sym (x .leaves) ∙ e in
+            first-walks (x .selecting) z (ap (λ (y : List ℕ). walk s t a d (take 8 y)) f ∙ c)
+        | no m ↦ clash-left 0 n (x .leaves ∙ sym (left-lent (x .answer .refusal .number) lent (x .answer .routes .bytes) m)) e
+      ]
 
 -- no route leads to a dead server
 dead-end : {s : Shape} {t : List ℕ} {a d : ℕ} → links.Dead s t d → (vs : List ℕ) → RouteTo s t a d vs → ⊥
@@ -113,6 +139,14 @@ first-array {w} {lent} x =
     ap (take 8) (x .leaves ∙ sym (left-given (x .answer .refusal .number) lent (x .answer .routes .bytes) (k .0))) ∙ k .1
 
 -- ---- refused
+
+-- where the room, its ends or its table are refused, the word of the search and of selection says so
+module _ {s : Shape} {t : List ℕ} {a d : ℕ} {w : Answer} {lent put : List ℕ} (h : roomRefusal s t a d ≢ 0) where
+  pub find-refused : FoundWord s t a d w lent put → w ≡ word (plain (roomRefusal s t a d)) 0
+  find-refused x = x .says ∙ ap (λ (y : Found). word (y .refusal) (y .hops)) (x .finding .refused h)
+
+  pub select-refused : SelectedWord s t a d w lent put → w ≡ word (plain (roomRefusal s t a d)) 0
+  select-refused x = x .says ∙ ap (λ (y : Selection). word (y .refusal) (y .routes .count)) (x .selecting .refused h)
 
 refused-5 : {r : Found} → Finding (fullRoom 2 2) tied 7 7 r → r .refusal .number ≢ 0
 unfolding roomRefusal endsRefusal pairRefusal serverRefusal shapeRefusal serversOf _or-else_
@@ -140,63 +174,109 @@ wrong-driver o q b =
       version-in-bytes = clash (λ y. y) refl;
       version-before = clash (λ y. y) refl;
       version-first-alone = clash (λ y. y) refl;
+      full-room-n-and-k-exchanged = clash (λ (y : Room). y .number) refl;
+      full-room-k-for-m = clash (λ (y : Room). y .number) refl;
+      full-room-without-m = clash (λ (y : Room). y .number) refl;
       room-n-and-k-exchanged = clash (λ (y : Room). y .number) refl;
+      room-k-and-m-exchanged = clash (λ (y : Room). y .number) refl;
+      room-m-forgotten = clash (λ (y : Room). y .number) refl;
+      room-without-m = clash (λ (y : Room). y .number) refl;
       room-n-wraps = clash (λ (y : Room). y .number) refl;
       room-k-wraps = clash (λ (y : Room). y .number) refl;
+      room-m-wraps = clash (λ (y : Room). y .number) refl;
       room-n-not-held = clash (λ (y : Room). y .number) refl;
       room-k-not-held = clash (λ (y : Room). y .number) refl;
+      room-m-not-held = clash (λ (y : Room). y .number) refl;
       room-n-cut = clash (λ (y : Room). y .number) refl;
+      room-m-cut = clash (λ (y : Room). y .number) refl;
       shape-n-and-k-exchanged = clash said refl;
       shape-servers-not-bounded = clash said refl;
-      shape-above-k-ignored = clash said refl;
+      shape-above-m-ignored = clash said refl;
+      shape-without-m = clash said refl;
       shape-256-levels = clash said refl;
       shape-number-as-value = clash said refl;
+      shape-servers-before-fill = clash said refl;
+      shape-fill-before-levels = clash said refl;
+      shape-full-room-refused = clash said refl;
+      shape-fill-1-taken = clash said refl;
+      shape-fill-above-n-taken = clash said refl;
+      shape-largest-fill-taken = clash said refl;
+      shape-of-the-full-room = clash said refl;
       servers-one-level-less = clash said refl;
       servers-value-low = clash said refl;
+      servers-of-the-full-room = clash said refl;
+      servers-m-at-every-level = clash said refl;
+      servers-told-before-fill = clash said refl;
+      servers-without-m = clash said refl;
       bound-is-k = clash said refl;
       bound-above-k = clash said refl;
       bound-level-cut = clash said refl;
+      bound-m-at-level-0 = clash said refl;
+      bound-n-at-level-k = clash said refl;
       switches-ports-counted = clash said refl;
       switches-one-level-less = clash said refl;
       switches-servers-counted = clash said refl;
       switches-all-levels = clash said refl;
       switches-above-k = clash said refl;
+      switches-of-n-at-level-k = clash said refl;
+      switches-of-m-at-level-0 = clash said refl;
       digits-address-wraps = λ κ x p. differ said refl (p .0);
       digits-counted = λ κ x p. differ said refl (p .0);
       digits-reversed = λ κ r x p. clash-left 1 refl (p .1);
       digits-not-written = λ κ r x p. clash-left 0 refl (p .1);
       digits-touched = λ κ r x p. clash-left 0 refl (p .1);
+      digits-of-the-full-room = λ κ r x p. clash-left 0 refl (p .1);
+      digits-to-the-base-m = λ κ r x p. clash-left 0 refl (p .1);
       digit-from-the-other-end = clash said refl;
       digit-server-and-level-exchanged = clash said refl;
       digit-server-cut = clash said refl;
+      digit-of-the-full-room = clash said refl;
+      digit-to-the-base-m = clash said refl;
       address-reversed = clash said refl;
       address-place-above-k = clash said refl;
       address-digit-cut = clash said refl;
+      address-digit-k-bounded-by-n = clash said refl;
+      address-digit-2-bounded-by-m = clash said refl;
+      address-digit-0-bounded-by-m = clash said refl;
       switch-not-closed-up = clash said refl;
       switch-with-level = clash said refl;
+      switch-of-the-full-room = clash said refl;
+      switch-to-the-base-m = clash said refl;
       server-at-switch-and-port-exchanged = clash said refl;
       server-at-digit-0 = clash said refl;
       server-at-not-moved-up = clash said refl;
       server-at-port-not-bounded = clash said refl;
       server-at-switch-not-bounded = clash said refl;
       server-at-port-cut = clash said refl;
+      server-at-port-m-at-level-k = clash said refl;
+      server-at-port-5-refused = clash said refl;
+      server-at-switch-256 = clash said refl;
+      server-at-switch-256-refused = clash said refl;
       neighbour-level-and-value-exchanged = clash said refl;
       neighbour-value-not-bounded = clash said refl;
       neighbour-value-cut = clash said refl;
+      neighbour-value-5-refused = clash said refl;
+      neighbour-value-m-at-level-k = clash said refl;
+      neighbour-in-the-full-room = clash said refl;
       between-from-0 = clash said refl;
       between-two-digits-apart = clash said refl;
+      between-in-the-full-room = clash said refl;
+      between-to-the-base-m = clash said refl;
       failed-told-as-live = clash said refl;
       failed-another-link = clash said refl;
+      failed-in-full-table = clash said refl;
       marked-above-k = λ κ x p. differ said refl (p .0);
       mark-counted = λ κ x p. differ said refl (p .0);
       marks-nothing = λ κ r x p. clash-left 3 refl (p .1);
       mark-server-and-level-exchanged = λ κ r x p. clash-left 0 refl (p .1);
       mark-touched = λ κ r x p. clash-left 3 refl (p .1);
+      marked-in-full-table = λ κ r x p. clash-left 8 refl (p .1);
       cleared-above-k = λ κ x p. differ said refl (p .0);
       clear-level-before-address = λ κ x p. differ said refl (p .0);
       clears-all = λ κ r x p. clash-left 3 refl (p .1);
       clears-level-k = λ κ r x p. clash-left 3 refl (p .1);
       clear-touched = λ κ r x p. clash-left 3 refl (p .1);
+      cleared-in-full-table = λ κ r x p. clash-left 8 refl (p .1);
       mark-server-n = λ κ x p. differ said refl (p .0);
       mark-server-table-before-address = λ κ x p. differ said refl (p .0);
       mark-server-cut = λ κ x p. differ said refl (p .0);
@@ -204,6 +284,7 @@ wrong-driver o q b =
       marks-one-link = λ κ r x p. clash-left 3 refl (p .1);
       marks-whole-byte = λ κ r x p. clash-left 3 refl (p .1);
       mark-server-touched = λ κ r x p. clash-left 3 refl (p .1);
+      server-marked-in-full-table = λ κ r x p. clash-left 8 refl (p .1);
       clear-server-n = λ κ x p. differ said refl (p .0);
       clear-server-table-before-address = λ κ x p. differ said refl (p .0);
       clear-server-counted = λ κ x p. differ said refl (p .0);
@@ -211,53 +292,85 @@ wrong-driver o q b =
       clears-one-link = λ κ r x p. clash-left 3 refl (p .1);
       clears-whole-table = λ κ r x p. clash-left 7 refl (p .1);
       clear-server-touched = λ κ r x p. clash-left 3 refl (p .1);
+      server-cleared-in-full-table = λ κ r x p. clash-left 8 refl (p .1);
       path-byte-position-low = clash said refl;
       path-byte-level-and-value-exchanged = clash said refl;
       path-byte-value-not-bounded = clash said refl;
       path-byte-nine-for-21 = clash said refl;
+      path-byte-value-m-at-level-k = clash said refl;
+      path-byte-value-5-refused = clash said refl;
       parts-level-and-value-exchanged = clash said refl;
       parts-byte-told = clash said refl;
       parts-number-cut = clash said refl;
       parts-no-place = clash said refl;
+      parts-value-m-at-level-k = clash said refl;
+      parts-value-5-refused = clash said refl;
       read-hops-for-servers = λ κ x p. differ said refl (p .0);
       read-route-and-hop-exchanged = λ κ x p. differ said refl (p .0);
       read-not-written = λ κ r x p. clash-left 0 refl (p .1);
       read-zeros-forgotten = λ κ r x p. clash-left 3 refl (p .1);
       read-touched = λ κ r x p. clash-left 0 refl (p .1);
+      read-by-value-m = λ κ r x p. clash-left 0 refl (p .1);
+      read-four-for-nine = λ κ x p. differ said refl (p .0);
+      read-by-value-3-refused = λ κ x p. differ said refl (p .0);
+      read-in-the-full-room = λ κ x p. differ said refl (p .0);
       write-nine-refused = λ κ x p. differ said refl (p .0);
       write-place-one-off = λ κ x p. differ said refl (p .0);
       write-position-low = λ κ r x p. clash-left 0 refl (p .1);
       write-not-written = λ κ r x p. clash-left 0 refl (p .1);
       write-touched = λ κ r x p. clash-left 0 refl (p .1);
+      written-in-the-full-room = λ κ r x p. clash-left 0 refl (p .1);
       reverse-read-from-destination = λ κ x p. differ said refl (p .0);
       reverse-hops-told = λ κ x p. differ said refl (p .0);
       reverse-is-identity = λ κ r x p. clash-left 0 refl (p .1);
       reverse-bytes-turned-round = λ κ r x p. clash-left 0 refl (p .1);
       reverse-not-written = λ κ r x p. clash-left 0 refl (p .1);
       reverse-touched = λ κ r x p. clash-left 0 refl (p .1);
+      reversed-by-value-m = λ κ r x p. clash-left 0 refl (p .1);
+      reverse-by-value-3-refused = λ κ x p. differ said refl (p .0);
+      reversed-in-the-full-room = λ κ r x p. clash-left 0 refl (p .1);
       check-middle-servers-only = clash said refl;
       check-earlier-of-the-pair = clash said refl;
       check-receiver-forgotten = clash said refl;
+      check-full-table-accepted = clash said refl;
+      check-half-filled-table-refused = clash said refl;
+      check-value-m-accepted = clash said refl;
+      check-value-3-refused = clash said refl;
       build-room-counted = λ κ x p. differ said refl (p .0);
       build-same-ends = λ κ x p. differ said refl (p .0);
       build-lower-slots-first = λ κ r x p. clash-left 0 refl (p .1);
       build-not-written = λ κ r x p. clash-left 0 refl (p .1);
       build-zeros-forgotten = λ κ r x p. clash-left 16 refl (p .1);
       build-touched = λ κ r x p. clash-left 0 refl (p .1);
+      build-detour-mod-n = λ κ r x p. clash-left 0 refl (p .1);
+      build-detour-mod-m = λ κ r x p. clash-left 24 refl (p .1);
+      build-in-the-full-room = λ κ x p. differ said refl (p .0);
       find-servers-for-hops = λ κ x p. find-fewest refl (walks direct _ _ refl refl refl) p (omega arith);
       find-denied = λ κ x p. find-some refl (walks (array (0x41 ∷ 0x01 ∷ 0x40 ∷ [])) _ _ refl refl refl) p refl;
       find-lower-level-first = λ κ r x p. find-beaten refl (walks (array (0x81 ∷ 0x41 ∷ 0x01 ∷ [])) _ _ refl refl refl) p refl (inr (refl, inl (inl (omega arith))));
       find-tie-from-the-other-end = λ κ r x p. find-beaten refl (walks (array (0x81 ∷ 0x41 ∷ 0x01 ∷ [])) _ _ refl refl refl) p refl (inr (refl, inl (inl (omega arith))));
       find-not-written = λ κ r x p. find-no-route refl (walks (array (0x81 ∷ 0x41 ∷ 0x01 ∷ [])) _ _ refl refl refl) p refl;
       find-touched = λ κ r x p. clash-left 0 refl (p .leaves ∙ sym (left-lent (p .answer .refusal .number) (stale 8) (p .answer .bytes) (refused-5 (p .finding))));
+      find-value-m-tried = λ κ r x p. find-nothing refl p refl refl;
+      find-value-3-not-tried = λ κ x p. find-some refl (walks (array (0x03 ∷ [])) _ _ refl refl refl) p refl;
+      find-in-the-full-room = λ κ x p. differ said refl (find-refused (differ (λ y. y) refl) p);
+      find-over-full-table = λ κ x p. differ said refl (find-refused (differ (λ y. y) refl) p);
       select-sixteen-with-a-route = λ κ x p. none-selected-exactly _ _ _ _ _ refl (p .selecting) .0 (sym (number p)) _ (straight .route);
       select-denied = λ κ x p. one-route (p .selecting) (sym (number p)) (sym (count p));
       select-lower-slots-first = λ κ r x p e. differ (λ (y : List ℕ). getD y 0 0) refl (sym (first-array p) ∙ ap (take 8) e);
       select-not-written = λ κ r x p e. differ (λ (y : List ℕ). getD y 0 0) refl (sym (first-array p) ∙ ap (take 8) e);
       select-touched = λ κ r x p. clash-left 0 refl (p .leaves ∙ sym (left-lent (p .answer .refusal .number) (stale 32) (p .answer .routes .bytes) (refused-16 (p .selecting))));
+      select-detour-mod-n = λ κ r x p. select-first-walks p refl refl;
+      select-value-m-tried = λ κ r x p. select-first-walks p refl refl;
+      select-sixteen-for-value-3 = λ κ x p. none-selected-exactly _ _ _ _ _ refl (p .selecting) .0 (sym (number p)) _ (walks (array (0x03 ∷ [])) _ _ refl refl refl .route);
+      select-in-the-full-room = λ κ x p. differ said refl (select-refused (differ (λ y. y) refl) p);
+      select-over-full-table = λ κ x p. differ said refl (select-refused (differ (λ y. y) refl) p);
       pick-kept-before-fresh = clash said refl;
       pick-list-and-place-exchanged = clash said refl;
       pick-sixteen-before-seven = clash said refl;
+      pick-value-m-usable = clash said refl;
+      pick-value-3-not-usable = clash said refl;
+      pick-over-full-table = clash said refl;
       step-index-before-arrival = clash (λ (y : Stepped). y .word) refl;
       step-delivery-not-told = clash (λ (y : Stepped). y .word) refl;
       step-index-not-raised = clash (λ (y : Stepped). y .word) refl;
@@ -268,4 +381,8 @@ wrong-driver o q b =
       step-mac-halves-exchanged = clash (λ (y : Stepped). y .mac) refl;
       step-mac-on-refusal = clash (λ (y : Stepped). y .mac) refl;
       step-mac-at-delivery = clash (λ (y : Stepped). y .mac) refl;
+      step-value-m-taken = clash (λ (y : Stepped). y .word) refl;
+      step-four-for-nine = clash (λ (y : Stepped). y .word) refl;
+      step-value-3-refused = clash (λ (y : Stepped). y .word) refl;
+      step-in-the-full-room = clash (λ (y : Stepped). y .word) refl;
     }

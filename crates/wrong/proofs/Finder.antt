@@ -71,4 +71,8 @@ wrong-finder o =
       receiver-forgotten = λ κ x h. no-route refl (omega arith) h refl;
       servers-for-hops = λ κ x h. differ (λ y. y) refl (miscounted refl (omega arith) h refl);
       sixteen-told = λ κ x h. differ (λ (y : Found). y .refusal .number) refl (h .none refl refl .0);
+      value-m-tried = λ κ x h. no-route refl (omega arith) h refl;
+      value-3-not-tried = λ κ x h. h .none refl refl .1 _ (walks (array (0x03 ∷ [])) _ _ refl refl refl .route);
+      found-in-the-full-room = λ κ x h. differ (λ (y : Found). y .refusal .number) refl (h .refused (differ (λ y. y) refl));
+      found-over-full-table = λ κ x h. differ (λ (y : Found). y .refusal .number) refl (h .refused (differ (λ y. y) refl));
     }

@@ -50,4 +50,7 @@ wrong-laying o q =
       bits-exchanged = λ κ r x p. not-laid p (walks direct _ _ refl refl refl) refl refl 0 0 refl refl;
       earlier-mark-lost = λ κ r x p. not-laid p (walks direct _ _ refl refl refl) refl refl 15 0 refl refl;
       laid-on-refusal = λ κ r x p. clash-left 0 refl (p .kept (λ z. differ (λ y. y) refl (sym z ∙ number p)));
+      full-table-taken = λ κ x p. differ (λ (y : Refusal). y .number) refl (p .refusal);
+      value-m-laid = λ κ x p. differ (λ (y : Refusal). y .number) refl (p .refusal);
+      m-servers-at-level-0 = λ κ r x p. not-laid p (walks direct _ _ refl refl refl) refl refl 6 0 refl refl;
     }

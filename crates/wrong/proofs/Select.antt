@@ -15,7 +15,7 @@ use Rattle.room.specs.Addresses.{digits, digit, withDigit, switchOf, differing}
 use Rattle.room.specs.Refusals.{shapeRefusal, serverRefusal, pairRefusal, endsRefusal}
 use Rattle.links.specs.Table.{bit, failed, live, bitsFit, fitsLevels, tableRefusal, roomRefusal}
 use Rattle.path.specs.Routes.{byteOf, switchAt, levelTo, byteTo, encode, RouteTo, Parallel}
-use Rattle.path.specs.Walks.{arrived, hopTo, hopRefusal, fault, ended, walkFrom, walk}
+use Rattle.path.specs.Walks.{stopped, arrived, hopTo, hopRefusal, fault, ended, walkFrom, walk}
 use Rattle.path.specs.Answers.{arrayRefusal, walkAnswer}
 use Rattle.verdict.specs.Checks.{arrays, disjoint, switchesIn, between, parallel, firstStop, firstMeeting, firstOf, firstPair, listRefusal, walksOf, checkAnswer}
 use Rattle.build.specs.declared.RouteSet.{RouteSet}
@@ -34,7 +34,7 @@ use Rattle.wrong.specs.Never.{Loan}
 use Rattle.wrong.specs.Examples.{array, failing, bothBroken, direct, other}
 use Rattle.wrong.specs.Select.{Select}
 use Rattle.wrong.proofs.Clash.{differ, bit as truth}
-use Rattle.wrong.proofs.Routes.{Walks, walks, parallel-walks, same-route}
+use Rattle.wrong.proofs.Routes.{Walks, walks, parallel-walks, never-stops, same-route}
 
 -- ---- slots
 
@@ -64,12 +64,22 @@ module _ {s : Shape} {t : List ℕ} {a d : ℕ} {r : Selection} (h : Selecting s
   counted : r .routes .count ≡ length (given .routes)
   counted = ap (λ (x : RouteSet). x .count) (given .written) ∙ set-count s (given .routes)
 
-  -- each the one that its array walks to
+  -- each by its array
+  array-at : (i : ℕ) → i < length (given .routes) → arrayIn i (r .routes) ≡ encode s (getD (given .routes) i [])
+  array-at i q =
+      ap (arrayIn i) (given .written) ∙ route-array s (given .routes) (λ vs m. given .settled .each vs m .route .few) i q
+
+  -- which walks to it alone
   route-at : (i : ℕ) → i < r .routes .count → {us ws : List ℕ} → walk s t a d (arrayIn i (r .routes)) ≡ arrived us ws → getD (given .routes) i [] ≡ us
   route-at i p w =
       let q : i < length (given .routes) = omega (arith, counted) in
-      same-route (given .settled .each _ (member-at (given .routes) i q))
-      (ap (arrayIn i) (given .written) ∙ route-array s (given .routes) (λ vs m. given .settled .each vs m .route .few) i q) w
+      same-route (given .settled .each _ (member-at (given .routes) i q)) (array-at i q) w
+
+  -- and there is a first, whose array is not refused
+  pub first-walks : {q i : ℕ} → walk s t a d (arrayIn 0 (r .routes)) ≡ stopped q i → ⊥
+  first-walks w =
+      let p : 0 < length (given .routes) = omega (arith, given .some) in
+      never-stops (given .settled .each _ (member-at (given .routes) 0 p)) (array-at 0 p) w
 
 -- slot 0 gives g after what slot 1 keeps, its built route, and the two are all these routes
 abbrev After : List ℕ → ℕ → ℕ → List (List ℕ) → List (List ℕ) → Type 0
@@ -141,10 +151,8 @@ slot-1-first {r} h = (number, first)
 
     first : arrayIn 0 (r .routes) ≡ direct
     first =
-        let g = given h number in
         let k = after h number unbroken in
-        ap (arrayIn 0) (g .written)
-        ∙ route-array (fullRoom 4 1) (g .routes) (λ vs m. g .settled .each vs m .route .few) 0 (omega (arith, ap length (k .1 .1)))
+        array-at h number 0 (omega (arith, ap length (k .1 .1)))
         ∙ ap (λ (x : List (List ℕ)). encode (fullRoom 4 1) (getD x 0 [])) (sym (k .1 .1))
         ∙ ap (encode (fullRoom 4 1)) (built .0)
 
@@ -190,4 +198,9 @@ wrong-select o =
       sixteen-with-a-route = λ κ x h. none-selected-exactly _ _ _ _ _ refl h .0 refl _ (straight .route);
       sixteen-not-told = λ κ x h. differ (λ (y : Refusal). y .number) refl (selection-checked _ _ _ _ _ h refl);
       not-closed-up = λ κ x h. differ (λ (y : Refusal). y .number) refl (selection-checked _ _ _ _ _ h refl);
+      detour-mod-n = λ κ x h. differ (λ (y : Refusal). y .number) refl (selection-checked _ _ _ _ _ h refl);
+      value-m-tried = λ κ x h. differ (λ (y : Refusal). y .number) refl (selection-checked _ _ _ _ _ h refl);
+      sixteen-for-value-3 = λ κ x h. none-selected-exactly _ _ _ _ _ refl h .0 refl _ (walks (array (0x03 ∷ [])) _ _ refl refl refl .route);
+      selected-in-the-full-room = λ κ x h. differ (λ (y : Selection). y .refusal .number) refl (h .refused (differ (λ y. y) refl));
+      selected-over-full-table = λ κ x h. differ (λ (y : Selection). y .refusal .number) refl (h .refused (differ (λ y. y) refl));
     }

@@ -24,4 +24,9 @@ wrong-step q e =
       hop-is-the-index = clash (λ (y : declared.Step). y .refusal .hop) refl;
       index-told-as-hop = clash (λ (y : declared.Step). y .refusal .hop) refl;
       flag-before-no-change = clash (λ (y : declared.Step). y .refusal .number) refl;
+      value-m-taken = clash (λ (y : declared.Step). y .refusal .number) refl;
+      four-for-nine = clash (λ (y : declared.Step). y .refusal .number) refl;
+      flag-before-value = clash (λ (y : declared.Step). y .refusal .number) refl;
+      value-3-refused = clash (λ (y : declared.Step). y .refusal .number) refl;
+      here-in-the-full-room = clash (λ (y : declared.Step). y .refusal .number) refl;
     }

@@ -27,4 +27,9 @@ wrong-verdict o q =
       pairs-before-routes = clash (λ (y : Refusal). y .number) refl;
       empty-list-accepted = clash (λ (y : Refusal). y .number) refl;
       list-before-table = clash (λ (y : Refusal). y .number) refl;
+      full-table-accepted = clash (λ (y : Refusal). y .number) refl;
+      half-filled-table-refused = clash (λ (y : Refusal). y .number) refl;
+      value-m-accepted = clash (λ (y : Refusal). y .number) refl;
+      four-for-nine = clash (λ (y : Refusal). y .number) refl;
+      value-3-refused = clash (λ (y : Refusal). y .number) refl;
     }

@@ -1,7 +1,7 @@
 -- Wrong answers of `build`.
 use mathlib.Core.List.{[], _∷_}
 use lib.ListN.{replicate}
-use Rattle.room.specs.Shapes.{fullRoom}
+use Rattle.room.specs.Shapes.{shapeOf, fullRoom}
 use Rattle.build.specs.Sets.{emptySet, setOf}
 use Rattle.build.specs.Answers.{noBuilding, aBuilding}
 use Rattle.build.proofs.RouteSet.new.Reads as route-set-new
@@ -41,3 +41,14 @@ pub record Build : Type 0 where
   pub zero-array-left-out : Never build-routes.Post (fullRoom 2 0 & 1 & 0 & tt) (aBuilding emptySet)
   -- no routes from a server to itself, and no refusal
   pub same-ends-built : Never build-routes.Post (fullRoom 2 0 & 0 & 0 & tt) (noBuilding 0)
+  -- the detour at level k taken mod n: 3001 to 3011 of (8,3,4), from 3 to 4
+  pub detour-mod-n : Never build-routes.Post (shapeOf 8 3 4 & 1537 & 1545 & tt)
+      (aBuilding (setOf (array (0xc4 ∷ 0x41 ∷ 0xc3 ∷ []) ∷ array (0x81 ∷ 0x41 ∷ 0x80 ∷ []) ∷ array (0x41 ∷ []) ∷ array (0x02 ∷ 0x41 ∷ 0x01 ∷ []) ∷ [])))
+  -- the same where m is 2: 1001 to 1002 of (8,3,2), from 1 to 2
+  pub detour-mod-n-of-two : Never build-routes.Post (shapeOf 8 3 2 & 513 & 514 & tt)
+      (aBuilding (setOf (array (0xc2 ∷ 0x02 ∷ 0xc1 ∷ []) ∷ array (0x81 ∷ 0x02 ∷ 0x80 ∷ []) ∷ array (0x41 ∷ 0x02 ∷ 0x40 ∷ []) ∷ array (0x02 ∷ []) ∷ [])))
+  -- the detour at level 0 taken mod m: 0003 to 0013 of (8,3,4), from 3 to 0
+  pub detour-mod-m : Never build-routes.Post (shapeOf 8 3 4 & 3 & 11 & tt)
+      (aBuilding (setOf (array (0xc1 ∷ 0x41 ∷ 0xc0 ∷ []) ∷ array (0x81 ∷ 0x41 ∷ 0x80 ∷ []) ∷ array (0x41 ∷ []) ∷ array (0x00 ∷ 0x41 ∷ 0x03 ∷ []) ∷ [])))
+  -- N as n to the power k + 1: 8 to 0 of (4,1,2)
+  pub built-in-the-full-room : Never build-routes.Post (shapeOf 4 1 2 & 8 & 0 & tt) (aBuilding (setOf (array (0x40 ∷ []) ∷ array (0x01 ∷ 0x40 ∷ 0x00 ∷ []) ∷ [])))

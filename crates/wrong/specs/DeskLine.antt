@@ -23,6 +23,8 @@ pub record DeskLine (o : Loan) : Type 0 where
   pub newline-missed : Never question-of.Post (o lends ascii "8 3 1 521" & tt) noQuestion
   -- the newline not counted: 64 bytes and a newline taken
   pub newline-not-counted : Never question-of.Post (o lends replicate 55 48 ++ ascii "8 3 1 521\n" & tt) (record { taken = true; n = 8; k = 3; source = 1; destination = 521 })
+  -- a fifth number taken for m
+  pub five-numbers-taken : Never question-of.Post (o lends ascii "8 3 4 1 521\n" & tt) (record { taken = true; n = 8; k = 3; source = 1; destination = 521 })
   -- ---- answer_line
   -- a zero byte taken for the end: 1 to 0 of (2,0), one hop by eight zero bytes
   pub zero-bytes-for-no-hops : Never answer-line.Post (o lends ascii "2 0 1 0\n" & tt) (textOf (ascii "0000000000000000 0\n"))
@@ -34,3 +36,7 @@ pub record DeskLine (o : Loan) : Type 0 where
       (textOf (ascii "02c1410100000000 4\n41c1000000000000 2\n8141c18000000000 4\nc141000000000000 2\n"))
   -- a refusal answered as a line that is none
   pub refusal-is-input : Never answer-line.Post (o lends ascii "2 0 0 0\n" & tt) (textOf (ascii "input\n"))
+  -- 26 printed, m being forgotten
+  pub twenty-six-printed : Never answer-line.Post (o lends ascii "8 3 1 521\n" & tt) (textOf (ascii "refused 26\n"))
+  -- 26 tested before 1: no ports
+  pub fill-before-ports : Never answer-line.Post (o lends ascii "0 0 0 1\n" & tt) (textOf (ascii "refused 26\n"))

@@ -8,11 +8,13 @@ use Rattle.lists.specs.Lists.{filled}
 use Rattle.refusals.specs.Refusals.{none, plain, refusedAt}
 use Rattle.build.specs.Sets.{joined}
 use Rattle.step.specs.declared.Step.{Step}
+use Rattle.step.specs.Steps.{noStep}
 use Rattle.driver.specs.Rooms.{roomOf}
 use Rattle.driver.specs.Words.{word}
 use Rattle.driver.specs.Packed.{packed}
 use Rattle.driver.proofs.bcube_version.Reads as bcube-version
 use Rattle.driver.proofs.bcube_room_of.Reads as bcube-room-of
+use Rattle.driver.proofs.bcube_filled_room.Reads as bcube-filled-room
 use Rattle.driver.proofs.bcube_shape.Reads as bcube-shape
 use Rattle.driver.proofs.bcube_servers.Reads as bcube-servers
 use Rattle.driver.proofs.bcube_bound.Reads as bcube-bound
@@ -41,7 +43,7 @@ use Rattle.driver.proofs.bcube_select.Reads as bcube-select
 use Rattle.driver.proofs.bcube_pick.Reads as bcube-pick
 use Rattle.driver.proofs.bcube_step.Reads as bcube-step
 use Rattle.wrong.specs.Never.{Never, NeverLeaves, Loan, third, fourth, fifth, _&_, _lends_}
-use Rattle.wrong.specs.Examples.{array, healthy, failing, direct, other, tied, mac, neighbour, stale}
+use Rattle.wrong.specs.Examples.{array, healthy, failing, direct, other, tied, cutOff, mac, neighbour, stale}
 
 -- the step from 00 of (4,1) to 10, by byte 41 of the path bytes 41 03
 abbrev pub went : Step
@@ -50,298 +52,470 @@ went = record { refusal = none; delivered = false; next = 4; index = 1; mac = ma
 pub record Driver (o q b : Loan) : Type 0 where
   -- ---- bcube_version
   -- the numbers packed in bytes
-  pub version-in-bytes : Never bcube-version.Post tt 0x020000
+  pub version-in-bytes : Never bcube-version.Post tt 0x030000
   -- the version before
-  pub version-before : Never bcube-version.Post tt 10000
+  pub version-before : Never bcube-version.Post tt 20000
   -- the first number alone
-  pub version-first-alone : Never bcube-version.Post tt 2
+  pub version-first-alone : Never bcube-version.Post tt 3
   -- ---- bcube_room_of
   -- n and k exchanged
-  pub room-n-and-k-exchanged : Never bcube-room-of.Post (8 & 3 & tt) (record { number = 3 + 256 * 8 })
+  pub full-room-n-and-k-exchanged : Never bcube-room-of.Post (8 & 3 & tt) (roomOf 3 8 3)
+  -- k for m
+  pub full-room-k-for-m : Never bcube-room-of.Post (8 & 3 & tt) (roomOf 8 3 3)
+  -- the number of version 2, which has no m
+  pub full-room-without-m : Never bcube-room-of.Post (8 & 3 & tt) (record { number = 8 + 256 * 3 })
+  -- ---- bcube_filled_room
+  -- n and k exchanged
+  pub room-n-and-k-exchanged : Never bcube-filled-room.Post (8 & 3 & 4 & tt) (roomOf 3 8 4)
+  -- m in k's place, and k in m's
+  pub room-k-and-m-exchanged : Never bcube-filled-room.Post (8 & 3 & 4 & tt) (roomOf 8 4 3)
+  -- m forgotten: the full room
+  pub room-m-forgotten : Never bcube-filled-room.Post (8 & 3 & 4 & tt) (roomOf 8 3 8)
+  -- the number of version 2, which has no m
+  pub room-without-m : Never bcube-filled-room.Post (8 & 3 & 8 & tt) (record { number = 8 + 256 * 3 })
   -- n cut to a byte: 264 ports are 8
-  pub room-n-wraps : Never bcube-room-of.Post (264 & 3 & tt) (record { number = 8 + 256 * 3 })
+  pub room-n-wraps : Never bcube-filled-room.Post (264 & 3 & 4 & tt) (roomOf 8 3 4)
   -- k cut to a byte: 259 levels are 3
-  pub room-k-wraps : Never bcube-room-of.Post (8 & 259 & tt) (record { number = 8 + 256 * 3 })
+  pub room-k-wraps : Never bcube-filled-room.Post (8 & 259 & 4 & tt) (roomOf 8 3 4)
+  -- m cut to a byte: 260 values are 4
+  pub room-m-wraps : Never bcube-filled-room.Post (8 & 3 & 260 & tt) (roomOf 8 3 4)
   -- n not held: 264 ports are one level more
-  pub room-n-not-held : Never bcube-room-of.Post (264 & 3 & tt) (record { number = 264 + 256 * 3 })
-  -- k not held, so that it reaches into what is above it
-  pub room-k-not-held : Never bcube-room-of.Post (8 & 259 & tt) (record { number = 8 + 256 * 259 })
+  pub room-n-not-held : Never bcube-filled-room.Post (264 & 3 & 4 & tt) (record { number = 264 + (256 * 3 + 65536 * 4) })
+  -- k not held: 259 levels are one value more
+  pub room-k-not-held : Never bcube-filled-room.Post (8 & 259 & 4 & tt) (record { number = 8 + (256 * 259 + 65536 * 4) })
+  -- m not held, so that it reaches above its byte
+  pub room-m-not-held : Never bcube-filled-room.Post (8 & 3 & 260 & tt) (record { number = 8 + (256 * 3 + 65536 * 260) })
   -- n cut to 32 bits
-  pub room-n-cut : Never bcube-room-of.Post (4294967304 & 3 & tt) (record { number = 8 + 256 * 3 })
+  pub room-n-cut : Never bcube-filled-room.Post (4294967304 & 3 & 4 & tt) (roomOf 8 3 4)
+  -- m cut to 32 bits
+  pub room-m-cut : Never bcube-filled-room.Post (8 & 3 & 4294967300 & tt) (roomOf 8 3 4)
   -- ---- bcube_shape
   -- n and k exchanged: (8,3) refused as (3,8) is
-  pub shape-n-and-k-exchanged : Never bcube-shape.Post (roomOf 8 3 & tt) (word (plain 2) 0)
+  pub shape-n-and-k-exchanged : Never bcube-shape.Post (roomOf 8 3 8 & tt) (word (plain 2) 0)
   -- N not bounded: (9,3) taken
-  pub shape-servers-not-bounded : Never bcube-shape.Post (roomOf 9 3 & tt) (word none 0)
-  -- what is above k ignored: the number of (8,3) with a bit above its two bytes
-  pub shape-above-k-ignored : Never bcube-shape.Post (record { number = 65536 + (8 + 256 * 3) } & tt) (word none 0)
+  pub shape-servers-not-bounded : Never bcube-shape.Post (roomOf 9 3 9 & tt) (word none 0)
+  -- what is above m's byte ignored: the number of (8,3,4) with a bit above its three bytes
+  pub shape-above-m-ignored : Never bcube-shape.Post (record { number = 16777216 + (8 + (256 * 3 + 65536 * 4)) } & tt) (word none 0)
+  -- the number of version 2, which has no m, taken for the full room
+  pub shape-without-m : Never bcube-shape.Post (record { number = 8 + 256 * 3 } & tt) (word none 0)
   -- 256 levels taken for none
-  pub shape-256-levels : Never bcube-shape.Post (roomOf 2 256 & tt) (word none 0)
+  pub shape-256-levels : Never bcube-shape.Post (roomOf 2 256 2 & tt) (word none 0)
   -- the refusal's number told as a value
-  pub shape-number-as-value : Never bcube-shape.Post (roomOf 9 3 & tt) (word none 3)
+  pub shape-number-as-value : Never bcube-shape.Post (roomOf 9 3 9 & tt) (word none 3)
+  -- 3 tested before 26: (9,3,10), which has more than 4,096 servers too
+  pub shape-servers-before-fill : Never bcube-shape.Post (roomOf 9 3 10 & tt) (word (plain 3) 0)
+  -- 26 tested before 2: (4,4,5)
+  pub shape-fill-before-levels : Never bcube-shape.Post (roomOf 4 4 5 & tt) (word (plain 26) 0)
+  -- m = n refused
+  pub shape-full-room-refused : Never bcube-shape.Post (roomOf 8 3 8 & tt) (word (plain 26) 0)
+  -- m = 1 taken
+  pub shape-fill-1-taken : Never bcube-shape.Post (roomOf 8 3 1 & tt) (word none 0)
+  -- m above n taken: (4,1,5)
+  pub shape-fill-above-n-taken : Never bcube-shape.Post (roomOf 4 1 5 & tt) (word none 0)
+  -- the largest m of 64 bits taken
+  pub shape-largest-fill-taken : Never bcube-shape.Post (roomOf 8 3 18446744073709551615 & tt) (word none 0)
+  -- N as n to the power k + 1: the 3,456 servers of (12,3,2) refused
+  pub shape-of-the-full-room : Never bcube-shape.Post (roomOf 12 3 2 & tt) (word (plain 3) 0)
   -- ---- bcube_servers
   -- n to the power k
-  pub servers-one-level-less : Never bcube-servers.Post (roomOf 8 3 & tt) (word none 512)
+  pub servers-one-level-less : Never bcube-servers.Post (roomOf 8 3 8 & tt) (word none 512)
   -- the value in the low bytes of the word
-  pub servers-value-low : Never bcube-servers.Post (roomOf 8 3 & tt) (record { word = 4096 })
+  pub servers-value-low : Never bcube-servers.Post (roomOf 8 3 8 & tt) (record { word = 4096 })
+  -- N as n to the power k + 1: (8,3,4)
+  pub servers-of-the-full-room : Never bcube-servers.Post (roomOf 8 3 4 & tt) (word none 4096)
+  -- N as m to the power k + 1
+  pub servers-m-at-every-level : Never bcube-servers.Post (roomOf 8 3 4 & tt) (word none 256)
+  -- 3 told before 26: (9,3,10)
+  pub servers-told-before-fill : Never bcube-servers.Post (roomOf 9 3 10 & tt) (word (plain 3) 0)
+  -- the number of version 2.0 taken for the full room
+  pub servers-without-m : Never bcube-servers.Post (record { number = 8 + 256 * 3 } & tt) (word none 4096)
   -- ---- bcube_bound
   -- k for n
-  pub bound-is-k : Never bcube-bound.Post (roomOf 8 3 & 0 & tt) (word none 3)
+  pub bound-is-k : Never bcube-bound.Post (roomOf 8 3 8 & 0 & tt) (word none 3)
   -- the bound of a level above k
-  pub bound-above-k : Never bcube-bound.Post (roomOf 4 1 & 2 & tt) (word none 4)
+  pub bound-above-k : Never bcube-bound.Post (roomOf 4 1 4 & 2 & tt) (word none 4)
   -- the level cut to 32 bits
-  pub bound-level-cut : Never bcube-bound.Post (roomOf 4 1 & 4294967296 & tt) (word none 4)
+  pub bound-level-cut : Never bcube-bound.Post (roomOf 4 1 4 & 4294967296 & tt) (word none 4)
+  -- m at every level: level 0 of (8,3,4)
+  pub bound-m-at-level-0 : Never bcube-bound.Post (roomOf 8 3 4 & 0 & tt) (word none 4)
+  -- n at every level: level 3 of (8,3,4)
+  pub bound-n-at-level-k : Never bcube-bound.Post (roomOf 8 3 4 & 3 & tt) (word none 8)
   -- ---- bcube_switches
   -- the servers of a switch for the switches of a level
-  pub switches-ports-counted : Never bcube-switches.Post (roomOf 8 3 & 0 & tt) (word none 8)
+  pub switches-ports-counted : Never bcube-switches.Post (roomOf 8 3 8 & 0 & tt) (word none 8)
   -- one level less: n to the power k - 1
-  pub switches-one-level-less : Never bcube-switches.Post (roomOf 8 3 & 0 & tt) (word none 64)
+  pub switches-one-level-less : Never bcube-switches.Post (roomOf 8 3 8 & 0 & tt) (word none 64)
   -- a switch for each server
-  pub switches-servers-counted : Never bcube-switches.Post (roomOf 8 3 & 0 & tt) (word none 4096)
+  pub switches-servers-counted : Never bcube-switches.Post (roomOf 8 3 8 & 0 & tt) (word none 4096)
   -- the switches of all levels
-  pub switches-all-levels : Never bcube-switches.Post (roomOf 8 3 & 0 & tt) (word none 2048)
+  pub switches-all-levels : Never bcube-switches.Post (roomOf 8 3 8 & 0 & tt) (word none 2048)
   -- those of a level above k
-  pub switches-above-k : Never bcube-switches.Post (roomOf 4 1 & 2 & tt) (word none 4)
+  pub switches-above-k : Never bcube-switches.Post (roomOf 4 1 4 & 2 & tt) (word none 4)
+  -- n servers at each switch of level k: (8,3,4)
+  pub switches-of-n-at-level-k : Never bcube-switches.Post (roomOf 8 3 4 & 3 & tt) (word none 256)
+  -- m servers at each switch of level 0
+  pub switches-of-m-at-level-0 : Never bcube-switches.Post (roomOf 8 3 4 & 0 & tt) (word none 512)
   -- ---- bcube_digits
   -- N not bounded: address 4096 of (8,3) taken
-  pub digits-address-wraps : Never bcube-digits.Post (roomOf 8 3 & 4096 & b lends stale 4 & tt) (word none 0)
+  pub digits-address-wraps : Never bcube-digits.Post (roomOf 8 3 8 & 4096 & b lends stale 4 & tt) (word none 0)
   -- the digits counted in the value
-  pub digits-counted : Never bcube-digits.Post (roomOf 8 3 & 521 & b lends stale 4 & tt) (word none 4)
+  pub digits-counted : Never bcube-digits.Post (roomOf 8 3 8 & 521 & b lends stale 4 & tt) (word none 4)
   -- reversed: 521 of (8,3), written 1011
-  pub digits-reversed : NeverLeaves bcube-digits.Post (roomOf 8 3 & 521 & b lends stale 4 & tt) third (1 ∷ 0 ∷ 1 ∷ 1 ∷ [])
+  pub digits-reversed : NeverLeaves bcube-digits.Post (roomOf 8 3 8 & 521 & b lends stale 4 & tt) third (1 ∷ 0 ∷ 1 ∷ 1 ∷ [])
   -- the buffer left as it was lent
-  pub digits-not-written : NeverLeaves bcube-digits.Post (roomOf 8 3 & 521 & b lends stale 4 & tt) third (stale 4)
+  pub digits-not-written : NeverLeaves bcube-digits.Post (roomOf 8 3 8 & 521 & b lends stale 4 & tt) third (stale 4)
   -- the buffer touched on refusal
-  pub digits-touched : NeverLeaves bcube-digits.Post (roomOf 8 3 & 4096 & b lends stale 4 & tt) third (replicate 4 0)
+  pub digits-touched : NeverLeaves bcube-digits.Post (roomOf 8 3 8 & 4096 & b lends stale 4 & tt) third (replicate 4 0)
+  -- N as n to the power k + 1: address 2048 of (8,3,4) answered
+  pub digits-of-the-full-room : NeverLeaves bcube-digits.Post (roomOf 8 3 4 & 2048 & b lends stale 4 & tt) third (0 ∷ 0 ∷ 0 ∷ 4 ∷ [])
+  -- digits to the base m: 2047 of (8,3,4), written 3777
+  pub digits-to-the-base-m : NeverLeaves bcube-digits.Post (roomOf 8 3 4 & 2047 & b lends stale 4 & tt) third (3 ∷ 3 ∷ 3 ∷ 3 ∷ [])
   -- ---- bcube_digit
   -- from the other end: digit 2 of 1011
-  pub digit-from-the-other-end : Never bcube-digit.Post (roomOf 8 3 & 521 & 2 & tt) (word none 1)
+  pub digit-from-the-other-end : Never bcube-digit.Post (roomOf 8 3 8 & 521 & 2 & tt) (word none 1)
   -- server and level exchanged
-  pub digit-server-and-level-exchanged : Never bcube-digit.Post (roomOf 4 1 & 1 & 0 & tt) (word none 0)
+  pub digit-server-and-level-exchanged : Never bcube-digit.Post (roomOf 4 1 4 & 1 & 0 & tt) (word none 0)
   -- the server cut to 32 bits before it is tested
-  pub digit-server-cut : Never bcube-digit.Post (roomOf 4 1 & 4294967297 & 0 & tt) (word none 1)
+  pub digit-server-cut : Never bcube-digit.Post (roomOf 4 1 4 & 4294967297 & 0 & tt) (word none 1)
+  -- N as n to the power k + 1: digit 3 of 2048 in (8,3,4)
+  pub digit-of-the-full-room : Never bcube-digit.Post (roomOf 8 3 4 & 2048 & 3 & tt) (word none 4)
+  -- a digit to the base m: digit 0 of 7 in (8,3,4)
+  pub digit-to-the-base-m : Never bcube-digit.Post (roomOf 8 3 4 & 7 & 0 & tt) (word none 3)
   -- ---- bcube_address
   -- reversed: 1011 read as 1101
-  pub address-reversed : Never bcube-address.Post (roomOf 8 3 & 1 & 1 & 0 & 1 & tt) (word none 577)
+  pub address-reversed : Never bcube-address.Post (roomOf 8 3 8 & 1 & 1 & 0 & 1 & tt) (word none 577)
   -- a place above k ignored
-  pub address-place-above-k : Never bcube-address.Post (roomOf 4 1 & 3 & 1 & 1 & 0 & tt) (word none 7)
+  pub address-place-above-k : Never bcube-address.Post (roomOf 4 1 4 & 3 & 1 & 1 & 0 & tt) (word none 7)
   -- a digit cut to 32 bits
-  pub address-digit-cut : Never bcube-address.Post (roomOf 4 1 & 4294967299 & 1 & 0 & 0 & tt) (word none 7)
+  pub address-digit-cut : Never bcube-address.Post (roomOf 4 1 4 & 4294967299 & 1 & 0 & 0 & tt) (word none 7)
+  -- digit k bounded by n: 4 at place 3 in (8,3,4)
+  pub address-digit-k-bounded-by-n : Never bcube-address.Post (roomOf 8 3 4 & 0 & 0 & 0 & 4 & tt) (word none 2048)
+  -- every digit bounded by m: 4 at place 2
+  pub address-digit-2-bounded-by-m : Never bcube-address.Post (roomOf 8 3 4 & 0 & 0 & 4 & 0 & tt) (word (plain 21) 0)
+  -- the bound of level 0 as m: 5 at place 0
+  pub address-digit-0-bounded-by-m : Never bcube-address.Post (roomOf 8 3 4 & 5 & 0 & 0 & 0 & tt) (word (plain 21) 0)
   -- ---- bcube_switch
   -- not closed up: 13 of (4,1) with digit 0 made 0
-  pub switch-not-closed-up : Never bcube-switch.Post (roomOf 4 1 & 7 & 0 & tt) (word none 4)
+  pub switch-not-closed-up : Never bcube-switch.Post (roomOf 4 1 4 & 7 & 0 & tt) (word none 4)
   -- the level told with the number
-  pub switch-with-level : Never bcube-switch.Post (roomOf 4 1 & 7 & 1 & tt) (word none 4099)
+  pub switch-with-level : Never bcube-switch.Post (roomOf 4 1 4 & 7 & 1 & tt) (word none 4099)
+  -- N as n to the power k + 1: server 2048 of (8,3,4)
+  pub switch-of-the-full-room : Never bcube-switch.Post (roomOf 8 3 4 & 2048 & 0 & tt) (word none 256)
+  -- closed up to the base m: 3455 of (12,3,2) at level 3
+  pub switch-to-the-base-m : Never bcube-switch.Post (roomOf 12 3 2 & 3455 & 3 & tt) (word none 77)
   -- ---- bcube_server_at, of which port 3 of switch 1 of level 0 in (4,1) is server 13
   -- switch and port exchanged
-  pub server-at-switch-and-port-exchanged : Never bcube-server-at.Post (roomOf 4 1 & 0 & 1 & 3 & tt) (word none 13)
+  pub server-at-switch-and-port-exchanged : Never bcube-server-at.Post (roomOf 4 1 4 & 0 & 1 & 3 & tt) (word none 13)
   -- the port in place of digit 0 at every level
-  pub server-at-digit-0 : Never bcube-server-at.Post (roomOf 4 1 & 1 & 3 & 1 & tt) (word none 13)
+  pub server-at-digit-0 : Never bcube-server-at.Post (roomOf 4 1 4 & 1 & 3 & 1 & tt) (word none 13)
   -- the switch's digits not moved up
-  pub server-at-not-moved-up : Never bcube-server-at.Post (roomOf 4 1 & 0 & 1 & 3 & tt) (word none 3)
+  pub server-at-not-moved-up : Never bcube-server-at.Post (roomOf 4 1 4 & 0 & 1 & 3 & tt) (word none 3)
   -- port n carried to the next digit
-  pub server-at-port-not-bounded : Never bcube-server-at.Post (roomOf 4 1 & 0 & 0 & 4 & tt) (word none 4)
+  pub server-at-port-not-bounded : Never bcube-server-at.Post (roomOf 4 1 4 & 0 & 0 & 4 & tt) (word none 4)
   -- a switch that the level does not have
-  pub server-at-switch-not-bounded : Never bcube-server-at.Post (roomOf 4 1 & 0 & 4 & 0 & tt) (word none 16)
+  pub server-at-switch-not-bounded : Never bcube-server-at.Post (roomOf 4 1 4 & 0 & 4 & 0 & tt) (word none 16)
   -- the port cut to 32 bits
-  pub server-at-port-cut : Never bcube-server-at.Post (roomOf 4 1 & 0 & 1 & 4294967299 & tt) (word none 7)
+  pub server-at-port-cut : Never bcube-server-at.Post (roomOf 4 1 4 & 0 & 1 & 4294967299 & tt) (word none 7)
+  -- n servers at a switch of level k: port 4 of switch 0 in (8,3,4)
+  pub server-at-port-m-at-level-k : Never bcube-server-at.Post (roomOf 8 3 4 & 3 & 0 & 4 & tt) (word none 2048)
+  -- m servers at a switch of level 0: port 5 refused
+  pub server-at-port-5-refused : Never bcube-server-at.Post (roomOf 8 3 4 & 0 & 0 & 5 & tt) (word (plain 21) 0)
+  -- n to the power k switches at level 0: switch 256
+  pub server-at-switch-256 : Never bcube-server-at.Post (roomOf 8 3 4 & 0 & 256 & 0 & tt) (word none 2048)
+  -- 256 switches at level k: switch 256 refused
+  pub server-at-switch-256-refused : Never bcube-server-at.Post (roomOf 8 3 4 & 3 & 256 & 0 & tt) (word (plain 21) 0)
   -- ---- bcube_neighbour
   -- level and value exchanged: 12 of (4,1) with digit 0 set to 1
-  pub neighbour-level-and-value-exchanged : Never bcube-neighbour.Post (roomOf 4 1 & 6 & 0 & 1 & tt) (word none 2)
+  pub neighbour-level-and-value-exchanged : Never bcube-neighbour.Post (roomOf 4 1 4 & 6 & 0 & 1 & tt) (word none 2)
   -- a value n carried to the next digit
-  pub neighbour-value-not-bounded : Never bcube-neighbour.Post (roomOf 4 1 & 0 & 0 & 4 & tt) (word none 4)
+  pub neighbour-value-not-bounded : Never bcube-neighbour.Post (roomOf 4 1 4 & 0 & 0 & 4 & tt) (word none 4)
   -- the value cut to 32 bits
-  pub neighbour-value-cut : Never bcube-neighbour.Post (roomOf 4 1 & 0 & 0 & 4294967297 & tt) (word none 1)
+  pub neighbour-value-cut : Never bcube-neighbour.Post (roomOf 4 1 4 & 0 & 0 & 4294967297 & tt) (word none 1)
+  -- the bound of level 0 as m: value 5 in (8,3,4) refused
+  pub neighbour-value-5-refused : Never bcube-neighbour.Post (roomOf 8 3 4 & 0 & 0 & 5 & tt) (word (plain 21) 0)
+  -- the bound of level k as n: value 4
+  pub neighbour-value-m-at-level-k : Never bcube-neighbour.Post (roomOf 8 3 4 & 0 & 3 & 4 & tt) (word none 2048)
+  -- N as n to the power k + 1: a neighbour of server 2048 in (8,3,4)
+  pub neighbour-in-the-full-room : Never bcube-neighbour.Post (roomOf 8 3 4 & 2048 & 0 & 1 & tt) (word none 2049)
   -- ---- bcube_between
   -- the level counted from 0: 00 and 01 of (4,1) told as no neighbours
-  pub between-from-0 : Never bcube-between.Post (roomOf 4 1 & 0 & 1 & tt) (word none 0)
+  pub between-from-0 : Never bcube-between.Post (roomOf 4 1 4 & 0 & 1 & tt) (word none 0)
   -- two that differ in two digits taken for neighbours: 00 and 13
-  pub between-two-digits-apart : Never bcube-between.Post (roomOf 4 1 & 0 & 7 & tt) (word none 1)
+  pub between-two-digits-apart : Never bcube-between.Post (roomOf 4 1 4 & 0 & 7 & tt) (word none 1)
+  -- N as n to the power k + 1: 0 and 2048 of (8,3,4)
+  pub between-in-the-full-room : Never bcube-between.Post (roomOf 8 3 4 & 0 & 2048 & tt) (word none 4)
+  -- digits to the base m: 0 and 4 of (8,3,4)
+  pub between-to-the-base-m : Never bcube-between.Post (roomOf 8 3 4 & 0 & 4 & tt) (word none 2)
   -- ---- bcube_failed_link
   -- a failed link told as live
-  pub failed-told-as-live : Never bcube-failed-link.Post (roomOf 4 1 & 3 & 0 & o lends failing 3 1 & tt) (word none 0)
+  pub failed-told-as-live : Never bcube-failed-link.Post (roomOf 4 1 4 & 3 & 0 & o lends failing 3 1 & tt) (word none 0)
   -- another link of the server told for this one
-  pub failed-another-link : Never bcube-failed-link.Post (roomOf 4 1 & 3 & 0 & o lends failing 3 2 & tt) (word none 1)
+  pub failed-another-link : Never bcube-failed-link.Post (roomOf 4 1 4 & 3 & 0 & o lends failing 3 2 & tt) (word none 1)
+  -- N as n to the power k + 1: server 8 of (4,1,2) in a table of 16 bytes told live
+  pub failed-in-full-table : Never bcube-failed-link.Post (roomOf 4 1 2 & 8 & 0 & o lends healthy & tt) (word none 0)
   -- ---- bcube_mark_link
   -- level k + 1 marked
-  pub marked-above-k : Never bcube-mark-link.Post (roomOf 4 1 & 3 & 2 & b lends healthy & tt) (word none 0)
+  pub marked-above-k : Never bcube-mark-link.Post (roomOf 4 1 4 & 3 & 2 & b lends healthy & tt) (word none 0)
   -- 1 told for a mark made
-  pub mark-counted : Never bcube-mark-link.Post (roomOf 4 1 & 3 & 1 & b lends healthy & tt) (word none 1)
+  pub mark-counted : Never bcube-mark-link.Post (roomOf 4 1 4 & 3 & 1 & b lends healthy & tt) (word none 1)
   -- nothing marked
-  pub marks-nothing : NeverLeaves bcube-mark-link.Post (roomOf 4 1 & 3 & 1 & b lends healthy & tt) fourth healthy
+  pub marks-nothing : NeverLeaves bcube-mark-link.Post (roomOf 4 1 4 & 3 & 1 & b lends healthy & tt) fourth healthy
   -- server and level exchanged
-  pub mark-server-and-level-exchanged : NeverLeaves bcube-mark-link.Post (roomOf 4 1 & 1 & 0 & b lends healthy & tt) fourth (failing 0 2)
+  pub mark-server-and-level-exchanged : NeverLeaves bcube-mark-link.Post (roomOf 4 1 4 & 1 & 0 & b lends healthy & tt) fourth (failing 0 2)
   -- the table touched on refusal 20
-  pub mark-touched : NeverLeaves bcube-mark-link.Post (roomOf 4 1 & 3 & 2 & b lends healthy & tt) fourth (failing 3 4)
+  pub mark-touched : NeverLeaves bcube-mark-link.Post (roomOf 4 1 4 & 3 & 2 & b lends healthy & tt) fourth (failing 3 4)
+  -- N as n to the power k + 1: server 8 of (4,1,2) marked in a table of 16 bytes
+  pub marked-in-full-table : NeverLeaves bcube-mark-link.Post (roomOf 4 1 2 & 8 & 0 & b lends healthy & tt) fourth (failing 8 1)
   -- ---- bcube_clear_link
   -- level k + 1 cleared
-  pub cleared-above-k : Never bcube-clear-link.Post (roomOf 4 1 & 3 & 2 & b lends healthy & tt) (word none 0)
+  pub cleared-above-k : Never bcube-clear-link.Post (roomOf 4 1 4 & 3 & 2 & b lends healthy & tt) (word none 0)
   -- 20 tested before 4: level 2 of server 16
-  pub clear-level-before-address : Never bcube-clear-link.Post (roomOf 4 1 & 16 & 2 & b lends healthy & tt) (word (plain 20) 0)
+  pub clear-level-before-address : Never bcube-clear-link.Post (roomOf 4 1 4 & 16 & 2 & b lends healthy & tt) (word (plain 20) 0)
   -- all links of the server cleared
-  pub clears-all : NeverLeaves bcube-clear-link.Post (roomOf 4 1 & 3 & 0 & b lends failing 3 3 & tt) fourth healthy
+  pub clears-all : NeverLeaves bcube-clear-link.Post (roomOf 4 1 4 & 3 & 0 & b lends failing 3 3 & tt) fourth healthy
   -- the link of level k cleared
-  pub clears-level-k : NeverLeaves bcube-clear-link.Post (roomOf 4 1 & 3 & 0 & b lends failing 3 3 & tt) fourth (failing 3 1)
+  pub clears-level-k : NeverLeaves bcube-clear-link.Post (roomOf 4 1 4 & 3 & 0 & b lends failing 3 3 & tt) fourth (failing 3 1)
   -- the table touched on refusal 6, which its bit above k is
-  pub clear-touched : NeverLeaves bcube-clear-link.Post (roomOf 4 1 & 3 & 0 & b lends failing 3 5 & tt) fourth (failing 3 4)
+  pub clear-touched : NeverLeaves bcube-clear-link.Post (roomOf 4 1 4 & 3 & 0 & b lends failing 3 5 & tt) fourth (failing 3 4)
+  -- N as n to the power k + 1: server 8 of (4,1,2) cleared in a table of 16 bytes
+  pub cleared-in-full-table : NeverLeaves bcube-clear-link.Post (roomOf 4 1 2 & 8 & 0 & b lends failing 8 1 & tt) fourth healthy
   -- ---- bcube_mark_server
   -- server N marked
-  pub mark-server-n : Never bcube-mark-server.Post (roomOf 4 1 & 16 & b lends healthy & tt) (word none 0)
+  pub mark-server-n : Never bcube-mark-server.Post (roomOf 4 1 4 & 16 & b lends healthy & tt) (word none 0)
   -- 6 tested before 4: server 16, a table of 15 bytes
-  pub mark-server-table-before-address : Never bcube-mark-server.Post (roomOf 4 1 & 16 & b lends replicate 15 0 & tt) (word (plain 6) 0)
+  pub mark-server-table-before-address : Never bcube-mark-server.Post (roomOf 4 1 4 & 16 & b lends replicate 15 0 & tt) (word (plain 6) 0)
   -- the server cut to 32 bits
-  pub mark-server-cut : Never bcube-mark-server.Post (roomOf 4 1 & 4294967299 & b lends healthy & tt) (word none 0)
+  pub mark-server-cut : Never bcube-mark-server.Post (roomOf 4 1 4 & 4294967299 & b lends healthy & tt) (word none 0)
   -- nothing marked
-  pub marks-no-server : NeverLeaves bcube-mark-server.Post (roomOf 4 1 & 3 & b lends healthy & tt) third healthy
+  pub marks-no-server : NeverLeaves bcube-mark-server.Post (roomOf 4 1 4 & 3 & b lends healthy & tt) third healthy
   -- one link marked, that of level 0
-  pub marks-one-link : NeverLeaves bcube-mark-server.Post (roomOf 4 1 & 3 & b lends healthy & tt) third (failing 3 1)
+  pub marks-one-link : NeverLeaves bcube-mark-server.Post (roomOf 4 1 4 & 3 & b lends healthy & tt) third (failing 3 1)
   -- the whole byte set, bits above k with it
-  pub marks-whole-byte : NeverLeaves bcube-mark-server.Post (roomOf 4 1 & 3 & b lends healthy & tt) third (failing 3 0xff)
+  pub marks-whole-byte : NeverLeaves bcube-mark-server.Post (roomOf 4 1 4 & 3 & b lends healthy & tt) third (failing 3 0xff)
   -- the table touched on refusal 6, which its bit above k is
-  pub mark-server-touched : NeverLeaves bcube-mark-server.Post (roomOf 4 1 & 3 & b lends failing 3 4 & tt) third (failing 3 3)
+  pub mark-server-touched : NeverLeaves bcube-mark-server.Post (roomOf 4 1 4 & 3 & b lends failing 3 4 & tt) third (failing 3 3)
+  -- N as n to the power k + 1: server 8 of (4,1,2) marked in a table of 16 bytes
+  pub server-marked-in-full-table : NeverLeaves bcube-mark-server.Post (roomOf 4 1 2 & 8 & b lends healthy & tt) third (failing 8 3)
   -- ---- bcube_clear_server
   -- server N cleared
-  pub clear-server-n : Never bcube-clear-server.Post (roomOf 4 1 & 16 & b lends healthy & tt) (word none 0)
+  pub clear-server-n : Never bcube-clear-server.Post (roomOf 4 1 4 & 16 & b lends healthy & tt) (word none 0)
   -- 6 tested before 4: server 16, and a bit above k
-  pub clear-server-table-before-address : Never bcube-clear-server.Post (roomOf 4 1 & 16 & b lends failing 3 4 & tt) (word (plain 6) 0)
+  pub clear-server-table-before-address : Never bcube-clear-server.Post (roomOf 4 1 4 & 16 & b lends failing 3 4 & tt) (word (plain 6) 0)
   -- the links that were cleared counted
-  pub clear-server-counted : Never bcube-clear-server.Post (roomOf 4 1 & 3 & b lends failing 3 3 & tt) (word none 2)
+  pub clear-server-counted : Never bcube-clear-server.Post (roomOf 4 1 4 & 3 & b lends failing 3 3 & tt) (word none 2)
   -- nothing cleared
-  pub clears-no-server : NeverLeaves bcube-clear-server.Post (roomOf 4 1 & 3 & b lends failing 3 3 & tt) third (failing 3 3)
+  pub clears-no-server : NeverLeaves bcube-clear-server.Post (roomOf 4 1 4 & 3 & b lends failing 3 3 & tt) third (failing 3 3)
   -- one link cleared, that of level 0
-  pub clears-one-link : NeverLeaves bcube-clear-server.Post (roomOf 4 1 & 3 & b lends failing 3 3 & tt) third (failing 3 2)
+  pub clears-one-link : NeverLeaves bcube-clear-server.Post (roomOf 4 1 4 & 3 & b lends failing 3 3 & tt) third (failing 3 2)
   -- the whole table cleared: the mark of server 7 lost
-  pub clears-whole-table : NeverLeaves bcube-clear-server.Post (roomOf 4 1 & 3 & b lends set (failing 3 3) 7 1 & tt) third healthy
+  pub clears-whole-table : NeverLeaves bcube-clear-server.Post (roomOf 4 1 4 & 3 & b lends set (failing 3 3) 7 1 & tt) third healthy
   -- the table touched on refusal 6, which its bit above k is
-  pub clear-server-touched : NeverLeaves bcube-clear-server.Post (roomOf 4 1 & 3 & b lends failing 3 4 & tt) third healthy
+  pub clear-server-touched : NeverLeaves bcube-clear-server.Post (roomOf 4 1 4 & 3 & b lends failing 3 4 & tt) third healthy
+  -- N as n to the power k + 1: server 8 of (4,1,2) cleared in a table of 16 bytes
+  pub server-cleared-in-full-table : NeverLeaves bcube-clear-server.Post (roomOf 4 1 2 & 8 & b lends failing 8 3 & tt) third healthy
   -- ---- bcube_path_byte
   -- the position in the low bits of the byte
-  pub path-byte-position-low : Never bcube-path-byte.Post (roomOf 4 1 & 1 & 2 & tt) (word none 0x09)
+  pub path-byte-position-low : Never bcube-path-byte.Post (roomOf 4 1 4 & 1 & 2 & tt) (word none 0x09)
   -- level and value exchanged
-  pub path-byte-level-and-value-exchanged : Never bcube-path-byte.Post (roomOf 4 1 & 1 & 0 & tt) (word none 0x01)
+  pub path-byte-level-and-value-exchanged : Never bcube-path-byte.Post (roomOf 4 1 4 & 1 & 0 & tt) (word none 0x01)
   -- the value not bounded
-  pub path-byte-value-not-bounded : Never bcube-path-byte.Post (roomOf 4 1 & 1 & 4 & tt) (word none 0x44)
+  pub path-byte-value-not-bounded : Never bcube-path-byte.Post (roomOf 4 1 4 & 1 & 4 & tt) (word none 0x44)
   -- 9 for 21: a value of a call, and not of a byte
-  pub path-byte-nine-for-21 : Never bcube-path-byte.Post (roomOf 4 1 & 1 & 4 & tt) (word (refusedAt 9 1 1) 0)
+  pub path-byte-nine-for-21 : Never bcube-path-byte.Post (roomOf 4 1 4 & 1 & 4 & tt) (word (refusedAt 9 1 1) 0)
+  -- the bound of level k as n: value 4 at level 3 of (8,3,4)
+  pub path-byte-value-m-at-level-k : Never bcube-path-byte.Post (roomOf 8 3 4 & 3 & 4 & tt) (word none 0xc4)
+  -- the bound of level 0 as m: value 5 refused
+  pub path-byte-value-5-refused : Never bcube-path-byte.Post (roomOf 8 3 4 & 0 & 5 & tt) (word (plain 21) 0)
   -- ---- bcube_path_byte_parts
   -- level and value exchanged: byte 42
-  pub parts-level-and-value-exchanged : Never bcube-path-byte-parts.Post (roomOf 4 1 & 0x42 & tt) (word none 513)
+  pub parts-level-and-value-exchanged : Never bcube-path-byte-parts.Post (roomOf 4 1 4 & 0x42 & tt) (word none 513)
   -- the byte itself told
-  pub parts-byte-told : Never bcube-path-byte-parts.Post (roomOf 4 1 & 0x42 & tt) (word none 0x42)
+  pub parts-byte-told : Never bcube-path-byte-parts.Post (roomOf 4 1 4 & 0x42 & tt) (word none 0x42)
   -- a number above 255 cut to a byte
-  pub parts-number-cut : Never bcube-path-byte-parts.Post (roomOf 4 1 & 0x142 & tt) (word none 258)
+  pub parts-number-cut : Never bcube-path-byte-parts.Post (roomOf 4 1 4 & 0x142 & tt) (word none 258)
   -- 9 with no place
-  pub parts-no-place : Never bcube-path-byte-parts.Post (roomOf 4 1 & 0x44 & tt) (word (plain 9) 0)
+  pub parts-no-place : Never bcube-path-byte-parts.Post (roomOf 4 1 4 & 0x44 & tt) (word (plain 9) 0)
+  -- the bound of level k as n: byte c4 in (8,3,4)
+  pub parts-value-m-at-level-k : Never bcube-path-byte-parts.Post (roomOf 8 3 4 & 0xc4 & tt) (word none 772)
+  -- the bound of level 0 as m: byte 05 refused
+  pub parts-value-5-refused : Never bcube-path-byte-parts.Post (roomOf 8 3 4 & 0x05 & tt) (word (refusedAt 9 1 1) 0)
   -- ---- bcube_read
   -- the hops for the servers: 1 to 521 of (8,3) by c1 41
-  pub read-hops-for-servers : Never bcube-read.Post (roomOf 8 3 & 1 & 521 & q lends array (0xc1 ∷ 0x41 ∷ []) & b lends stale 9 & tt) (word none 2)
+  pub read-hops-for-servers : Never bcube-read.Post (roomOf 8 3 8 & 1 & 521 & q lends array (0xc1 ∷ 0x41 ∷ []) & b lends stale 9 & tt) (word none 2)
   -- route and hop exchanged: 14 at the third byte of 03 00 01, 00 to 03 of (4,1)
-  pub read-route-and-hop-exchanged : Never bcube-read.Post (roomOf 4 1 & 0 & 3 & q lends array (0x03 ∷ 0x00 ∷ 0x01 ∷ []) & b lends stale 9 & tt) (word (refusedAt 14 3 1) 0)
+  pub read-route-and-hop-exchanged : Never bcube-read.Post (roomOf 4 1 4 & 0 & 3 & q lends array (0x03 ∷ 0x00 ∷ 0x01 ∷ []) & b lends stale 9 & tt) (word (refusedAt 14 3 1) 0)
   -- the buffer left as it was lent
-  pub read-not-written : NeverLeaves bcube-read.Post (roomOf 8 3 & 1 & 521 & q lends array (0xc1 ∷ 0x41 ∷ []) & b lends stale 9 & tt) fifth (stale 9)
+  pub read-not-written : NeverLeaves bcube-read.Post (roomOf 8 3 8 & 1 & 521 & q lends array (0xc1 ∷ 0x41 ∷ []) & b lends stale 9 & tt) fifth (stale 9)
   -- places past the servers left as they were lent
-  pub read-zeros-forgotten : NeverLeaves bcube-read.Post (roomOf 8 3 & 1 & 521 & q lends array (0xc1 ∷ 0x41 ∷ []) & b lends stale 9 & tt) fifth (1 ∷ 513 ∷ 521 ∷ stale 6)
+  pub read-zeros-forgotten : NeverLeaves bcube-read.Post (roomOf 8 3 8 & 1 & 521 & q lends array (0xc1 ∷ 0x41 ∷ []) & b lends stale 9 & tt) fifth (1 ∷ 513 ∷ 521 ∷ stale 6)
   -- the buffer touched on refusal
-  pub read-touched : NeverLeaves bcube-read.Post (roomOf 4 1 & 0 & 3 & q lends array (0x03 ∷ 0x00 ∷ 0x01 ∷ []) & b lends stale 9 & tt) fifth (filled 9 (0 ∷ 3 ∷ []))
+  pub read-touched : NeverLeaves bcube-read.Post (roomOf 4 1 4 & 0 & 3 & q lends array (0x03 ∷ 0x00 ∷ 0x01 ∷ []) & b lends stale 9 & tt) fifth (filled 9 (0 ∷ 3 ∷ []))
+  -- the bound of level k as n: 0 to 3 of (4,1,2) by 42 03 40, which meets 8 and 11
+  pub read-by-value-m : NeverLeaves bcube-read.Post (roomOf 4 1 2 & 0 & 3 & q lends array (0x42 ∷ 0x03 ∷ 0x40 ∷ []) & b lends stale 9 & tt) fifth (filled 9 (0 ∷ 8 ∷ 11 ∷ 3 ∷ []))
+  -- 4 for 9: server 8 is not below N
+  pub read-four-for-nine : Never bcube-read.Post (roomOf 4 1 2 & 0 & 3 & q lends array (0x42 ∷ 0x03 ∷ 0x40 ∷ []) & b lends stale 9 & tt) (word (plain 4) 0)
+  -- the bound of level 0 as m: byte 03 refused
+  pub read-by-value-3-refused : Never bcube-read.Post (roomOf 4 1 2 & 0 & 3 & q lends array (0x03 ∷ []) & b lends stale 9 & tt) (word (refusedAt 9 1 1) 0)
+  -- N as n to the power k + 1: 8 to 0 of (4,1,2) by byte 40
+  pub read-in-the-full-room : Never bcube-read.Post (roomOf 4 1 2 & 8 & 0 & q lends array (0x40 ∷ []) & b lends stale 9 & tt) (word none 2)
   -- ---- bcube_write
   -- nine servers refused
-  pub write-nine-refused : Never bcube-write.Post (roomOf 4 1 & q lends 0 ∷ 1 ∷ 5 ∷ 6 ∷ 10 ∷ 11 ∷ 15 ∷ 12 ∷ 8 ∷ [] & b lends stale 8 & tt) (word (plain 22) 0)
+  pub write-nine-refused : Never bcube-write.Post (roomOf 4 1 4 & q lends 0 ∷ 1 ∷ 5 ∷ 6 ∷ 10 ∷ 11 ∷ 15 ∷ 12 ∷ 8 ∷ [] & b lends stale 8 & tt) (word (plain 22) 0)
   -- the place one off: 23 at the third hop of 00, 01, 11, 00, 13
-  pub write-place-one-off : Never bcube-write.Post (roomOf 4 1 & q lends 0 ∷ 1 ∷ 5 ∷ 0 ∷ 7 ∷ [] & b lends stale 8 & tt) (word (refusedAt 23 1 2) 0)
+  pub write-place-one-off : Never bcube-write.Post (roomOf 4 1 4 & q lends 0 ∷ 1 ∷ 5 ∷ 0 ∷ 7 ∷ [] & b lends stale 8 & tt) (word (refusedAt 23 1 2) 0)
   -- the position in the low bits of a byte: 00, 10, 13
-  pub write-position-low : NeverLeaves bcube-write.Post (roomOf 4 1 & q lends 0 ∷ 4 ∷ 7 ∷ [] & b lends stale 8 & tt) third (array (0x05 ∷ 0x0c ∷ []))
+  pub write-position-low : NeverLeaves bcube-write.Post (roomOf 4 1 4 & q lends 0 ∷ 4 ∷ 7 ∷ [] & b lends stale 8 & tt) third (array (0x05 ∷ 0x0c ∷ []))
   -- the buffer left as it was lent
-  pub write-not-written : NeverLeaves bcube-write.Post (roomOf 4 1 & q lends 0 ∷ 4 ∷ 7 ∷ [] & b lends stale 8 & tt) third (stale 8)
+  pub write-not-written : NeverLeaves bcube-write.Post (roomOf 4 1 4 & q lends 0 ∷ 4 ∷ 7 ∷ [] & b lends stale 8 & tt) third (stale 8)
   -- the buffer touched on refusal: the hops before the one that is refused
-  pub write-touched : NeverLeaves bcube-write.Post (roomOf 4 1 & q lends 0 ∷ 1 ∷ 5 ∷ 0 ∷ 7 ∷ [] & b lends stale 8 & tt) third (0x01 ∷ 0x41 ∷ stale 6)
+  pub write-touched : NeverLeaves bcube-write.Post (roomOf 4 1 4 & q lends 0 ∷ 1 ∷ 5 ∷ 0 ∷ 7 ∷ [] & b lends stale 8 & tt) third (0x01 ∷ 0x41 ∷ stale 6)
+  -- N as n to the power k + 1: 0, 8, 11, 3 of (4,1,2)
+  pub written-in-the-full-room : NeverLeaves bcube-write.Post (roomOf 4 1 2 & q lends 0 ∷ 8 ∷ 11 ∷ 3 ∷ [] & b lends stale 8 & tt) third (array (0x42 ∷ 0x03 ∷ 0x40 ∷ []))
   -- ---- bcube_reverse
   -- read from the destination: c1, from 1011 of (8,3), changes nothing
-  pub reverse-read-from-destination : Never bcube-reverse.Post (roomOf 8 3 & 1 & 521 & q lends array (0xc1 ∷ 0x41 ∷ []) & b lends stale 8 & tt) (word (refusedAt 10 1 1) 0)
+  pub reverse-read-from-destination : Never bcube-reverse.Post (roomOf 8 3 8 & 1 & 521 & q lends array (0xc1 ∷ 0x41 ∷ []) & b lends stale 8 & tt) (word (refusedAt 10 1 1) 0)
   -- the hops told in the value
-  pub reverse-hops-told : Never bcube-reverse.Post (roomOf 8 3 & 1 & 521 & q lends array (0xc1 ∷ 0x41 ∷ []) & b lends stale 8 & tt) (word none 2)
+  pub reverse-hops-told : Never bcube-reverse.Post (roomOf 8 3 8 & 1 & 521 & q lends array (0xc1 ∷ 0x41 ∷ []) & b lends stale 8 & tt) (word none 2)
   -- the identity
-  pub reverse-is-identity : NeverLeaves bcube-reverse.Post (roomOf 8 3 & 1 & 521 & q lends array (0xc1 ∷ 0x41 ∷ []) & b lends stale 8 & tt) fifth (array (0xc1 ∷ 0x41 ∷ []))
+  pub reverse-is-identity : NeverLeaves bcube-reverse.Post (roomOf 8 3 8 & 1 & 521 & q lends array (0xc1 ∷ 0x41 ∷ []) & b lends stale 8 & tt) fifth (array (0xc1 ∷ 0x41 ∷ []))
   -- the bytes turned round, and not the servers
-  pub reverse-bytes-turned-round : NeverLeaves bcube-reverse.Post (roomOf 8 3 & 1 & 521 & q lends array (0xc1 ∷ 0x41 ∷ []) & b lends stale 8 & tt) fifth (array (0x41 ∷ 0xc1 ∷ []))
+  pub reverse-bytes-turned-round : NeverLeaves bcube-reverse.Post (roomOf 8 3 8 & 1 & 521 & q lends array (0xc1 ∷ 0x41 ∷ []) & b lends stale 8 & tt) fifth (array (0x41 ∷ 0xc1 ∷ []))
   -- the buffer left as it was lent
-  pub reverse-not-written : NeverLeaves bcube-reverse.Post (roomOf 8 3 & 1 & 521 & q lends array (0xc1 ∷ 0x41 ∷ []) & b lends stale 8 & tt) fifth (stale 8)
+  pub reverse-not-written : NeverLeaves bcube-reverse.Post (roomOf 8 3 8 & 1 & 521 & q lends array (0xc1 ∷ 0x41 ∷ []) & b lends stale 8 & tt) fifth (stale 8)
   -- the buffer touched on refusal 5
-  pub reverse-touched : NeverLeaves bcube-reverse.Post (roomOf 8 3 & 1 & 1 & q lends array (0xc1 ∷ 0x41 ∷ []) & b lends stale 8 & tt) fifth (replicate 8 0)
+  pub reverse-touched : NeverLeaves bcube-reverse.Post (roomOf 8 3 8 & 1 & 1 & q lends array (0xc1 ∷ 0x41 ∷ []) & b lends stale 8 & tt) fifth (replicate 8 0)
+  -- the bound of level k as n: 0 to 3 of (4,1,2) by 42 03 40
+  pub reversed-by-value-m : NeverLeaves bcube-reverse.Post (roomOf 4 1 2 & 0 & 3 & q lends array (0x42 ∷ 0x03 ∷ 0x40 ∷ []) & b lends stale 8 & tt) fifth (array (0x42 ∷ 0x00 ∷ 0x40 ∷ []))
+  -- the bound of level 0 as m: byte 03 refused
+  pub reverse-by-value-3-refused : Never bcube-reverse.Post (roomOf 4 1 2 & 0 & 3 & q lends array (0x03 ∷ []) & b lends stale 8 & tt) (word (refusedAt 9 1 1) 0)
+  -- N as n to the power k + 1: 8 to 0 of (4,1,2) by byte 40
+  pub reversed-in-the-full-room : NeverLeaves bcube-reverse.Post (roomOf 4 1 2 & 8 & 0 & q lends array (0x40 ∷ []) & b lends stale 8 & tt) fifth (array (0x42 ∷ []))
   -- ---- bcube_check
   -- middle servers compared only: 00 to 03 of (4,1), the route 03 twice
-  pub check-middle-servers-only : Never bcube-check.Post (roomOf 4 1 & 0 & 3 & o lends healthy & q lends array (0x03 ∷ []) ++ array (0x03 ∷ []) & tt) (word none 0)
+  pub check-middle-servers-only : Never bcube-check.Post (roomOf 4 1 4 & 0 & 3 & o lends healthy & q lends array (0x03 ∷ []) ++ array (0x03 ∷ []) & tt) (word none 0)
   -- 15 at the earlier of the pair
-  pub check-earlier-of-the-pair : Never bcube-check.Post (roomOf 4 1 & 0 & 3 & o lends healthy & q lends array (0x03 ∷ []) ++ array (0x03 ∷ []) & tt) (word (refusedAt 15 1 0) 0)
+  pub check-earlier-of-the-pair : Never bcube-check.Post (roomOf 4 1 4 & 0 & 3 & o lends healthy & q lends array (0x03 ∷ []) ++ array (0x03 ∷ []) & tt) (word (refusedAt 15 1 0) 0)
   -- the receiver's link forgotten
-  pub check-receiver-forgotten : Never bcube-check.Post (roomOf 4 1 & 0 & 3 & o lends failing 3 1 & q lends array (0x03 ∷ []) & tt) (word none 0)
+  pub check-receiver-forgotten : Never bcube-check.Post (roomOf 4 1 4 & 0 & 3 & o lends failing 3 1 & q lends array (0x03 ∷ []) & tt) (word none 0)
+  -- N as n to the power k + 1: 0 to 7 of (4,1,2) with sixteen bytes of table
+  pub check-full-table-accepted : Never bcube-check.Post (roomOf 4 1 2 & 0 & 7 & o lends healthy & q lends direct ++ other & tt) (word none 0)
+  -- its own eight bytes of table refused
+  pub check-half-filled-table-refused : Never bcube-check.Post (roomOf 4 1 2 & 0 & 7 & o lends replicate 8 0 & q lends direct ++ other & tt) (word (plain 6) 0)
+  -- the bound of level k as n: 0 to 3 by 42 03 40
+  pub check-value-m-accepted : Never bcube-check.Post (roomOf 4 1 2 & 0 & 3 & o lends replicate 8 0 & q lends array (0x42 ∷ 0x03 ∷ 0x40 ∷ []) & tt) (word none 0)
+  -- the bound of level 0 as m: byte 03 refused
+  pub check-value-3-refused : Never bcube-check.Post (roomOf 4 1 2 & 0 & 3 & o lends replicate 8 0 & q lends array (0x03 ∷ []) & tt) (word (refusedAt 9 1 1) 0)
   -- ---- bcube_build
   -- its room counted for routes: 00 to 13 of (4,1)
-  pub build-room-counted : Never bcube-build.Post (roomOf 4 1 & 0 & 7 & b lends stale 32 & tt) (word none 4)
+  pub build-room-counted : Never bcube-build.Post (roomOf 4 1 4 & 0 & 7 & b lends stale 32 & tt) (word none 4)
   -- no routes from a server to itself, and no refusal
-  pub build-same-ends : Never bcube-build.Post (roomOf 4 1 & 7 & 7 & b lends stale 32 & tt) (word none 0)
+  pub build-same-ends : Never bcube-build.Post (roomOf 4 1 4 & 7 & 7 & b lends stale 32 & tt) (word none 0)
   -- lower slots first
-  pub build-lower-slots-first : NeverLeaves bcube-build.Post (roomOf 4 1 & 0 & 7 & b lends stale 32 & tt) fourth (filled 32 (joined (other ∷ direct ∷ [])))
+  pub build-lower-slots-first : NeverLeaves bcube-build.Post (roomOf 4 1 4 & 0 & 7 & b lends stale 32 & tt) fourth (filled 32 (joined (other ∷ direct ∷ [])))
   -- the buffer left as it was lent
-  pub build-not-written : NeverLeaves bcube-build.Post (roomOf 4 1 & 0 & 7 & b lends stale 32 & tt) fourth (stale 32)
+  pub build-not-written : NeverLeaves bcube-build.Post (roomOf 4 1 4 & 0 & 7 & b lends stale 32 & tt) fourth (stale 32)
   -- bytes past the routes left as they were lent
-  pub build-zeros-forgotten : NeverLeaves bcube-build.Post (roomOf 4 1 & 0 & 7 & b lends stale 32 & tt) fourth (joined (direct ∷ other ∷ stale 16 ∷ []))
+  pub build-zeros-forgotten : NeverLeaves bcube-build.Post (roomOf 4 1 4 & 0 & 7 & b lends stale 32 & tt) fourth (joined (direct ∷ other ∷ stale 16 ∷ []))
   -- the buffer touched on refusal 5
-  pub build-touched : NeverLeaves bcube-build.Post (roomOf 4 1 & 7 & 7 & b lends stale 32 & tt) fourth (replicate 32 0)
+  pub build-touched : NeverLeaves bcube-build.Post (roomOf 4 1 4 & 7 & 7 & b lends stale 32 & tt) fourth (replicate 32 0)
+  -- the detour at level k taken mod n: 3001 to 3011 of (8,3,4), from 3 to 4
+  pub build-detour-mod-n : NeverLeaves bcube-build.Post (roomOf 8 3 4 & 1537 & 1545 & b lends stale 32 & tt) fourth
+      (filled 32 (joined (array (0xc4 ∷ 0x41 ∷ 0xc3 ∷ []) ∷ array (0x81 ∷ 0x41 ∷ 0x80 ∷ []) ∷ array (0x41 ∷ []) ∷ array (0x02 ∷ 0x41 ∷ 0x01 ∷ []) ∷ [])))
+  -- the detour at level 0 taken mod m: 0003 to 0013 of (8,3,4), from 3 to 0
+  pub build-detour-mod-m : NeverLeaves bcube-build.Post (roomOf 8 3 4 & 3 & 11 & b lends stale 32 & tt) fourth
+      (filled 32 (joined (array (0xc1 ∷ 0x41 ∷ 0xc0 ∷ []) ∷ array (0x81 ∷ 0x41 ∷ 0x80 ∷ []) ∷ array (0x41 ∷ []) ∷ array (0x00 ∷ 0x41 ∷ 0x03 ∷ []) ∷ [])))
+  -- N as n to the power k + 1: 8 to 0 of (4,1,2)
+  pub build-in-the-full-room : Never bcube-build.Post (roomOf 4 1 2 & 8 & 0 & b lends stale 32 & tt) (word none 2)
   -- ---- bcube_find
   -- the hops made up: the servers of 41 03 counted, 00 to 13 of (4,1)
-  pub find-servers-for-hops : Never bcube-find.Post (roomOf 4 1 & 0 & 7 & o lends healthy & b lends stale 8 & tt) (word none 3)
+  pub find-servers-for-hops : Never bcube-find.Post (roomOf 4 1 4 & 0 & 7 & o lends healthy & b lends stale 8 & tt) (word none 3)
   -- an alternate that exists denied: 00 to 01 of (4,1), where the level-0 link of 00 is failed
-  pub find-denied : Never bcube-find.Post (roomOf 4 1 & 0 & 1 & o lends failing 0 1 & b lends stale 8 & tt) (word none 0)
+  pub find-denied : Never bcube-find.Post (roomOf 4 1 4 & 0 & 1 & o lends failing 0 1 & b lends stale 8 & tt) (word none 0)
   -- the tie rule with the lower level first: 000 to 111 of (2,2)
-  pub find-lower-level-first : NeverLeaves bcube-find.Post (roomOf 2 2 & 0 & 7 & o lends tied & b lends stale 8 & tt) fifth (array (0x01 ∷ 0x81 ∷ 0x41 ∷ []))
+  pub find-lower-level-first : NeverLeaves bcube-find.Post (roomOf 2 2 2 & 0 & 7 & o lends tied & b lends stale 8 & tt) fifth (array (0x01 ∷ 0x81 ∷ 0x41 ∷ []))
   -- the tie rule from the other end
-  pub find-tie-from-the-other-end : NeverLeaves bcube-find.Post (roomOf 2 2 & 0 & 7 & o lends tied & b lends stale 8 & tt) fifth (array (0x41 ∷ 0x01 ∷ 0x81 ∷ []))
+  pub find-tie-from-the-other-end : NeverLeaves bcube-find.Post (roomOf 2 2 2 & 0 & 7 & o lends tied & b lends stale 8 & tt) fifth (array (0x41 ∷ 0x01 ∷ 0x81 ∷ []))
   -- the buffer left as it was lent
-  pub find-not-written : NeverLeaves bcube-find.Post (roomOf 2 2 & 0 & 7 & o lends tied & b lends stale 8 & tt) fifth (stale 8)
+  pub find-not-written : NeverLeaves bcube-find.Post (roomOf 2 2 2 & 0 & 7 & o lends tied & b lends stale 8 & tt) fifth (stale 8)
   -- the buffer touched on refusal 5
-  pub find-touched : NeverLeaves bcube-find.Post (roomOf 2 2 & 7 & 7 & o lends tied & b lends stale 8 & tt) fifth (replicate 8 0)
+  pub find-touched : NeverLeaves bcube-find.Post (roomOf 2 2 2 & 7 & 7 & o lends tied & b lends stale 8 & tt) fifth (replicate 8 0)
+  -- a value from m to n - 1 tried at level k: 00 to 01 of (4,1,2), where only 42 01 40 of (4,1) is left
+  pub find-value-m-tried : NeverLeaves bcube-find.Post (roomOf 4 1 2 & 0 & 1 & o lends cutOff & b lends stale 8 & tt) fifth (array (0x42 ∷ 0x01 ∷ 0x40 ∷ []))
+  -- no value from m on tried at level 0: 00 to 03 of (4,1,2)
+  pub find-value-3-not-tried : Never bcube-find.Post (roomOf 4 1 2 & 0 & 3 & o lends replicate 8 0 & b lends stale 8 & tt) (word none 0)
+  -- N as n to the power k + 1: 8 to 0 of (4,1,2) with sixteen bytes of table
+  pub find-in-the-full-room : Never bcube-find.Post (roomOf 4 1 2 & 8 & 0 & o lends healthy & b lends stale 8 & tt) (word none 1)
+  -- the same of 0 to 1, servers of the room
+  pub find-over-full-table : Never bcube-find.Post (roomOf 4 1 2 & 0 & 1 & o lends healthy & b lends stale 8 & tt) (word none 1)
   -- ---- bcube_select, 00 to 13 of (4,1) with server 03 dead, where not said otherwise: 41 03, then 01 42 03 41
   -- 16 since one route is broken
-  pub select-sixteen-with-a-route : Never bcube-select.Post (roomOf 4 1 & 0 & 7 & o lends failing 3 3 & b lends stale 32 & tt) (word (plain 16) 0)
+  pub select-sixteen-with-a-route : Never bcube-select.Post (roomOf 4 1 4 & 0 & 7 & o lends failing 3 3 & b lends stale 32 & tt) (word (plain 16) 0)
   -- an alternate that exists denied
-  pub select-denied : Never bcube-select.Post (roomOf 4 1 & 0 & 7 & o lends failing 3 3 & b lends stale 32 & tt) (word none 1)
+  pub select-denied : Never bcube-select.Post (roomOf 4 1 4 & 0 & 7 & o lends failing 3 3 & b lends stale 32 & tt) (word none 1)
   -- lower slots first
-  pub select-lower-slots-first : NeverLeaves bcube-select.Post (roomOf 4 1 & 0 & 7 & o lends failing 3 3 & b lends stale 32 & tt) fifth (filled 32 (joined (array (0x01 ∷ 0x42 ∷ 0x03 ∷ 0x41 ∷ []) ∷ direct ∷ [])))
+  pub select-lower-slots-first : NeverLeaves bcube-select.Post (roomOf 4 1 4 & 0 & 7 & o lends failing 3 3 & b lends stale 32 & tt) fifth (filled 32 (joined (array (0x01 ∷ 0x42 ∷ 0x03 ∷ 0x41 ∷ []) ∷ direct ∷ [])))
   -- the buffer left as it was lent
-  pub select-not-written : NeverLeaves bcube-select.Post (roomOf 4 1 & 0 & 7 & o lends failing 3 3 & b lends stale 32 & tt) fifth (stale 32)
+  pub select-not-written : NeverLeaves bcube-select.Post (roomOf 4 1 4 & 0 & 7 & o lends failing 3 3 & b lends stale 32 & tt) fifth (stale 32)
   -- the buffer touched on refusal 16: 13 is dead
-  pub select-touched : NeverLeaves bcube-select.Post (roomOf 4 1 & 0 & 7 & o lends failing 7 3 & b lends stale 32 & tt) fifth (replicate 32 0)
-  -- ---- bcube_pick, 00 to 13 of (4,1)
+  pub select-touched : NeverLeaves bcube-select.Post (roomOf 4 1 4 & 0 & 7 & o lends failing 7 3 & b lends stale 32 & tt) fifth (replicate 32 0)
+  -- the detour at level k taken mod n: 10 to 13 of (4,1,2), from 1 to 2
+  pub select-detour-mod-n : NeverLeaves bcube-select.Post (roomOf 4 1 2 & 4 & 7 & o lends replicate 8 0 & b lends stale 32 & tt) fifth (filled 32 (joined (array (0x42 ∷ 0x03 ∷ 0x41 ∷ []) ∷ array (0x03 ∷ []) ∷ [])))
+  -- a value from m to n - 1 tried at level k: 00 to 01 of (4,1,2), where only 42 01 40 of (4,1) is left
+  pub select-value-m-tried : NeverLeaves bcube-select.Post (roomOf 4 1 2 & 0 & 1 & o lends cutOff & b lends stale 32 & tt) fifth (filled 32 (0x42 ∷ 0x01 ∷ 0x40 ∷ []))
+  -- 16, since value 3 is not below m: 00 to 03 of (4,1,2)
+  pub select-sixteen-for-value-3 : Never bcube-select.Post (roomOf 4 1 2 & 0 & 3 & o lends replicate 8 0 & b lends stale 32 & tt) (word (plain 16) 0)
+  -- N as n to the power k + 1: 8 to 0 of (4,1,2) with sixteen bytes of table
+  pub select-in-the-full-room : Never bcube-select.Post (roomOf 4 1 2 & 8 & 0 & o lends healthy & b lends stale 32 & tt) (word none 2)
+  -- the same of 0 to 7, servers of the room
+  pub select-over-full-table : Never bcube-select.Post (roomOf 4 1 2 & 0 & 7 & o lends healthy & b lends stale 32 & tt) (word none 2)
+  -- ---- bcube_pick, 00 to 13 of (4,1) where not said otherwise
   -- kept before fresh
-  pub pick-kept-before-fresh : Never bcube-pick.Post (roomOf 4 1 & 0 & 7 & o lends healthy & q lends direct & b lends other & tt) (word none 513)
+  pub pick-kept-before-fresh : Never bcube-pick.Post (roomOf 4 1 4 & 0 & 7 & o lends healthy & q lends direct & b lends other & tt) (word none 513)
   -- list and place exchanged: the first of the kept list
-  pub pick-list-and-place-exchanged : Never bcube-pick.Post (roomOf 4 1 & 0 & 7 & o lends failing 3 3 & q lends other & b lends direct & tt) (word none 258)
+  pub pick-list-and-place-exchanged : Never bcube-pick.Post (roomOf 4 1 4 & 0 & 7 & o lends failing 3 3 & q lends other & b lends direct & tt) (word none 258)
   -- 16 tested before 7
-  pub pick-sixteen-before-seven : Never bcube-pick.Post (roomOf 4 1 & 0 & 7 & o lends healthy & q lends replicate 9 0 & b lends [] & tt) (word (plain 16) 0)
-  -- ---- bcube_step, a packet for 13 of (4,1) with the path bytes 41 03: from 00 it goes on to 10, by OutPort 7
+  pub pick-sixteen-before-seven : Never bcube-pick.Post (roomOf 4 1 4 & 0 & 7 & o lends healthy & q lends replicate 9 0 & b lends [] & tt) (word (plain 16) 0)
+  -- the bound of level k as n: 0 to 3 of (4,1,2), 42 03 40 usable
+  pub pick-value-m-usable : Never bcube-pick.Post (roomOf 4 1 2 & 0 & 3 & o lends replicate 8 0 & q lends array (0x42 ∷ 0x03 ∷ 0x40 ∷ []) & b lends array (0x03 ∷ []) & tt) (word none 257)
+  -- the bound of level 0 as m: 03 not usable
+  pub pick-value-3-not-usable : Never bcube-pick.Post (roomOf 4 1 2 & 0 & 3 & o lends replicate 8 0 & q lends array (0x03 ∷ []) & b lends [] & tt) (word (plain 16) 0)
+  -- N as n to the power k + 1: a table of 16 bytes for (4,1,2)
+  pub pick-over-full-table : Never bcube-pick.Post (roomOf 4 1 2 & 0 & 7 & o lends healthy & q lends direct & b lends [] & tt) (word none 257)
+  -- ---- bcube_step, a packet for 13 of (4,1) with the path bytes 41 03, where not said otherwise: from 00 it goes on to 10, by OutPort 7
   -- the index tested before arrival
-  pub step-index-before-arrival : Never bcube-step.Post (roomOf 4 1 & 7 & 7 & 8 & q lends direct & o lends neighbour 0x41 1 & tt) (record { word = 18; mac = 0 })
+  pub step-index-before-arrival : Never bcube-step.Post (roomOf 4 1 4 & 7 & 7 & 8 & q lends direct & o lends neighbour 0x41 1 & tt) (record { word = 18; mac = 0 })
   -- a delivery told as nothing at all
-  pub step-delivery-not-told : Never bcube-step.Post (roomOf 4 1 & 7 & 7 & 0 & q lends direct & o lends neighbour 0x41 1 & tt) (record { word = 0; mac = 0 })
+  pub step-delivery-not-told : Never bcube-step.Post (roomOf 4 1 4 & 7 & 7 & 0 & q lends direct & o lends neighbour 0x41 1 & tt) (record { word = 0; mac = 0 })
   -- the index not raised
-  pub step-index-not-raised : Never bcube-step.Post (roomOf 4 1 & 0 & 7 & 0 & q lends direct & o lends neighbour 0x41 1 & tt)
+  pub step-index-not-raised : Never bcube-step.Post (roomOf 4 1 4 & 0 & 7 & 0 & q lends direct & o lends neighbour 0x41 1 & tt)
       (packed (record { refusal = none; delivered = false; next = 4; index = 0; mac = mac; port = 7 }))
   -- next server and OutPort exchanged
-  pub step-server-and-port-exchanged : Never bcube-step.Post (roomOf 4 1 & 0 & 7 & 0 & q lends direct & o lends neighbour 0x41 1 & tt)
+  pub step-server-and-port-exchanged : Never bcube-step.Post (roomOf 4 1 4 & 0 & 7 & 0 & q lends direct & o lends neighbour 0x41 1 & tt)
       (packed (record { refusal = none; delivered = false; next = 7; index = 1; mac = mac; port = 4 }))
   -- the index cut to 32 bits
-  pub step-index-cut : Never bcube-step.Post (roomOf 4 1 & 0 & 7 & 4294967296 & q lends direct & o lends neighbour 0x41 1 & tt) (packed went)
+  pub step-index-cut : Never bcube-step.Post (roomOf 4 1 4 & 0 & 7 & 4294967296 & q lends direct & o lends neighbour 0x41 1 & tt) (packed went)
   -- here cut to 32 bits
-  pub step-here-cut : Never bcube-step.Post (roomOf 4 1 & 4294967296 & 7 & 0 & q lends direct & o lends neighbour 0x41 1 & tt) (packed went)
+  pub step-here-cut : Never bcube-step.Post (roomOf 4 1 4 & 4294967296 & 7 & 0 & q lends direct & o lends neighbour 0x41 1 & tt) (packed went)
   -- the MAC's bytes the other way round
-  pub step-mac-turned-round : Never bcube-step.Post (roomOf 4 1 & 0 & 7 & 0 & q lends direct & o lends neighbour 0x41 1 & tt)
+  pub step-mac-turned-round : Never bcube-step.Post (roomOf 4 1 4 & 0 & 7 & 0 & q lends direct & o lends neighbour 0x41 1 & tt)
       (packed (record { refusal = none; delivered = false; next = 4; index = 1; mac = 0x04 ∷ 0x00 ∷ 0x10 ∷ 0x5e ∷ 0x00 ∷ 0x02 ∷ []; port = 7 }))
   -- the MAC's two halves exchanged: the last two bytes above the first four
-  pub step-mac-halves-exchanged : Never bcube-step.Post (roomOf 4 1 & 0 & 7 & 0 & q lends direct & o lends neighbour 0x41 1 & tt)
+  pub step-mac-halves-exchanged : Never bcube-step.Post (roomOf 4 1 4 & 0 & 7 & 0 & q lends direct & o lends neighbour 0x41 1 & tt)
       (packed (record { refusal = none; delivered = false; next = 4; index = 1; mac = 0x00 ∷ 0x04 ∷ 0x02 ∷ 0x00 ∷ 0x5e ∷ 0x10 ∷ []; port = 7 }))
   -- the MAC of a neighbour that is not available, beside the refusal
-  pub step-mac-on-refusal : Never bcube-step.Post (roomOf 4 1 & 0 & 7 & 0 & q lends direct & o lends neighbour 0x41 0 & tt)
+  pub step-mac-on-refusal : Never bcube-step.Post (roomOf 4 1 4 & 0 & 7 & 0 & q lends direct & o lends neighbour 0x41 0 & tt)
       (packed (record { refusal = refusedAt 19 1 1; delivered = false; next = 0; index = 0; mac = mac; port = 0 }))
   -- the MAC of the byte that the index names, at a delivery
-  pub step-mac-at-delivery : Never bcube-step.Post (roomOf 4 1 & 7 & 7 & 0 & q lends direct & o lends neighbour 0x41 1 & tt)
+  pub step-mac-at-delivery : Never bcube-step.Post (roomOf 4 1 4 & 7 & 7 & 0 & q lends direct & o lends neighbour 0x41 1 & tt)
       (packed (record { refusal = none; delivered = true; next = 0; index = 0; mac = mac; port = 0 }))
+  -- 9 not given at a value from m to n - 1: byte 42 from 00 of (4,1,2), whose flag is 1
+  pub step-value-m-taken : Never bcube-step.Post (roomOf 4 1 2 & 0 & 3 & 0 & q lends array (0x42 ∷ 0x03 ∷ 0x40 ∷ []) & o lends neighbour 0x42 1 & tt)
+      (packed (record { refusal = none; delivered = false; next = 8; index = 1; mac = mac; port = 7 }))
+  -- 4 for 9: server 8 is not below N
+  pub step-four-for-nine : Never bcube-step.Post (roomOf 4 1 2 & 0 & 3 & 0 & q lends array (0x42 ∷ 0x03 ∷ 0x40 ∷ []) & o lends neighbour 0x42 1 & tt) (record { word = 4; mac = 0 })
+  -- the bound of level 0 as m: byte 03 from 00 of (4,1,2) refused
+  pub step-value-3-refused : Never bcube-step.Post (roomOf 4 1 2 & 0 & 3 & 0 & q lends array (0x03 ∷ []) & o lends neighbour 0x03 1 & tt)
+      (packed (noStep (refusedAt 9 1 1)))
+  -- N as n to the power k + 1: at server 8 of (4,1,2)
+  pub step-in-the-full-room : Never bcube-step.Post (roomOf 4 1 2 & 8 & 3 & 0 & q lends array (0x40 ∷ 0x03 ∷ []) & o lends neighbour 0x40 1 & tt)
+      (packed (record { refusal = none; delivered = false; next = 0; index = 1; mac = mac; port = 7 }))

@@ -59,3 +59,7 @@ bothBroken = 0 ∷ 2 ∷ 0 ∷ 2 ∷ 1 ∷ 0 ∷ 1 ∷ 0 ∷ 0 ∷ 0 ∷ 0 ∷ 1
 -- level-0 links of 10, 11, 12 and 13
 abbrev pub laid : List ℕ
 laid = 2 ∷ 0 ∷ 0 ∷ 0 ∷ 3 ∷ 1 ∷ 1 ∷ 1 ∷ 2 ∷ 0 ∷ 0 ∷ 0 ∷ 2 ∷ 0 ∷ 0 ∷ 0 ∷ []
+
+-- a table of the (4,1,2) room in which no route leads from 00 to 01: the level-0 link of 00 is failed, and 10 is dead
+abbrev pub cutOff : List ℕ
+cutOff = 1 ∷ 0 ∷ 0 ∷ 0 ∷ 3 ∷ 0 ∷ 0 ∷ 0 ∷ []

@@ -1,13 +1,14 @@
 -- Wrong answers of `finder`, wherever the table lies.
 use Prim.Native.Nat.{ℕ}
 use mathlib.Core.List.{List, [], _∷_}
+use lib.ListN.{replicate}
 use Rattle.refusals.specs.Refusals.{none}
-use Rattle.room.specs.Shapes.{fullRoom}
+use Rattle.room.specs.Shapes.{shapeOf, fullRoom}
 use Rattle.finder.specs.declared.Found.{Found}
 use Rattle.finder.specs.Answers.{noRoute}
 use Rattle.finder.proofs.find_route.Reads as find-route
 use Rattle.wrong.specs.Never.{Never, Loan, _&_, _lends_}
-use Rattle.wrong.specs.Examples.{array, healthy, failing, tied}
+use Rattle.wrong.specs.Examples.{array, healthy, failing, tied, cutOff}
 
 -- a route of so many hops, by these path bytes
 abbrev pub going : ℕ → List ℕ → Found
@@ -31,3 +32,11 @@ pub record Finder (o : Loan) : Type 0 where
   pub servers-for-hops : Never find-route.Post (fullRoom 4 1 & o lends healthy & 0 & 7 & tt) (going 3 (0x41 ∷ 0x03 ∷ []))
   -- 16 told, which is selection's to say: 13 is dead
   pub sixteen-told : Never find-route.Post (fullRoom 4 1 & o lends failing 7 3 & 0 & 7 & tt) (noRoute 16)
+  -- a value from m to n - 1 tried at level k: 00 to 01 of (4,1,2), where only 42 01 40 of (4,1) is left
+  pub value-m-tried : Never find-route.Post (shapeOf 4 1 2 & o lends cutOff & 0 & 1 & tt) (going 3 (0x42 ∷ 0x01 ∷ 0x40 ∷ []))
+  -- no value from m on tried at level 0: 00 to 03 of (4,1,2)
+  pub value-3-not-tried : Never find-route.Post (shapeOf 4 1 2 & o lends replicate 8 0 & 0 & 3 & tt) (noRoute 0)
+  -- N as n to the power k + 1: 8 to 0 of (4,1,2) with sixteen bytes of table
+  pub found-in-the-full-room : Never find-route.Post (shapeOf 4 1 2 & o lends healthy & 8 & 0 & tt) (going 1 (0x40 ∷ []))
+  -- the same of 0 to 1, servers of the room
+  pub found-over-full-table : Never find-route.Post (shapeOf 4 1 2 & o lends healthy & 0 & 1 & tt) (going 1 (0x01 ∷ []))

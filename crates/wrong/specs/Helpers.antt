@@ -1,12 +1,12 @@
 -- Wrong answers of the functions that serve the layers above them, wherever the table lies.
-use Prim.Native.Nat.{ℕ, _+_}
+use Prim.Native.Nat.{ℕ}
 use mathlib.Core.Logic.{_≢_}
 use lib.ListN.{replicate}
 use denote.Ref.{now}
 use Rattle.refusals.specs.Refusals.{refusedAt}
 use Rattle.refusals.proofs.Refusal.of_route.Reads as of-route
 use Rattle.room.specs.declared.Side.{Side}
-use Rattle.room.specs.Shapes.{fullRoom}
+use Rattle.room.specs.Shapes.{shapeOf, fullRoom}
 use Rattle.room.proofs.power.Reads as power
 use Rattle.room.proofs.server_count.Reads as server-count
 use Rattle.room.proofs.digit_bound.Reads as digit-bound
@@ -39,21 +39,39 @@ pub record Helpers (o : Loan) : Type 0 where
   pub one-level-less : Never server-count.Post (fullRoom 8 3 & tt) 512
   -- a room of level 4 counted
   pub level-4-counted : Never server-count.Post (fullRoom 2 4 & tt) 32
+  -- N as n to the power k + 1: (8,3,4)
+  pub full-room-counted : Never server-count.Post (shapeOf 8 3 4 & tt) 4096
+  -- a room of m above n counted: (4,1,5)
+  pub fill-above-n-counted : Never server-count.Post (shapeOf 4 1 5 & tt) 20
+  -- the largest m of 64 bits times 8 to the power 3, cut to 64 bits
+  pub product-cut : Never server-count.Post (shapeOf 8 3 18446744073709551615 & tt) 18446744073709551104
   -- ---- digit_bound
   -- k for n
   pub k-for-bound : Never digit-bound.Post (fullRoom 8 3 & 0 & tt) 3
   -- the largest digit for the bound
   pub largest-for-bound : Never digit-bound.Post (fullRoom 8 3 & 0 & tt) 7
+  -- m at every level: level 0 of (8,3,4)
+  pub m-at-level-0 : Never digit-bound.Post (shapeOf 8 3 4 & 0 & tt) 4
+  -- n at every level: level 3 of (8,3,4)
+  pub n-at-level-k : Never digit-bound.Post (shapeOf 8 3 4 & 3 & tt) 8
   -- ---- pair_refusal
   -- the second server not tested
   pub second-not-tested : Never pair-refusal.Post (fullRoom 4 1 & 0 & 16 & tt) 0
   -- a server twice refused
   pub same-server-refused : Never pair-refusal.Post (fullRoom 4 1 & 7 & 7 & tt) 5
-  -- ---- side_of, of 13 of (4,1) at level 1
+  -- N as n to the power k + 1: 2048 of (8,3,4) taken
+  pub second-of-the-full-room : Never pair-refusal.Post (shapeOf 8 3 4 & 0 & 2048 & tt) 0
+  -- ---- side_of, of 13 of (4,1) at level 1 where not said otherwise
   -- the server itself for the first
   pub server-for-first : Never side-of.Post (fullRoom 4 1 & 7 & 1 & tt) (aSide 7 4 4)
   -- the servers that differ in the other digit
   pub other-digit : Never side-of.Post (fullRoom 4 1 & 7 & 1 & tt) (aSide 4 1 4)
+  -- n servers at a switch of level k: 0 of (8,3,4) at level 3
+  pub n-servers-at-level-k : Never side-of.Post (shapeOf 8 3 4 & 0 & 3 & tt) (aSide 0 512 8)
+  -- m servers at a switch of level 0
+  pub m-servers-at-level-0 : Never side-of.Post (shapeOf 8 3 4 & 0 & 0 & tt) (aSide 0 1 4)
+  -- weights to the base m
+  pub stride-to-the-base-m : Never side-of.Post (shapeOf 8 3 4 & 0 & 3 & tt) (aSide 0 64 4)
   -- ---- mark
   -- nothing marked
   pub marks-nothing : NeverLeaves mark.Post (o lends failing 3 1 & 3 & 1 & tt) (λ x. now (x .0)) (failing 3 1)
@@ -73,6 +91,10 @@ pub record Helpers (o : Loan) : Type 0 where
   pub bit-above-k-taken : Never room-refusal.Post (fullRoom 4 1 & o lends failing 3 4 & 0 & 3 & tt) 0
   -- a good room refused
   pub good-room-refused : Never room-refusal.Post (fullRoom 4 1 & o lends healthy & 0 & 3 & tt) 6
+  -- N as n to the power k + 1: a table of 16 bytes for (4,1,2) taken
+  pub full-table-taken : Never room-refusal.Post (shapeOf 4 1 2 & o lends healthy & 0 & 3 & tt) 0
+  -- its own table of 8 bytes refused
+  pub half-filled-table-refused : Never room-refusal.Post (shapeOf 4 1 2 & o lends replicate 8 0 & 0 & 3 & tt) 6
   -- ---- level_of
   -- the low bits
   pub level-in-low-bits : Never level-of.Post (0x42 & tt) 0x02

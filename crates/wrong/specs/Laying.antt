@@ -2,7 +2,7 @@
 use mathlib.Core.List.{[], _∷_}
 use lib.ListN.{replicate, set}
 use Rattle.refusals.specs.Refusals.{none, plain, refusedAt}
-use Rattle.room.specs.Shapes.{fullRoom}
+use Rattle.room.specs.Shapes.{shapeOf, fullRoom}
 use Rattle.laying.proofs.lay_route.Reads as lay-route
 use Rattle.wrong.specs.Never.{Never, NeverLeaves, Loan, second, _&_, _lends_}
 use Rattle.wrong.specs.Examples.{array, healthy, failing, direct, laid}
@@ -39,3 +39,9 @@ pub record Laying (o q : Loan) : Type 0 where
   -- the table touched on refusal: the first hop of 41 41, whose second changes nothing
   pub laid-on-refusal : NeverLeaves lay-route.Post (fullRoom 4 1 & o lends healthy & 0 & 7 & q lends array (0x41 ∷ 0x41 ∷ []) & tt) second
       (2 ∷ 0 ∷ 0 ∷ 0 ∷ 2 ∷ 0 ∷ 0 ∷ 0 ∷ 2 ∷ 0 ∷ 0 ∷ 0 ∷ 2 ∷ 0 ∷ 0 ∷ 0 ∷ [])
+  -- N as n to the power k + 1: a table of 16 bytes for (4,1,2) taken
+  pub full-table-taken : Never lay-route.Post (shapeOf 4 1 2 & o lends healthy & 0 & 7 & q lends direct & tt) none
+  -- the bound of level k as n: 0 to 3 of (4,1,2) by 42 03 40
+  pub value-m-laid : Never lay-route.Post (shapeOf 4 1 2 & o lends replicate 8 0 & 0 & 3 & q lends array (0x42 ∷ 0x03 ∷ 0x40 ∷ []) & tt) none
+  -- m servers at a switch of level 0: 00 by 10 to 13 of (4,1,2), the links of 12 and 13 forgotten
+  pub m-servers-at-level-0 : NeverLeaves lay-route.Post (shapeOf 4 1 2 & o lends replicate 8 0 & 0 & 7 & q lends direct & tt) second (2 ∷ 0 ∷ 0 ∷ 0 ∷ 3 ∷ 1 ∷ 0 ∷ 0 ∷ [])

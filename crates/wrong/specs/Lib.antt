@@ -13,3 +13,4 @@ pub mod Pick
 pub mod Step
 pub mod DeskLine
 pub mod Driver
+pub mod Fill

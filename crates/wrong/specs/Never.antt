@@ -15,6 +15,10 @@ Never {K} {A} {R} {X} post a r = (κ : K) (x : X) → post κ a r x → ⊥
 abbrev pub NeverLeaves : {K A R X : Type 0} → (K → A → R → X → Type 0) → A → (X → List ℕ) → List ℕ → Type 0
 NeverLeaves {K} {A} {R} {X} post a buffer bs = (κ : K) (r : R) (x : X) → post κ a r x → buffer x ≡ bs → ⊥
 
+-- the contract never allows a result of which `told` is this number, whatever else it holds
+abbrev pub NeverTells : {K A R X : Type 0} → (K → A → R → X → Type 0) → A → (R → ℕ) → ℕ → Type 0
+NeverTells {K} {A} {R} {X} post a told v = (κ : K) (r : R) (x : X) → post κ a r x → told r ≡ v → ⊥
+
 -- ---- arguments
 
 -- arguments in turn; tt stands after the last

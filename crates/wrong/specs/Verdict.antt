@@ -2,10 +2,10 @@
 use mathlib.Core.List.{[], _∷_, _++_}
 use lib.ListN.{replicate}
 use Rattle.refusals.specs.Refusals.{none, plain, refusedAt}
-use Rattle.room.specs.Shapes.{fullRoom}
+use Rattle.room.specs.Shapes.{shapeOf, fullRoom}
 use Rattle.verdict.proofs.check_list.Reads as check-list
 use Rattle.wrong.specs.Never.{Never, Loan, _&_, _lends_}
-use Rattle.wrong.specs.Examples.{array, healthy, failing}
+use Rattle.wrong.specs.Examples.{array, healthy, failing, direct, other}
 
 pub record Verdict (o q : Loan) : Type 0 where
   -- ---- check_list
@@ -23,3 +23,13 @@ pub record Verdict (o q : Loan) : Type 0 where
   pub empty-list-accepted : Never check-list.Post (fullRoom 4 1 & o lends healthy & 0 & 3 & q lends [] & tt) none
   -- 7 tested before 6: a list of nine bytes, a table of none
   pub list-before-table : Never check-list.Post (fullRoom 4 1 & o lends [] & 0 & 3 & q lends replicate 9 0 & tt) (plain 7)
+  -- N as n to the power k + 1: 0 to 7 of (4,1,2) with sixteen bytes of table
+  pub full-table-accepted : Never check-list.Post (shapeOf 4 1 2 & o lends healthy & 0 & 7 & q lends direct ++ other & tt) none
+  -- its own eight bytes of table refused
+  pub half-filled-table-refused : Never check-list.Post (shapeOf 4 1 2 & o lends replicate 8 0 & 0 & 7 & q lends direct ++ other & tt) (plain 6)
+  -- the bound of level k as n: 0 to 3 by 42 03 40
+  pub value-m-accepted : Never check-list.Post (shapeOf 4 1 2 & o lends replicate 8 0 & 0 & 3 & q lends array (0x42 ∷ 0x03 ∷ 0x40 ∷ []) & tt) none
+  -- 4 for 9: server 8 is not below N
+  pub four-for-nine : Never check-list.Post (shapeOf 4 1 2 & o lends replicate 8 0 & 0 & 3 & q lends array (0x42 ∷ 0x03 ∷ 0x40 ∷ []) & tt) (plain 4)
+  -- the bound of level 0 as m: byte 03 refused
+  pub value-3-refused : Never check-list.Post (shapeOf 4 1 2 & o lends replicate 8 0 & 0 & 3 & q lends array (0x03 ∷ []) & tt) (refusedAt 9 1 1)

@@ -13,7 +13,7 @@ unfolding buildAnswer
 build-routes-spec =
     tie.close
     (tie.spec
-    -- ends-refusal-requires, no-building-requires, returns: 1 to 5
+    -- ends-refusal-requires, no-building-requires, returns: 1, 2, 26, 3 to 5
     (λ c κs. search needs)
     (λ c κs. search needs)
     (λ c. search answer-refused)

@@ -12,4 +12,4 @@ shape-in-spec =
     -- new-requires
     (λ c κs. search needs)
     -- returns
-    (λ c. c .full .ensures))
+    (λ c. c .new .ensures))

@@ -10,7 +10,7 @@ pub lay-route-spec : {M : Type 1} → statement M
 lay-route-spec =
     tie.close
     (tie.spec
-    -- room-refusal-requires, plain-requires, same-length, returns: 1 to 6
+    -- room-refusal-requires, plain-requires, same-length, returns: 1, 2, 26, 3 to 6
     (λ c κs. search needs)
     (λ c κs. search needs)
     (λ c. search needs)

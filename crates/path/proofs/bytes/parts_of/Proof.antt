@@ -8,7 +8,7 @@ pub parts-of-spec : {M : Type 1} → statement M
 parts-of-spec =
     tie.close
     (tie.spec
-    -- shape-refusal-requires, plain-requires, no-parts-requires, returns: 1 to 3
+    -- shape-refusal-requires, plain-requires, no-parts-requires, returns: 1, 2, 26, 3
     (λ c κs. search needs)
     (λ c κs. search needs)
     (λ c κs. search needs)

@@ -8,24 +8,24 @@ pub hop-from-spec : {M : Type 1} → statement M
 hop-from-spec =
     tie.close
     (tie.spec
-    -- the level and the value of the byte; 8
+    -- the level and the value of the byte; the bound, the power of n, of which neither is 0
     (λ c κs. search needs)
     (λ c κs. search needs)
     (λ c κs. search needs)
-    (λ c. search hop-eight)
-    -- 9
-    (λ c κs. search needs)
-    (λ c κs. search needs)
-    (λ c. search hop-nine)
-    -- the power of n; neither it nor n is 0; 10
     (λ c κs. search needs)
     (λ c. search hop-weight)
     (λ c. search hop-ports)
+    -- all tests in one go; the next server
     (λ c κs. search needs)
-    (λ c. search hop-ten)
-    -- the next server
     (λ c. search own-fits)
     (λ c. search own-there)
     (λ c. search new-fits)
     (λ c. search next-fits)
-    (λ c. search hop-goes))
+    (λ c. search hop-goes)
+    -- 8, 9, 10
+    (λ c κs. search needs)
+    (λ c. search hop-eight)
+    (λ c κs. search needs)
+    (λ c. search hop-nine)
+    (λ c κs. search needs)
+    (λ c. search hop-ten))

@@ -8,7 +8,7 @@ pub write-path-spec : {M : Type 1} → statement M
 write-path-spec =
     tie.close
     (tie.spec
-    -- 1, 2, 3, 22, 4, 5
+    -- 1, 2, 26, 3, 22, 4, 5
     (λ c κs. search needs)
     (λ c κs. search needs)
     (λ c κs. search needs)

@@ -9,7 +9,7 @@ write-refusal-spec =
     tie.close
     (tie.spec
     (λ c κs. search needs)
-    -- 1, 2, 3
+    -- 1, 2, 26, 3
     (λ c. search write-shape)
     -- 22
     (λ c. search write-few)

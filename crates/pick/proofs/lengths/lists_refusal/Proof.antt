@@ -12,7 +12,7 @@ unfolding listsRefusal
 lists-refusal-spec =
     tie.close
     (tie.spec
-    -- room-refusal-requires, returns: 1 to 6
+    -- room-refusal-requires, returns: 1, 2, 26, 3 to 6
     (λ c κs. search needs)
     (λ c. search chain-stops)
     -- are-arrays-requires, are-arrays-requires-2: the two lists

@@ -12,7 +12,7 @@ pick-place-spec =
     (tie.spec
     -- lists-refusal-requires
     (λ c κs. search needs)
-    -- no-place-requires, returns: 1 to 7
+    -- no-place-requires, returns: 1, 2, 26, 3 to 7
     (λ c κs. search needs)
     (λ c. search stands-refused)
     -- first-usable-requires, add-a-place, a-place-requires, returns-2: in the fresh list

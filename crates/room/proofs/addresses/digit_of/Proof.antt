@@ -1,8 +1,7 @@
 -- `room::addresses::digit_of` meets its contract. Assumes nothing.
 use borrow.Author.Needs.{needs}
 use Rattle.room.specs.Answers.{digitAnswer}
-use Rattle.room.proofs.RefusalLaws.{link-server, link-fits, link-low}
-use Rattle.room.proofs.AnswerLaws.{number-refused, number-given, digit-held}
+use Rattle.room.proofs.AnswerLaws.{number-refused, number-given}
 use Rattle.room.proofs.addresses.digit_of.Statement.{statement}
 use Rattle.room.proofs.addresses.digit_of.Tie as tie
 
@@ -14,9 +13,6 @@ digit-of-spec =
     (λ c κs. search needs)
     (λ c κs. search needs)
     (λ c. search number-refused)
-    -- the four digits; the level is one of their places
-    (λ c κs. search link-server)
-    (λ c. search link-fits)
-    (λ c. search link-low)
     (λ c κs. search needs)
-    (λ c. search (number-given, digit-held)))
+    (λ c κs. search needs)
+    (λ c. search number-given))

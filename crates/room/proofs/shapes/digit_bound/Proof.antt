@@ -1,5 +1,5 @@
 -- `room::shapes::digit_bound` meets its contract. Assumes nothing.
-use mathlib.Core.Path.{refl}
+use borrow.Author.Tests.{eq-eqb, ne-eqb}
 use Rattle.room.specs.Shapes.{bound}
 use Rattle.room.proofs.shapes.digit_bound.Statement.{statement}
 use Rattle.room.proofs.shapes.digit_bound.Tie as tie
@@ -9,4 +9,5 @@ unfolding bound
 digit-bound-spec =
     tie.close
     (tie.spec
-    (λ c. refl))
+    (λ c. simp (eq-eqb _ _ (c .if1 .taken)))
+    (λ c. simp (ne-eqb _ _ (c .if1 .left))))

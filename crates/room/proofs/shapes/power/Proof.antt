@@ -12,7 +12,7 @@ power-spec =
     (λ c. search no-ports)
     (λ c. search past-ports)
     (λ c. search past-levels)
-    -- the two factors and their product
+    -- the root, its square, and the product
     (λ c κs. search needs)
     (λ c. search square-fits)
     (λ c κs. search needs)

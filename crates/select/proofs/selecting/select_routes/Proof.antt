@@ -9,7 +9,7 @@ pub select-routes-spec : {M : Type 1} → statement M
 select-routes-spec =
     tie.close
     (tie.spec
-    -- select-refusal-requires, no-selection-requires, returns: 1 to 6
+    -- select-refusal-requires, no-selection-requires, returns: 1, 2, 26, 3 to 6
     (λ c κs. search needs)
     (λ c κs. search needs)
     (λ c. search selecting-refused)

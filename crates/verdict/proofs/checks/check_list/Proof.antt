@@ -10,7 +10,7 @@ unfolding checkAnswer
 check-list-spec =
     tie.close
     (tie.spec
-    -- list-refusal-requires, plain-requires, returns: 1 to 7
+    -- list-refusal-requires, plain-requires, returns: 1, 2, 26, 3 to 7
     (λ c κs. search needs)
     (λ c κs. search needs)
     (λ c. search answer-refused)

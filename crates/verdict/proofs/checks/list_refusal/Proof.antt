@@ -12,7 +12,7 @@ unfolding listRefusal
 list-refusal-spec =
     tie.close
     (tie.spec
-    -- room-refusal-requires, returns: 1 to 6
+    -- room-refusal-requires, returns: 1, 2, 26, 3 to 6
     (λ c κs. search needs)
     (λ c. search chain-stops)
     -- returns-2, returns-3: no whole arrays, or none at all

@@ -6,10 +6,10 @@ use Rattle.worked_routes.proofs.routes.accepted_row.Statement.{statemen
 use Rattle.worked_routes.proofs.routes.accepted_row.Tie as tie
 
 abbrev Inv-loop : tie.InvT-loop
-Inv-loop n k table shape source₀ source = source ≤ length table
+Inv-loop shape table source₀ source = source ≤ length table
 
 abbrev μ-loop : tie.MeasureT-loop
-μ-loop n k table shape source₀ source = length table - source
+μ-loop shape table source₀ source = length table - source
 
 pub accepted-row-spec : {M : Type 1} → statement M
 accepted-row-spec =
@@ -17,7 +17,6 @@ accepted-row-spec =
     (tie.spec
     Inv-loop
     μ-loop
-    (λ c κs. search needs)
     (λ c. search needs)
     (λ c κs. search needs)
     (λ c. search needs)

@@ -16,7 +16,7 @@ fn check_row(shape: Shape, table: &[u8], source: usize, destination: usize, list
 }
 
 // Lists in a room of sixteen servers with no failed link.
-pub(crate) fn checks() {
+pub(crate) fn healthy() {
     let shape = Shape::full(4, 1);
     let table = [0u8; 16];
     check_row(
@@ -153,4 +153,57 @@ pub(crate) fn failed() {
     check_row(shape, &high, 0, 7, b"\x41");
     let short = [0u8; 15];
     check_row(shape, &short, 0, 7, b"\x41\x03\0\0\0\0\0\0");
+}
+
+// A half-filled room: two routes, the table of the full room, failed links at level k, and a value of m.
+pub(crate) fn half_filled() {
+    let shape = Shape::new(4, 1, 2);
+    let table = [0u8; 8];
+    let both = b"\x41\x03\0\0\0\0\0\0\x03\x41\0\0\0\0\0\0";
+    check_row(shape, &table, 0, 7, both);
+    check_row(shape, &[0; 16], 0, 7, both);
+    check_row(shape, &[0; 7], 0, 7, both);
+    check_row(shape, &[0, 0, 0, 0, 0, 0, 0, 4], 0, 7, both);
+    check_row(shape, &[0, 0, 0, 0, 2, 0, 0, 0], 0, 7, both);
+    check_row(shape, &[0, 0, 0, 2, 0, 0, 0, 0], 0, 7, both);
+    check_row(
+        shape,
+        &table,
+        0,
+        7,
+        b"\x41\x03\0\0\0\0\0\0\x01\x42\x03\x41\0\0\0\0",
+    );
+    check_row(
+        shape,
+        &table,
+        0,
+        7,
+        b"\x03\x41\0\0\0\0\0\0\x01\x41\x03\0\0\0\0\0",
+    );
+    check_row(shape, &table, 0, 8, both);
+    check_row(Shape::new(4, 1, 5), &table, 8, 8, b"");
+}
+
+// Half-filled rooms of one level and of three.
+pub(crate) fn half_filled_levels() {
+    let pair = Shape::new(64, 0, 2);
+    check_row(pair, &[0; 2], 1, 0, b"\0\0\0\0\0\0\0\0");
+    check_row(pair, &[0; 3], 1, 0, b"\0\0\0\0\0\0\0\0");
+    check_row(pair, &[0; 2], 0, 1, b"\x02\x01\0\0\0\0\0\0");
+    let deep = Shape::new(3, 2, 2);
+    let healthy = [0u8; 18];
+    check_row(
+        deep,
+        &healthy,
+        9,
+        10,
+        b"\x80\x01\x81\0\0\0\0\0\x41\x01\x40\0\0\0\0\0\x01\0\0\0\0\0\0\0",
+    );
+    check_row(
+        deep,
+        &healthy,
+        9,
+        10,
+        b"\x82\x01\x81\0\0\0\0\0\x41\x01\x40\0\0\0\0\0\x01\0\0\0\0\0\0\0",
+    );
 }
