@@ -63,6 +63,8 @@ pub every-helper : EveryHelper
 every-helper =
     record {
       of-route = λ r i. record { number = refl; route = refl; hop = refl };
+      shape-new = λ n k m. refl;
+      shape-full = λ n k. refl;
       power = power-within;
       no-power = λ n l h. sym (no-power n l h);
       server-count = server-count;

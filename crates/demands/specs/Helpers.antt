@@ -10,7 +10,7 @@ use Rattle.refusals.specs.declared.Refusal.{Refusal}
 use Rattle.refusals.specs.Refusals.{ofRoute}
 use Rattle.room.specs.declared.Shape.{Shape}
 use Rattle.room.specs.declared.Side.{Side}
-use Rattle.room.specs.Shapes.{serversOf, bound, powerOf, serverCount, Link}
+use Rattle.room.specs.Shapes.{shapeOf, fullRoom, serversOf, bound, powerOf, serverCount, Link}
 use Rattle.room.specs.Sides.{sideOf}
 use Rattle.links.specs.Table.{failed, changedIn}
 use Rattle.path.specs.Routes.{levelOf, valueOf}
@@ -39,6 +39,8 @@ pub record OneLink (b : Bool) (a l : ℕ) (t u : List ℕ) : Type 0 where
 
 pub record EveryHelper : Type 0 where
   pub of-route : (r : Refusal) (i : ℕ) → OfRoute r i (ofRoute i r)
+  pub shape-new : (n k m : ℕ) → shapeOf n k m ≡ record { n = n; k = k; m = m }
+  pub shape-full : (n k : ℕ) → fullRoom n k ≡ record { n = n; k = k; m = n }
   pub power : (n l : ℕ) → 1 ≤ n → n ≤ 64 → l ≤ 3 → powerOf n l ≡ n ^ l
   pub no-power : (n l : ℕ) → NoPower n l → powerOf n l ≡ 0
   pub server-count : (s : Shape) → 1 ≤ s .n → s .n ≤ 64 → s .k ≤ 3 → s .m ≤ s .n → serverCount s ≡ s .m * s .n ^ s .k

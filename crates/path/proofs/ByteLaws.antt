@@ -12,7 +12,7 @@ use Rattle.lists.proofs.ListLaws.{both-held}
 use Rattle.refusals.specs.declared.Refusal.{Refusal}
 use Rattle.refusals.specs.Refusals.{none, plain, refusedAt, _unless_}
 use Rattle.refusals.proofs.AnswerLaws.{answered, answer-refused, answer-given, answer-none}
-use Rattle.refusals.proofs.ChainLaws.{or-else-zero, chain-stops, chain-goes, test-held}
+use Rattle.refusals.proofs.ChainLaws.{or-else-zero, chain-stops, chain-goes, test-held, at-most-holds}
 use Rattle.room.specs.declared.Shape.{Shape}
 use Rattle.room.specs.declared.Number.{Number}
 use Rattle.room.specs.Shapes.{bound}
@@ -50,23 +50,8 @@ parts-none {s} b h =
 
 -- ---- making a byte: b is the bound of its level, t what the program found of both tests
 
-module _ (k l v b : ℕ) where
-  pub level-high : k < l → leb l k ≡ (leb l k && ltb v b)
-  level-high h = rw (lt-leb l k h)
-
-  pub level-fine : l ≤ k → ltb v b ≡ (leb l k && ltb v b)
-  level-fine h = rw (le-leb l k h)
-
 module _ (s : Shape) (l v r : ℕ) (found : r ≡ shapeRefusal s) where
-  pub made-shape : r ≢ 0 → r ≡ madeRefusal s l v
-  unfolding madeRefusal levelRefusal
-  made-shape n = chain-stops r _ _ (chain-stops r _ _ found n) n
-
   module _ (z : r ≡ 0) where
-    pub made-level : s .k < l → 20 ≡ madeRefusal s l v
-    unfolding madeRefusal levelRefusal
-    made-level h = chain-stops 20 _ _ (chain-goes r _ _ 20 found z (rw (lt-leb l (s .k) h))) (λ q. omega arith)
-
     module _ (b : ℕ) (f : b ≡ bound s l) (t : Bool) (g : t ≡ (leb l (s .k) && ltb v b)) where
       pub made-fits : t ≡ true → 0 ≡ madeRefusal s l v
       made-fits h =
@@ -77,7 +62,7 @@ module _ (s : Shape) (l v r : ℕ) (found : r ≡ shapeRefusal s) where
       pub made-high : t ≡ false → l ≤ s .k → 21 ≡ madeRefusal s l v
       unfolding madeRefusal
       made-high h q =
-          let e : ltb v (bound s l) ≡ false = rw (← f) (level-fine (s .k) l v b q ∙ sym g ∙ h) in
+          let e : ltb v (bound s l) ≡ false = rw (← f) (at-most-holds l (s .k) _ q _ refl ∙ sym g ∙ h) in
           chain-goes _ _ _ 21 (level-none (valid-of s (sym found ∙ z)) q) refl (rw e)
 
 module _ (s : Shape) (l v q : ℕ) (found : q ≡ madeRefusal s l v) (r : Refusal) where

@@ -14,7 +14,7 @@ use lib.Dec.{ltb, leb, eqb}
 use borrow.Author.Tests.{lt-ltb, le-ltb, le-leb, lt-leb, ltb-true, leb-true, eqb-true, eqb-false, eq-eqb, ne-eqb, not-true, not-false}
 use Rattle.lists.proofs.ListLaws.{both-held}
 use Rattle.refusals.specs.Refusals.{_or-else_, _unless_}
-use Rattle.refusals.proofs.ChainLaws.{or-else-zero, test-held}
+use Rattle.refusals.proofs.ChainLaws.{or-else-zero, test-held, at-most-holds, below-holds}
 use Rattle.refusals.proofs.AnswerLaws.{answer-refused, answer-given, answer-number, answered}
 use Rattle.room.specs.declared.Shape.{Shape}
 use Rattle.room.specs.declared.Number.{Number}
@@ -123,16 +123,6 @@ hop-exactly {s} {a} h b = (there, λ p. back (p .0) (p .1))
 abbrev pub hopFits : ℕ → ℕ → ℕ → ℕ → ℕ → Bool
 hopFits k l v m o = leb l k && (ltb v m && not (eqb o v))
 
-module _ (k l v m o : ℕ) where
-  pub level-fails : k < l → leb l k ≡ hopFits k l v m o
-  level-fails h = rw (lt-leb l k h)
-
-  pub value-fails : l ≤ k → m ≤ v → ltb v m ≡ hopFits k l v m o
-  value-fails f h = rw (le-leb l k f, le-ltb v m h)
-
-  pub own-decides : l ≤ k → v < m → not (eqb o v) ≡ hopFits k l v m o
-  own-decides f h = rw (le-leb l k f, lt-ltb v m h)
-
 module _ (s : Shape) (a b l v : ℕ) (el : l ≡ levelOf b) (ev : v ≡ valueOf b) where
   refuses : (r : ℕ) (x : Hop) → suc r ≡ hopRefusal s a b → x ≡ noHop (suc r) → x ≡ hopFrom s a b
   unfolding hopFrom
@@ -214,7 +204,7 @@ module _ (s : Shape) (a b l v : ℕ) (el : l ≡ levelOf b) (ev : v ≡ valueOf 
 
         pub hop-ten : t ≡ false → l ≤ s .k → v < m → (x : Hop) → x ≡ noHop 10 → x ≡ hopFrom s a b
         hop-ten h level q x f =
-            let e = own-decides (s .k) l v m (a / p % s .n) level q ∙ sym g ∙ h in
+            let e = at-most-holds l (s .k) _ level _ (below-holds v m _ q _ refl) ∙ sym g ∙ h in
             same level q x (eqb-true (a / p % s .n) v (not-false _ e)) f
 
 -- ---- for a caller: the number is that of the byte, and with none the hop leads where it says

@@ -1,10 +1,10 @@
 -- Laws of chains: an earlier refusal is the whole chain's; with none it is the next test's; and what each test tells.
 use Prim.Native.Nat.{ℕ, zero, suc, _≤_, _<_}
 use mathlib.Core.Path.{_≡_, refl, sym}
-use mathlib.Core.Bool.{Bool, true, false, not}
+use mathlib.Core.Bool.{Bool, true, false, not, _&&_}
 use native.Mathlib.Omega.{arith}
-use lib.Dec.{ltb, eqb}
-use borrow.Author.Tests.{lt-ltb, le-ltb, eq-eqb, ne-eqb}
+use lib.Dec.{ltb, leb, eqb}
+use borrow.Author.Tests.{lt-ltb, le-ltb, le-leb, lt-leb, eq-eqb, ne-eqb}
 use Rattle.refusals.specs.Refusals.{_or-else_, _unless_}
 
 pub or-else-left : (p q : ℕ) → (p ≡ 0 → ⊥) → p or-else q ≡ p
@@ -50,6 +50,20 @@ test-passed r t u e h = rw (← e, h)
 
 pub test-failed : (r : ℕ) (t u : Bool) → t ≡ u → t ≡ false → r ≡ r unless u
 test-failed r t u e h = rw (← e, h)
+
+-- tests in one go, as a conjunction: a test fails and the rest is not asked, or it holds and the rest decides
+module _ (x y : ℕ) (rest : Bool) where
+  pub at-most-fails : y < x → leb x y ≡ (leb x y && rest)
+  at-most-fails h = rw (lt-leb x y h)
+
+  pub at-most-holds : x ≤ y → (t : Bool) → t ≡ rest → t ≡ (leb x y && rest)
+  at-most-holds h t e = rw (le-leb x y h) e
+
+  pub below-fails : y ≤ x → ltb x y ≡ (ltb x y && rest)
+  below-fails h = rw (le-ltb x y h)
+
+  pub below-holds : x < y → (t : Bool) → t ≡ rest → t ≡ (ltb x y && rest)
+  below-holds h t e = rw (lt-ltb x y h) e
 
 -- a test that two numbers are the same, or not
 module _ (r x y : ℕ) where

@@ -13,7 +13,7 @@ use lib.Dec.{ltb, leb, eqb}
 use borrow.Author.Tests.{lt-ltb, le-ltb, le-leb, lt-leb, ltb-true, leb-true, eqb-true, eqb-false, eq-eqb, ne-eqb, not-true}
 use Rattle.lists.proofs.ListLaws.{both-held}
 use Rattle.refusals.specs.Refusals.{_or-else_, _unless_}
-use Rattle.refusals.proofs.ChainLaws.{or-else-zero, or-else-passed, chain-stops, chain-goes, test-held}
+use Rattle.refusals.proofs.ChainLaws.{or-else-zero, or-else-passed, chain-stops, chain-goes, test-held, below-holds}
 use Rattle.room.specs.declared.Shape.{Shape}
 use Rattle.room.specs.Shapes.{serversOf, bound, serverCount, Valid, Server, Ends, Link, Value}
 use Rattle.room.specs.Refusals.{shapeRefusal, levelRefusal, serverRefusal, pairRefusal, endsRefusal, linkRefusal, valueRefusal, placeBound, placesFit, placesRefusal}
@@ -137,6 +137,17 @@ pub value-none : {s : Shape} {a l v : ℕ} → Value s a l v → 0 ≡ valueRefu
 unfolding valueRefusal
 value-none {s} {a} {l} {v} h = chain-goes _ _ _ _ (link-none (h .link)) refl (simp (lt-ltb v (bound s l) (h .value)))
 
+-- ---- a level, and q, whatever is tested after it: r is what it found of the shape
+
+module _ (s : Shape) (l q r : ℕ) (e : r ≡ shapeRefusal s) where
+  pub level-shape : (r ≡ 0 → ⊥) → r ≡ levelRefusal s l or-else q
+  unfolding levelRefusal
+  level-shape n = chain-stops r _ _ (chain-stops r _ _ e n) n
+
+  pub level-above : r ≡ 0 → s .k < l → 20 ≡ levelRefusal s l or-else q
+  unfolding levelRefusal
+  level-above z h = chain-stops 20 _ _ (chain-goes r _ _ 20 e z (rw (lt-leb l (s .k) h))) (λ n. omega arith)
+
 -- ---- as the program tests: r is what it found of the tests before, x the number of servers that it counted
 
 -- a shape that fails a test of a room is no room's
@@ -208,16 +219,6 @@ module _ (s : Shape) (a b r x : ℕ) (e : r ≡ serverRefusal s a) (z : r ≡ 0)
 abbrev pub endsFit : ℕ → ℕ → ℕ → Bool
 endsFit x a d = ltb a x && (ltb d x && not (eqb a d))
 
-module _ (x a d : ℕ) where
-  pub source-fails : x ≤ a → ltb a x ≡ endsFit x a d
-  source-fails h = rw (le-ltb a x h)
-
-  pub destination-fails : a < x → x ≤ d → ltb d x ≡ endsFit x a d
-  destination-fails f h = rw (lt-ltb a x f, le-ltb d x h)
-
-  pub both-fit : a < x → d < x → not (eqb a d) ≡ endsFit x a d
-  both-fit f h = rw (lt-ltb a x f, lt-ltb d x h)
-
 module _ (s : Shape) (a d r : ℕ) (e : r ≡ shapeRefusal s) where
   pub shape-stops : (r ≡ 0 → ⊥) → r ≡ endsRefusal s a d
   unfolding endsRefusal pairRefusal serverRefusal
@@ -246,7 +247,7 @@ module _ (s : Shape) (a d r : ℕ) (e : r ≡ shapeRefusal s) where
     ends-same h q u w =
         let n = count-servers valid in
         let p = pair-of s a d (sym u ∙ w) in
-        let i = both-fit x a d (omega (arith, p .0 .below)) (omega (arith, p .1 .below)) in
+        let i : not (eqb a d) ≡ endsFit x a d = below-holds a x _ (omega (arith, p .0 .below)) _ (below-holds d x _ (omega (arith, p .1 .below)) _ refl) in
         chain-goes q _ _ 5 u w (rw (i ∙ sym g ∙ h))
 
 module _ (s : Shape) (a l r : ℕ) (e : r ≡ serverRefusal s a) (z : r ≡ 0) where

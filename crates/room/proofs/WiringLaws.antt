@@ -12,10 +12,10 @@ use lib.Seq.{length-take-le}
 use lib.Dec.{ltb, leb}
 use mir.Syntax.{w64}
 use mir.Val.{Fits}
-use borrow.Author.Tests.{ltb-true, lt-ltb, le-ltb, leb-true, le-leb, lt-leb}
+use borrow.Author.Tests.{ltb-true, lt-ltb, le-ltb, leb-true, le-leb}
 use Rattle.lists.proofs.ListLaws.{both-held}
 use Rattle.refusals.specs.Refusals.{_unless_}
-use Rattle.refusals.proofs.ChainLaws.{or-else-zero, chain-stops, chain-goes, test-held}
+use Rattle.refusals.proofs.ChainLaws.{or-else-zero, chain-goes, test-held, below-holds}
 use Rattle.room.specs.declared.Shape.{Shape}
 use Rattle.room.specs.Digits.{digitsOf, addressOf, strike, Below}
 use Rattle.room.specs.Shapes.{serversOf, bound, powerOf, serverCount, Valid, Server, Link}
@@ -246,34 +246,11 @@ switches-times {s} {l} v h = elim (ℕ-discrete l (s .k)) [ yes e ↦ top e | no
 abbrev pub portFits : ℕ → ℕ → ℕ → ℕ → ℕ → ℕ → Bool
 portFits k l w x v b = ltb w 4096 && (ltb (w * b) x && (ltb v b && leb l k))
 
-module _ (k l w x v b : ℕ) where
-  pub many-fails : 4096 ≤ w → ltb w 4096 ≡ portFits k l w x v b
-  many-fails h = rw (le-ltb w 4096 h)
-
-  module _ (few : w < 4096) where
-    pub product-fits : b ≤ 64 → Fits w64 (w * b)
-    product-fits q = let g : w ≤ 4096 = omega arith in omega (arith, mul-le-mul g q)
-
-    pub switch-fails : x ≤ w * b → ltb (w * b) x ≡ portFits k l w x v b
-    switch-fails h = rw (lt-ltb w 4096 few, le-ltb (w * b) x h)
-
-    module _ (some : w * b < x) where
-      pub port-fails : b ≤ v → ltb v b ≡ portFits k l w x v b
-      port-fails h = rw (lt-ltb w 4096 few, lt-ltb (w * b) x some, le-ltb v b h)
-
-      pub level-decides : v < b → leb l k ≡ portFits k l w x v b
-      level-decides h = rw (lt-ltb w 4096 few, lt-ltb (w * b) x some, lt-ltb v b h)
+pub product-fits : (w b : ℕ) → w < 4096 → b ≤ 64 → Fits w64 (w * b)
+product-fits w b few q = let g : w ≤ 4096 = omega arith in omega (arith, mul-le-mul g q)
 
 module _ (s : Shape) (l w v r : ℕ) (e : r ≡ shapeRefusal s) where
-  pub room-stops : (r ≡ 0 → ⊥) → r ≡ portRefusal s l w v
-  unfolding portRefusal levelRefusal
-  room-stops n = chain-stops r _ _ (chain-stops r _ _ e n) n
-
   module _ (z : r ≡ 0) where
-    pub level-stops : s .k < l → 20 ≡ portRefusal s l w v
-    unfolding portRefusal levelRefusal
-    level-stops h = chain-stops 20 _ _ (chain-goes r _ _ 20 e z (rw (lt-leb l (s .k) h))) (λ q. omega arith)
-
     valid : Valid s
     valid = valid-of s (sym e ∙ z)
 
@@ -314,6 +291,6 @@ module _ (s : Shape) (l w v r : ℕ) (e : r ≡ shapeRefusal s) where
                         let j = suc-mul w b in
                         let few : w < 4096 = omega (arith, switches-small valid l) in
                         let some : w * b < x = omega arith in
-                        absurd (true≢false (sym (le-leb l (s .k) k) ∙ level-decides (s .k) l w x v b few some c ∙ sym g ∙ h))
+                        absurd (true≢false (sym (le-leb l (s .k) k) ∙ below-holds w 4096 _ few _ (below-holds (w * b) x _ some _ (below-holds v b _ c _ refl)) ∙ sym g ∙ h))
                   ]
             ]

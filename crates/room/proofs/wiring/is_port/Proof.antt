@@ -1,5 +1,6 @@
 -- `room::wiring::is_port` meets its contract. Assumes nothing.
-use Rattle.room.proofs.WiringLaws.{product-fits, level-decides, port-fails, switch-fails, many-fails}
+use Rattle.refusals.proofs.ChainLaws.{below-fails, below-holds}
+use Rattle.room.proofs.WiringLaws.{product-fits}
 use Rattle.room.proofs.wiring.is_port.Statement.{statement}
 use Rattle.room.proofs.wiring.is_port.Tie as tie
 
@@ -8,7 +9,7 @@ is-port-spec =
     tie.close
     (tie.spec
     (λ c. search product-fits)
-    (λ c. search level-decides)
-    (λ c. search port-fails)
-    (λ c. search switch-fails)
-    (λ c. search many-fails))
+    (λ c. search below-holds)
+    (λ c. search (below-holds, below-fails))
+    (λ c. search (below-holds, below-fails))
+    (λ c. search below-fails))
