@@ -1,11 +1,13 @@
-/* calls check: asks every question of every row of both, the proved library and the plain implementation of
- * tests/c/plain.c, and compares what they answer and write; prints how many.
+/* calls check: asks every question of every row of both, the proved library and a plain one, and compares what they
+ * answer and write; prints how many. The plain one is that of tests/c/plain.c, and for the calls with a table and its
+ * summary that of plain.c here, which is written for speed.
  * calls rows: prints the names of the rows.
  * calls WHICH ROW TIMES: asks every question of a row TIMES times of one of them (proved, plain or none, which is an
  * empty call with the same arguments), and prints how many calls that were, the sum of what they answered, and
  * the time they took. */
 #define _POSIX_C_SOURCE 199309L
 #include "../tests/c/plain.h"
+#include "plain.h"
 
 #include <inttypes.h>
 #include <stdio.h>
@@ -27,7 +29,6 @@ struct question {
 };
 
 static struct question question[QUESTIONS];
-static uint8_t marked[SERVERS]; /* a table to write to */
 static uint8_t neighbours[BCUBE_NEIGHBOUR_TABLE_BYTES];
 static union {
     uint64_t servers[9];
@@ -68,6 +69,68 @@ static void make_questions(void) {
     }
 }
 
+/* ---- tables with their summaries, in four rooms: some random failed links; and servers to be marked and cleared, no
+ * two of them at one switch, so that each can be put as it was before its own change */
+
+enum { ROOMS = 4 };
+static const uint32_t shapes[ROOMS][3] = {{8, 3, 8}, {64, 1, 64}, {12, 3, 2}, {8, 3, 4}};
+
+static struct summed {
+    bcube_room room;
+    uint32_t k, servers, entries;
+    uint8_t table[SERVERS], summary[BCUBE_MOST_SWITCHES], counted[BCUBE_MOST_SWITCHES];
+    struct link {
+        uint64_t server, level;
+        uint32_t place[4]; /* of the entries of its switches, */
+        uint8_t entry[4];  /* and what they are while its links are live */
+    } link[QUESTIONS], *now;
+} summed[ROOMS];
+
+static int share_a_switch(const struct summed *s, const struct link *one, const struct link *other) {
+    for (uint32_t level = 0; level <= s->k; level++)
+        if (one->place[level] == other->place[level]) return 1;
+    return 0;
+}
+
+/* a server whose links are live, with none of the first `made` at one of its switches */
+static void make_link(struct summed *s, int made) {
+    struct link *link = &s->link[made];
+    int again;
+    do {
+        uint32_t before = 0;
+        link->server = below(s->servers);
+        link->level = below(s->k + 1);
+        for (uint32_t level = 0; level <= s->k; level++) {
+            link->place[level] = before + bcube_value(plain_switch(s->room, link->server, level));
+            link->entry[level] = s->summary[link->place[level]];
+            before += bcube_value(plain_switches(s->room, level));
+        }
+        again = s->table[link->server] != 0;
+        for (int i = 0; i < made; i++) again |= share_a_switch(s, link, &s->link[i]);
+    } while (again);
+}
+
+static void make_summed(int r) {
+    struct summed *s = &summed[r];
+    s->room = bcube_filled_room(shapes[r][0], shapes[r][1], shapes[r][2]);
+    s->k = shapes[r][1];
+    s->servers = bcube_value(plain_servers(s->room));
+    for (uint32_t level = 0; level <= s->k; level++) s->entries += bcube_value(plain_switches(s->room, level));
+    for (int i = 0; i < FAILED; i++) s->table[below(s->servers)] |= (uint8_t)(1u << below(s->k + 1));
+    if (bcube_refusal(plain_summarize(s->room, s->table, s->servers, s->summary, s->entries))) exit(2);
+    for (int i = 0; i < QUESTIONS; i++) make_link(s, i);
+}
+
+/* the room with the links of a question as they are before its change: these bits of the server's byte are set */
+__attribute__((noipa)) static struct summed *put(int r, const struct question *q, uint32_t bits) {
+    struct summed *s = &summed[r];
+    s->now = &s->link[q - question];
+    s->table[s->now->server] = (uint8_t)bits;
+    for (uint32_t level = 0; level <= s->k; level++)
+        s->summary[s->now->place[level]] = (uint8_t)(s->now->entry[level] + (bits >> level & 1));
+    return s;
+}
+
 /* ---- the rows: an empty call with the same arguments, and the call of both */
 
 static uint64_t number_of(bcube_answer answer) { return answer.word; }
@@ -92,8 +155,6 @@ WORD(server_at, server_at, (bcube_room room, uint64_t level, uint64_t number, ui
 WORD(neighbour, neighbour, (bcube_room room, uint64_t server, uint64_t level, uint64_t value), (room, q->source, 2, 3))
 WORD(path_byte, path_byte, (bcube_room room, uint64_t level, uint64_t value), (room, 2, 3))
 WORD(failed_link, failed_link, (bcube_room room, uint64_t server, uint64_t level, BYTES(table)), (room, q->source, 2, q->some, SERVERS))
-WORD(mark_link, mark_link, (bcube_room room, uint64_t server, uint64_t level, uint8_t *table, size_t table_len), (room, q->source, 2, marked, SERVERS))
-WORD(mark_server, mark_server, (bcube_room room, uint64_t server, uint8_t *table, size_t table_len), (room, q->source, marked, SERVERS))
 WORD(read, read, (ENDS, BYTES(path), uint64_t *servers), (THESE, q->list, 8, out.servers))
 WORD(write, write, (bcube_room room, const uint64_t *servers, size_t servers_len, uint8_t *path), (room, q->met, q->count, out.bytes))
 WORD(reverse, reverse, (ENDS, BYTES(path), uint8_t *reversed), (THESE, q->list, 8, out.bytes))
@@ -105,6 +166,32 @@ WORD(pick, pick, (ENDS, BYTES(table), BYTES(fresh), BYTES(kept)), (THESE, q->som
 ROW(step, bcube_stepped, both_of, step, (ENDS, uint64_t index, BYTES(path), BYTES(neighbours)),
     (THESE, 0, q->list, 8, neighbours, BCUBE_NEIGHBOUR_TABLE_BYTES))
 
+/* those with a table and its summary, in a room: the links are put as they are before the call, whichever it is */
+#define SUMMED(call, r, bits, parameters, arguments)                                  \
+    __attribute__((noipa)) static bcube_answer empty_##call##r parameters { return (bcube_answer){0}; } \
+    ASKED(none_##call##r, r, bits, empty_##call##r arguments)                         \
+    ASKED(tested_##call##r, r, bits, tested_##call arguments)                         \
+    ASKED(proved_##call##r, r, bits, bcube_##call arguments)
+#define ASKED(name, r, bits, it)                                                      \
+    static uint64_t name(const struct question *q) { struct summed *s = put(r, q, bits); return number_of(it); }
+#define LINK bcube_room room, uint64_t server, uint64_t level, CHANGED
+#define SERVER bcube_room room, uint64_t server, CHANGED
+#define BOTH s->table, s->servers, s->summary, s->entries
+#define ALL(r) ((2u << shapes[r][1]) - 1)
+#define IN_ROOM(r)                                                                    \
+    SUMMED(mark, r, 0, (LINK), (s->room, s->now->server, s->now->level, BOTH))        \
+    SUMMED(clear, r, 1u << summed[r].link[q - question].level, (LINK), (s->room, s->now->server, s->now->level, BOTH)) \
+    SUMMED(mark_all, r, 0, (SERVER), (s->room, s->now->server, BOTH))                 \
+    SUMMED(clear_all, r, ALL(r), (SERVER), (s->room, s->now->server, BOTH))           \
+    SUMMED(dead_switch, r, 0, (bcube_room room, BYTES(table), BYTES(summary)), (s->room, BOTH)) \
+    SUMMED(summarize, r, 0, (bcube_room room, BYTES(table), uint8_t *summary, size_t summary_len), \
+           (s->room, s->table, s->servers, s->counted, s->entries))
+
+IN_ROOM(0)
+IN_ROOM(1)
+IN_ROOM(2)
+IN_ROOM(3)
+
 typedef uint64_t a_call(const struct question *);
 
 static const struct {
@@ -113,23 +200,33 @@ static const struct {
 } rows[] = {
 #define NAMED(row) {#row, none_##row, plain_##row##_row, proved_##row}
     NAMED(digit), NAMED(switch), NAMED(server_at), NAMED(neighbour), NAMED(path_byte), NAMED(failed_link),
-    NAMED(mark_link), NAMED(mark_server), NAMED(read), NAMED(write), NAMED(reverse), NAMED(check), NAMED(build),
+    NAMED(read), NAMED(write), NAMED(reverse), NAMED(check), NAMED(build),
     NAMED(select_whole), NAMED(select_broken), NAMED(pick), NAMED(step),
+#define IN(call, r, room) {#call ":" room, none_##call##r, tested_##call##r, proved_##call##r}
+#define IN_ROOMS(call) IN(call, 0, "8,3"), IN(call, 1, "64,1"), IN(call, 2, "12,3,2"), IN(call, 3, "8,3,4")
+    IN_ROOMS(mark), IN_ROOMS(clear), IN_ROOMS(mark_all), IN_ROOMS(clear_all),
+    IN_ROOMS(dead_switch), IN_ROOMS(summarize),
 };
 enum { ROWS = sizeof rows / sizeof *rows };
 
 /* ---- what the words ask for */
 
 static int check(void) {
+    static struct summed kept[ROOMS];
     int compared = 0;
     for (int r = 0; r < ROWS; r++)
         for (int i = 0; i < QUESTIONS; i++, compared++) {
             uint8_t written[WRITTEN];
             memset(out.bytes, 0xaa, WRITTEN);
+            for (int s = 0; s < ROOMS; s++) memset(summed[s].counted, 0xaa, sizeof summed[s].counted);
             uint64_t plain = rows[r].plain(&question[i]);
             memcpy(written, out.bytes, WRITTEN);
+            memcpy(kept, summed, sizeof kept);
             memset(out.bytes, 0xaa, WRITTEN);
-            if (rows[r].proved(&question[i]) == plain && memcmp(written, out.bytes, WRITTEN) == 0) continue;
+            for (int s = 0; s < ROOMS; s++) memset(summed[s].counted, 0xaa, sizeof summed[s].counted);
+            if (rows[r].proved(&question[i]) == plain && memcmp(written, out.bytes, WRITTEN) == 0 &&
+                memcmp(kept, summed, sizeof kept) == 0)
+                continue;
             printf("%s: both do not answer alike\n", rows[r].name);
             return 1;
         }
@@ -149,6 +246,7 @@ static a_call *called(const char *which, const char *row) {
 
 int main(int count, char **words) {
     make_questions();
+    for (int r = 0; r < ROOMS; r++) make_summed(r);
     if (count == 2 && strcmp(words[1], "check") == 0) return check();
     if (count == 2 && strcmp(words[1], "rows") == 0) {
         for (int r = 0; r < ROWS; r++) puts(rows[r].name);

@@ -52,3 +52,144 @@ bcube_stepped no_step(STEP_ARGUMENTS) {
     (void)room, (void)here, (void)destination, (void)index, (void)path, (void)path_len, (void)neighbours, (void)neighbours_len;
     return refused(0);
 }
+
+/* ---- the table and its summary */
+
+struct shape {
+    uint32_t n, k, m, power[4], servers;
+};
+
+static bcube_answer refuses(uint32_t number) { return (bcube_answer){number}; }
+
+/* the refusal of a room, or 0 */
+static uint32_t room_refusal(struct shape *s, bcube_room room) {
+    uint32_t n = (uint32_t)(room.number & 255), k = (uint32_t)(room.number >> 8 & 255);
+    uint64_t m = room.number >> 16;
+    if (n < 2 || n > 64) return 1;
+    if (k > 3) return 2;
+    if (m < 2 || m > n) return 26;
+    *s = (struct shape){n, k, (uint32_t)m, {1, n, n * n, n * n * n}, 0};
+    s->servers = s->power[k] * s->m;
+    return s->servers > 4096 ? 3 : 0;
+}
+
+static uint32_t table_refusal(const struct shape *s, const uint8_t *table, size_t table_len) {
+    uint8_t bits = 0;
+    if (table_len != s->servers) return 6;
+    for (size_t i = 0; i < table_len; i++) bits |= table[i];
+    return bits >> (s->k + 1) != 0 ? 6 : 0;
+}
+
+static uint32_t bound(const struct shape *s, uint32_t level) { return level == s->k ? s->m : s->n; }
+
+/* how many switches stand before those of a level */
+static uint32_t before(const struct shape *s, uint32_t level) { return level * (s->servers / s->n); }
+
+static uint32_t length_refusal(const struct shape *s, size_t summary_len) {
+    return summary_len != before(s, s->k) + s->power[s->k] ? 30 : 0;
+}
+
+/* how many servers at the switch whose first server this is have their link there failed */
+static uint8_t count(const struct shape *s, const uint8_t *table, uint32_t first, uint32_t level) {
+    uint32_t failed = 0, stride = s->power[level], end = first + stride * bound(s, level);
+    for (uint32_t server = first; server < end; server += stride) failed += table[server] >> level & 1;
+    return (uint8_t)failed;
+}
+
+struct entry {
+    uint32_t first; /* server of the switch */
+    uint8_t *at;
+};
+
+static struct entry entry_of(const struct shape *s, uint32_t server, uint32_t level, uint8_t *summary) {
+    uint32_t weight = s->power[level], high = server / weight / s->n, low = server % weight;
+    return (struct entry){high * weight * s->n + low, summary + before(s, level) + high * weight + low};
+}
+
+static void change(const struct entry *entry, uint32_t server, uint32_t level, uint8_t *table, int fails) {
+    int failed = table[server] >> level & 1;
+    if (failed == fails) return;
+    table[server] ^= (uint8_t)(1u << level);
+    *entry->at = (uint8_t)(fails ? *entry->at + 1 : *entry->at - 1);
+}
+
+static inline bcube_answer change_link(bcube_room room, uint64_t server, uint64_t level, CHANGED, int fails) {
+    struct shape s;
+    uint32_t why = room_refusal(&s, room);
+    if (why) return refuses(why);
+    if (server >= s.servers) return refuses(4);
+    if (level > s.k) return refuses(20);
+    if (table_refusal(&s, table, table_len)) return refuses(6);
+    if (length_refusal(&s, summary_len)) return refuses(30);
+    struct entry entry = entry_of(&s, (uint32_t)server, (uint32_t)level, summary);
+    if (*entry.at != count(&s, table, entry.first, (uint32_t)level)) return refuses(30);
+    change(&entry, (uint32_t)server, (uint32_t)level, table, fails);
+    return refuses(0);
+}
+
+bcube_answer tested_mark(bcube_room room, uint64_t server, uint64_t level, CHANGED) {
+    return change_link(room, server, level, table, table_len, summary, summary_len, 1);
+}
+
+bcube_answer tested_clear(bcube_room room, uint64_t server, uint64_t level, CHANGED) {
+    return change_link(room, server, level, table, table_len, summary, summary_len, 0);
+}
+
+static inline bcube_answer change_server(bcube_room room, uint64_t server, CHANGED, int fails) {
+    struct shape s;
+    struct entry entry[4];
+    uint32_t why = room_refusal(&s, room);
+    if (why) return refuses(why);
+    if (server >= s.servers) return refuses(4);
+    if (table_refusal(&s, table, table_len)) return refuses(6);
+    if (length_refusal(&s, summary_len)) return refuses(30);
+    for (uint32_t level = 0; level <= s.k; level++) {
+        entry[level] = entry_of(&s, (uint32_t)server, level, summary);
+        if (*entry[level].at != count(&s, table, entry[level].first, level)) return refuses(30);
+    }
+    for (uint32_t level = 0; level <= s.k; level++) change(&entry[level], (uint32_t)server, level, table, fails);
+    return refuses(0);
+}
+
+bcube_answer tested_mark_all(bcube_room room, uint64_t server, CHANGED) {
+    return change_server(room, server, table, table_len, summary, summary_len, 1);
+}
+
+bcube_answer tested_clear_all(bcube_room room, uint64_t server, CHANGED) {
+    return change_server(room, server, table, table_len, summary, summary_len, 0);
+}
+
+/* the question: every entry is tested, and the first dead switch is met on the way */
+bcube_answer tested_dead_switch(bcube_room room, const uint8_t *table, size_t table_len, const uint8_t *summary,
+                                size_t summary_len) {
+    struct shape s;
+    uint32_t why = room_refusal(&s, room), dead = 0;
+    if (why) return refuses(why);
+    if (table_refusal(&s, table, table_len)) return refuses(6);
+    if (length_refusal(&s, summary_len)) return refuses(30);
+    for (uint32_t level = 0; level <= s.k; level++) {
+        uint32_t weight = s.power[level], number = 0;
+        for (uint32_t high = 0; high < s.servers; high += weight * s.n)
+            for (uint32_t low = 0; low < weight; low++, number++) {
+                uint8_t counted = count(&s, table, high + low, level);
+                if (*summary++ != counted) return refuses(30);
+                if (counted == bound(&s, level) && !dead) dead = 1u << 24 | level << 16 | number;
+            }
+    }
+    return (bcube_answer){(uint64_t)dead << 32};
+}
+
+bcube_answer tested_summarize(bcube_room room, const uint8_t *table, size_t table_len, uint8_t *summary,
+                              size_t summary_len) {
+    struct shape s;
+    uint32_t why = room_refusal(&s, room);
+    if (why) return refuses(why);
+    if (table_refusal(&s, table, table_len)) return refuses(6);
+    if (length_refusal(&s, summary_len)) return refuses(30);
+    for (uint32_t level = 0; level <= s.k; level++) {
+        uint32_t weight = s.power[level];
+        for (uint32_t high = 0; high < s.servers; high += weight * s.n)
+            for (uint32_t low = 0; low < weight; low++) *summary++ = count(&s, table, high + low, level);
+    }
+    return refuses(0);
+}

@@ -1,5 +1,6 @@
-/* Two plain C steps to measure the proved one against: one that makes the same tests, and one that makes none. Both
- * answer in the proved step's form, the word and the MAC. */
+/* Plain C, written for speed, to measure the proved library against. Two steps: one that makes the same tests, and one
+ * that makes none; both answer in the proved step's form, the word and the MAC. And the calls with a table and its
+ * summary, with the same tests: a pass over the table, and one over the servers of each switch that is asked for. */
 #ifndef PLAIN_H
 #define PLAIN_H
 
@@ -12,5 +13,16 @@
 bcube_stepped tested_step(STEP_ARGUMENTS);
 bcube_stepped bare_step(STEP_ARGUMENTS);
 bcube_stepped no_step(STEP_ARGUMENTS);
+
+#define CHANGED uint8_t *table, size_t table_len, uint8_t *summary, size_t summary_len
+
+bcube_answer tested_mark(bcube_room room, uint64_t server, uint64_t level, CHANGED);
+bcube_answer tested_clear(bcube_room room, uint64_t server, uint64_t level, CHANGED);
+bcube_answer tested_mark_all(bcube_room room, uint64_t server, CHANGED);
+bcube_answer tested_clear_all(bcube_room room, uint64_t server, CHANGED);
+bcube_answer tested_dead_switch(bcube_room room, const uint8_t *table, size_t table_len, const uint8_t *summary,
+                                size_t summary_len);
+bcube_answer tested_summarize(bcube_room room, const uint8_t *table, size_t table_len, uint8_t *summary,
+                              size_t summary_len);
 
 #endif

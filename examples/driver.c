@@ -1,5 +1,5 @@
 /* A driver in small: one room, one failed link, and one packet brought from server 0 to server 7; then a server
- * dies, and comes back.
+ * dies, and comes back; and then a switch does, and is named to the field crew.
  *
  * To build and run it on x86-64 Linux, from the root of the repository:
  *
@@ -21,8 +21,10 @@
 enum { N = 4, K = 1, SERVERS = 16, SOURCE = 0, DESTINATION = 7 };
 static bcube_room room;
 
-/* Which links are failed: a byte for each server, at first all live. */
-static uint8_t failed[SERVERS];
+/* Which links are failed: a byte for each server, at first all live. Beside it how many of them at each switch: a byte
+ * for each switch, those of level 0 first, at first all zero. Each mark and each clear is given both. */
+static uint8_t failed[SERVERS], summary[BCUBE_MOST_SWITCHES];
+static size_t switches; /* of all levels: the length of the summary */
 
 /* What each server knows of its neighbours. In a room each server has only its own; here they stand together. */
 static uint8_t neighbours[SERVERS][BCUBE_NEIGHBOUR_TABLE_BYTES];
@@ -69,6 +71,28 @@ static void check_routes(const char *name, const uint8_t *list, size_t bytes) {
  * read here, without the test of the whole table that bcube_failed_link makes. */
 static int live(uint32_t server, uint32_t level) { return !(failed[server] >> level & 1); }
 
+/* The field crew's question: is a switch dead, and which? All its servers have then reported their link to it. */
+static void name_dead_switch(void) {
+    bcube_answer dead = bcube_dead_switch(room, failed, SERVERS, summary, switches);
+    granted(dead);
+    if (!bcube_dead_found(dead)) {
+        printf("  no switch is dead\n");
+        return;
+    }
+    uint32_t level = bcube_dead_level(dead), number = bcube_dead_number(dead);
+    printf("  dead: switch %u of level %u, with the servers", number, level);
+    for (uint32_t port = 0; port < granted(bcube_bound(room, level)); port++)
+        printf(" %u", granted(bcube_server_at(room, level, number, port)));
+    printf("\n");
+}
+
+/* A server's report that its link at a level is failed. */
+static void report_link(uint32_t server, uint32_t level) {
+    granted(bcube_mark(room, server, level, failed, SERVERS, summary, switches));
+    printf("server %u reports its link at level %u\n", server, level);
+    name_dead_switch();
+}
+
 /* Fills a server's neighbour table: for each neighbour an entry, at 8 times the path byte of the hop to it. */
 static void fill_table(uint32_t server, uint8_t table[BCUBE_NEIGHBOUR_TABLE_BYTES]) {
     memset(table, 0, BCUBE_NEIGHBOUR_TABLE_BYTES);
@@ -111,11 +135,12 @@ int main(void) {
     uint8_t kept[BCUBE_LIST_BYTES], fresh[BCUBE_LIST_BYTES];
     if (bcube_version() / 10000 != BCUBE_VERSION / 10000) return 1; /* another library than the header's */
     room = bcube_room_of(N, K);
-    printf("a room of %u servers, all links live\n", granted(bcube_servers(room)));
+    for (uint32_t level = 0; level <= K; level++) switches += granted(bcube_switches(room, level));
+    printf("a room of %u servers and %u switches, all links live\n", granted(bcube_servers(room)), (unsigned)switches);
     size_t kept_bytes = select_routes(kept);
 
     printf("\nserver 3 reports that its link at level 1 is failed\n");
-    granted(bcube_mark_link(room, 3, 1, failed, SERVERS));
+    granted(bcube_mark(room, 3, 1, failed, SERVERS, summary, switches));
     check_routes("kept", kept, kept_bytes);
     size_t fresh_bytes = select_routes(fresh);
     check_routes("fresh", fresh, fresh_bytes);
@@ -134,11 +159,25 @@ int main(void) {
     forward(kept + BCUBE_PATH_BYTES);
 
     printf("\nserver 4 is dead\n");
-    granted(bcube_mark_server(room, 4, failed, SERVERS));
+    granted(bcube_mark_all(room, 4, failed, SERVERS, summary, switches));
     select_routes(fresh);
     printf("servers 3 and 4 are whole again\n");
-    granted(bcube_clear_server(room, 3, failed, SERVERS));
-    granted(bcube_clear_server(room, 4, failed, SERVERS));
+    granted(bcube_clear_all(room, 3, failed, SERVERS, summary, switches));
+    granted(bcube_clear_all(room, 4, failed, SERVERS, summary, switches));
     check_routes("kept", kept, kept_bytes);
+
+    printf("\nthe links to switch 1 of level 1 fail, one after the other\n");
+    report_link(1, 1); /* this report comes twice, and counts once */
+    for (uint32_t port = 0; port < granted(bcube_bound(room, 1)); port++)
+        report_link(granted(bcube_server_at(room, 1, 1, port)), 1);
+    printf("server 5 is whole again\n");
+    granted(bcube_clear(room, 5, 1, failed, SERVERS, summary, switches));
+    name_dead_switch();
+
+    printf("\na table that another program wrote comes without its summary\n");
+    memset(failed, 1, 4);
+    print_refusal(bcube_dead_switch(room, failed, SERVERS, summary, switches));
+    granted(bcube_summarize(room, failed, SERVERS, summary, switches)); /* so it is counted afresh */
+    name_dead_switch();
     return 0;
 }

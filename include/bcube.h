@@ -27,10 +27,20 @@
  * share no switch, and no server but the ends.
  *
  * THE FAILED-LINK TABLE has one byte a server, N in all (4,096 at most). Bit l of byte s is set while server
- * s's link at level l is failed. The driver owns it: begin with N zero bytes, and use bcube_mark_link and
- * bcube_clear_link, or bcube_mark_server and bcube_clear_server for all links of a server. Every call that
+ * s's link at level l is failed. The driver owns it: begin with N zero bytes, and use bcube_mark and
+ * bcube_clear, or bcube_mark_all and bcube_clear_all for all links of a server. Every call that
  * takes the table tests all of it (refusal 6). Where it has passed that test, and only these calls have
  * written to it since, a driver may read one bit itself, table[server] >> level & 1, and save the test.
+ *
+ * THE SUMMARY stands beside the table and has one byte a switch, its entry: how many of the switch's servers have
+ * their link to it failed (64 at most). The switches of level 0 come first, by number, then those of level 1, and so
+ * on: an entry's place is the switch's number plus what bcube_switches gives for each lower level. Its length is the
+ * sum of bcube_switches over the levels 0 to k, and no other is taken; BCUBE_MOST_SWITCHES bytes are room for
+ * the entries of any room. The driver owns it as it owns the table: begin with zeros in both, and hand both to the
+ * four calls above, which carry the summary along. For a table that has no summary yet, kept from before version 4 or
+ * written by other means, count one by bcube_summarize. A call tests the entries that it goes by (refusal 30): a mark
+ * or a clear those of the switches that it touches, bcube_dead_switch all. It leaves every other byte of the summary
+ * alone, whatever that holds. Table and summary must not overlap.
  *
  * THE ANSWER of every call but bcube_step is one word, in a type of its own. Read it by bcube_refusal,
  * bcube_value, bcube_route and bcube_hop. Where bcube_refusal gives BCUBE_NOT_REFUSED, the value is the answer,
@@ -50,18 +60,18 @@
  * NUMBERS are all uint64_t, and are tested as they come: none is cut before it is tested.
  *
  * BUFFERS. A buffer of any length comes as a pointer and a length, in bytes, or for bcube_write's servers
- * in numbers. It must point to as many readable elements as its length says (writable, for the tables that
- * are marked and cleared). A null pointer with length 0 is a good empty buffer; with any other length it is
+ * in numbers. It must point to as many readable elements as its length says (writable, for the tables and summaries
+ * that a call takes without const). A null pointer with length 0 is a good empty buffer; with any other length it is
  * a pointer to memory that is not there, like any wild pointer, and no call looks for it. Wrong lengths are
  * refused, not read. A buffer of a fixed length, such as `uint64_t digits[4]`, is a pointer to that many
- * writable elements, and never null. An out buffer must not overlap any other buffer of the call. Buffers
- * are used only during the call. Two threads must not lend the same buffer at once if either call writes to
- * it: a table is the driver's to guard.
+ * writable elements, and never null. A buffer that a call writes to must not overlap any other buffer of the call.
+ * Buffers are used only during the call. Two threads must not lend the same buffer at once if either call writes
+ * to it: a table and its summary are the driver's to guard, and as one, since the calls hold them to each other.
  *
  * COST. Each call says what it costs: a constant few instructions; the table, which is a pass over the N
- * bytes of the failed-link table; or a search, which may visit every server. It says too how many bytes of
- * stack it takes at most, beside its return address: tests/c/stack measures that, and it is written here rounded up to
- * 64. docs/PERFORMANCE.md has the instructions.
+ * bytes of the failed-link table; the servers of a switch, at most 64, or all links, each asked once; or a search,
+ * which may visit every server. It says too how many bytes of stack it takes at most, beside its return address:
+ * tests/c/stack measures that, and it is written here rounded up to 64. docs/PERFORMANCE.md has the instructions.
  *
  * WHERE IT RUNS. In user space, on x86-64. For a kernel the library would have to be compiled again, without
  * SSE registers and without a red zone, and with a stack for the searches. bcube_step uses neither of the
@@ -88,7 +98,7 @@ extern "C" {
 
 /* ---- the version: 10,000 times the first number, 100 times the second, and the third */
 
-#define BCUBE_VERSION 30000 /* 3.0.0; docs/CHANGES.md says what each version changed */
+#define BCUBE_VERSION 40000 /* 4.0.0; docs/CHANGES.md says what each version changed */
 
 /* The version of the library that the program runs with, to hold against BCUBE_VERSION, the header's. Another
  * first number says that the two may not fit: docs/CHANGES.md says what it changed. Cost: constant; 0 bytes of stack. */
@@ -96,12 +106,13 @@ BCUBE_RESULT uint64_t bcube_version(void);
 
 /* ---- limits and sizes */
 
-#define BCUBE_FEWEST_PORTS 2    /* n is 2 */
-#define BCUBE_MOST_PORTS 64     /* to 64 */
-#define BCUBE_MOST_LEVEL 3      /* k is 0 to 3 */
-#define BCUBE_LEAST_FILL 2      /* m is 2 to n */
-#define BCUBE_MOST_SERVERS 4096 /* N is at most this */
-#define BCUBE_MOST_HOPS 8       /* a route has 1 to 8 hops */
+#define BCUBE_FEWEST_PORTS 2     /* n is 2 */
+#define BCUBE_MOST_PORTS 64      /* to 64 */
+#define BCUBE_MOST_LEVEL 3       /* k is 0 to 3 */
+#define BCUBE_LEAST_FILL 2       /* m is 2 to n */
+#define BCUBE_MOST_SERVERS 4096  /* N is at most this */
+#define BCUBE_MOST_SWITCHES 2592 /* a room has at most as many switches as (12,3,2) */
+#define BCUBE_MOST_HOPS 8        /* a route has 1 to 8 hops */
 
 #define BCUBE_PATH_BYTES 8    /* the path bytes of a packet, or of one route */
 #define BCUBE_LIST_BYTES 32   /* room for the most routes of a list: 4 arrays */
@@ -144,6 +155,7 @@ BCUBE_RESULT uint64_t bcube_version(void);
 #define BCUBE_REFUSED_SERVER_COUNT 22
 #define BCUBE_REFUSED_NOT_NEIGHBOURS 23
 #define BCUBE_REFUSED_FILL 26 /* tested between 2 and 3 */
+#define BCUBE_REFUSED_SUMMARY 30 /* tested right after 6 */
 
 /* What a refusal's number means, as a sentence. */
 static inline const char *bcube_refusal_text(uint64_t number) {
@@ -175,6 +187,8 @@ static inline const char *bcube_refusal_text(uint64_t number) {
     case BCUBE_REFUSED_SERVER_COUNT: return "The servers to write are fewer than 2, or more than 9.";
     case BCUBE_REFUSED_NOT_NEIGHBOURS: return "Two servers in a row do not differ in exactly one digit.";
     case BCUBE_REFUSED_FILL: return "m, the fill of the room, is not among 2 to n.";
+    case BCUBE_REFUSED_SUMMARY:
+        return "The summary is not one byte a switch, or an entry of it is not what the failed-link table counts.";
     default: return "There is no such refusal.";
     }
 }
@@ -269,24 +283,55 @@ BCUBE_RESULT bcube_answer bcube_between(bcube_room room, uint64_t one, uint64_t 
 BCUBE_RESULT bcube_answer bcube_failed_link(bcube_room room, uint64_t server, uint64_t level, const uint8_t *table,
                                             size_t table_len);
 
-/* Marks a link as failed. Refuses 1, 2, 26, 3, 4, 20, 6. Value: 0. The one bit of the table is set, and no other
- * changes; marking a marked link changes nothing. Cost: the table; 64 bytes of stack. */
-BCUBE_RESULT bcube_answer bcube_mark_link(bcube_room room, uint64_t server, uint64_t level, uint8_t *table,
-                                          size_t table_len);
+/* ---- the failed-link table and its summary (of one byte a server and one byte a switch, as above) */
 
-/* Clears a link of its mark. Refuses 1, 2, 26, 3, 4, 20, 6. Value: 0. The one bit of the table is reset, and no
- * other changes; clearing a link that is not marked changes nothing.
- * Cost: the table; 64 bytes of stack. */
-BCUBE_RESULT bcube_answer bcube_clear_link(bcube_room room, uint64_t server, uint64_t level, uint8_t *table,
-                                           size_t table_len);
+/* Marks a link as failed. Refuses 1, 2, 26, 3, 4, 20, 6, 30 (the length of the summary, or the entry of the link's
+ * switch). Value: 0. The one bit of the table is set, and the entry of its switch is one more; no other bit and no
+ * other entry changes. Marking a marked link changes nothing.
+ * Cost: the table, and the servers of one switch; 320 bytes of stack. */
+BCUBE_RESULT bcube_answer bcube_mark(bcube_room room, uint64_t server, uint64_t level, uint8_t *table, size_t table_len,
+                                     uint8_t *summary, size_t summary_len);
 
-/* Marks all links of a server, levels 0 to k, as failed: the server is dead. Refuses 1, 2, 26, 3, 4, 6. Value: 0. No
- * other server's byte changes. Cost: the table; 64 bytes of stack. */
-BCUBE_RESULT bcube_answer bcube_mark_server(bcube_room room, uint64_t server, uint8_t *table, size_t table_len);
+/* Clears a link of its mark. Refuses 1, 2, 26, 3, 4, 20, 6, 30 (the length of the summary, or the entry of the link's
+ * switch). Value: 0. The one bit of the table is reset, and the entry of its switch is one less; no other bit and no
+ * other entry changes. Clearing a link that is not marked changes nothing.
+ * Cost: the table, and the servers of one switch; 320 bytes of stack. */
+BCUBE_RESULT bcube_answer bcube_clear(bcube_room room, uint64_t server, uint64_t level, uint8_t *table,
+                                      size_t table_len, uint8_t *summary, size_t summary_len);
 
-/* Clears all links of a server of their marks. Refuses 1, 2, 26, 3, 4, 6. Value: 0. No other server's byte changes.
- * Cost: the table; 64 bytes of stack. */
-BCUBE_RESULT bcube_answer bcube_clear_server(bcube_room room, uint64_t server, uint8_t *table, size_t table_len);
+/* Marks all links of a server, levels 0 to k, as failed: the server is dead. Refuses 1, 2, 26, 3, 4, 6, 30 (the length
+ * of the summary, or the entry of one of the server's k+1 switches). Value: 0. The server's byte of the table and those
+ * entries are as after marking each link; no other byte and no other entry changes.
+ * Cost: the table, and the servers of k+1 switches; 256 bytes of stack. */
+BCUBE_RESULT bcube_answer bcube_mark_all(bcube_room room, uint64_t server, uint8_t *table, size_t table_len,
+                                         uint8_t *summary, size_t summary_len);
+
+/* Clears all links of a server of their marks. Refuses 1, 2, 26, 3, 4, 6, 30 (as bcube_mark_all). Value: 0. The
+ * server's byte of the table and those entries are as after clearing each link; no other byte and no other entry
+ * changes. Cost: the table, and the servers of k+1 switches; 256 bytes of stack. */
+BCUBE_RESULT bcube_answer bcube_clear_all(bcube_room room, uint64_t server, uint8_t *table, size_t table_len,
+                                          uint8_t *summary, size_t summary_len);
+
+/* The first dead switch: the first, by level and then by number, all of whose servers have their link to it failed, so
+ * that its entry is the bound of its level. Refuses 1, 2, 26, 3, 6, 30 (the length of the summary, or any entry).
+ * Value: whether there is one, and which; read it by the three functions below.
+ * Cost: the table, and all links; 128 bytes of stack. */
+BCUBE_RESULT bcube_answer bcube_dead_switch(bcube_room room, const uint8_t *table, size_t table_len,
+                                            const uint8_t *summary, size_t summary_len);
+
+/* 1 if there is a dead switch, else 0; 0 on a refusal. Ask this first: level 0 and number 0 are a switch too. */
+static inline int bcube_dead_found(bcube_answer answer) { return (int)(bcube_value(answer) >> 24 & 1); }
+
+/* The level of the first dead switch; 0 where there is none, or on a refusal. */
+static inline uint32_t bcube_dead_level(bcube_answer answer) { return bcube_value(answer) >> 16 & 255; }
+
+/* The number of the first dead switch at its level; 0 where there is none, or on a refusal. */
+static inline uint32_t bcube_dead_number(bcube_answer answer) { return bcube_value(answer) & 65535; }
+
+/* Counts the summary of a table afresh. Refuses 1, 2, 26, 3, 6, 30 (the length of the summary). Value: 0. Written:
+ * every entry of the summary, whatever it held. Cost: the table, and all links; 128 bytes of stack. */
+BCUBE_RESULT bcube_answer bcube_summarize(bcube_room room, const uint8_t *table, size_t table_len, uint8_t *summary,
+                                          size_t summary_len);
 
 /* ---- path bytes */
 

@@ -1,6 +1,6 @@
 /* Both implementations asked the same. The lent buffers of a question are copied to areas that end where
- * memory ends, so that a read past a length stops the program; the out buffers have guard bytes on both
- * sides. */
+ * memory ends, so that a read past a length stops the program; the buffers that are written to, an out buffer or a
+ * table and a summary, have guard bytes on both sides, or every other time end there too. */
 #define _DEFAULT_SOURCE
 #include "both.h"
 
@@ -23,11 +23,13 @@ static answer a_word(bcube_answer given) { return number(given.word); }
 static answer a_step(bcube_stepped given) { return given; }
 
 #define BOTH(form, call, arguments)                                                                            \
-    static answer proved_##call(const struct question *q, void *out) { (void)q, (void)out; return form(bcube_##call arguments); } \
-    static answer plainly_##call(const struct question *q, void *out) { (void)q, (void)out; return form(plain_##call arguments); }
+    static answer proved_##call(const struct question *q, void *const *to) { (void)q, (void)to; return form(bcube_##call arguments); } \
+    static answer plainly_##call(const struct question *q, void *const *to) { (void)q, (void)to; return form(plain_##call arguments); }
 #define ROOM q->room
 #define NUMBER(i) q->number[i]
 #define LENT(i) q->lent[i].at, q->lent[i].len
+#define OUT to[0]
+#define WRITTEN(i) to[i], q->lent[i].len
 
 BOTH(number, version, ())
 BOTH(a_room, room_of, (NUMBER(0), NUMBER(1)))
@@ -36,7 +38,7 @@ BOTH(a_word, shape, (ROOM))
 BOTH(a_word, servers, (ROOM))
 BOTH(a_word, bound, (ROOM, NUMBER(0)))
 BOTH(a_word, switches, (ROOM, NUMBER(0)))
-BOTH(a_word, digits, (ROOM, NUMBER(0), out))
+BOTH(a_word, digits, (ROOM, NUMBER(0), OUT))
 BOTH(a_word, digit, (ROOM, NUMBER(0), NUMBER(1)))
 BOTH(a_word, address, (ROOM, NUMBER(0), NUMBER(1), NUMBER(2), NUMBER(3)))
 BOTH(a_word, switch, (ROOM, NUMBER(0), NUMBER(1)))
@@ -46,17 +48,19 @@ BOTH(a_word, between, (ROOM, NUMBER(0), NUMBER(1)))
 BOTH(a_word, path_byte, (ROOM, NUMBER(0), NUMBER(1)))
 BOTH(a_word, path_byte_parts, (ROOM, NUMBER(0)))
 BOTH(a_word, failed_link, (ROOM, NUMBER(0), NUMBER(1), LENT(0)))
-BOTH(a_word, mark_link, (ROOM, NUMBER(0), NUMBER(1), out, q->lent[0].len))
-BOTH(a_word, clear_link, (ROOM, NUMBER(0), NUMBER(1), out, q->lent[0].len))
-BOTH(a_word, mark_server, (ROOM, NUMBER(0), out, q->lent[0].len))
-BOTH(a_word, clear_server, (ROOM, NUMBER(0), out, q->lent[0].len))
-BOTH(a_word, read, (ROOM, NUMBER(0), NUMBER(1), LENT(0), out))
-BOTH(a_word, write, (ROOM, LENT(0), out))
-BOTH(a_word, reverse, (ROOM, NUMBER(0), NUMBER(1), LENT(0), out))
+BOTH(a_word, mark, (ROOM, NUMBER(0), NUMBER(1), WRITTEN(0), WRITTEN(1)))
+BOTH(a_word, clear, (ROOM, NUMBER(0), NUMBER(1), WRITTEN(0), WRITTEN(1)))
+BOTH(a_word, mark_all, (ROOM, NUMBER(0), WRITTEN(0), WRITTEN(1)))
+BOTH(a_word, clear_all, (ROOM, NUMBER(0), WRITTEN(0), WRITTEN(1)))
+BOTH(a_word, dead_switch, (ROOM, LENT(0), LENT(1)))
+BOTH(a_word, summarize, (ROOM, LENT(0), WRITTEN(1)))
+BOTH(a_word, read, (ROOM, NUMBER(0), NUMBER(1), LENT(0), OUT))
+BOTH(a_word, write, (ROOM, LENT(0), OUT))
+BOTH(a_word, reverse, (ROOM, NUMBER(0), NUMBER(1), LENT(0), OUT))
 BOTH(a_word, check, (ROOM, NUMBER(0), NUMBER(1), LENT(0), LENT(1)))
-BOTH(a_word, build, (ROOM, NUMBER(0), NUMBER(1), out))
-BOTH(a_word, find, (ROOM, NUMBER(0), NUMBER(1), LENT(0), out))
-BOTH(a_word, select, (ROOM, NUMBER(0), NUMBER(1), LENT(0), out))
+BOTH(a_word, build, (ROOM, NUMBER(0), NUMBER(1), OUT))
+BOTH(a_word, find, (ROOM, NUMBER(0), NUMBER(1), LENT(0), OUT))
+BOTH(a_word, select, (ROOM, NUMBER(0), NUMBER(1), LENT(0), OUT))
 BOTH(a_word, pick, (ROOM, NUMBER(0), NUMBER(1), LENT(0), LENT(1), LENT(2)))
 BOTH(a_step, step, (ROOM, NUMBER(0), NUMBER(1), NUMBER(2), LENT(0), LENT(1)))
 
@@ -65,14 +69,18 @@ BOTH(a_step, step, (ROOM, NUMBER(0), NUMBER(1), NUMBER(2), LENT(0), LENT(1)))
 #define SHAPED (R(0) | R(1) | R(2) | R(26) | R(3))
 #define ENDS (SHAPED | R(4) | R(5))
 #define HOPS_READ (R(8) | R(9) | R(10) | R(12) | R(13) | R(14))
+#define SUMMED (SHAPED | R(6) | R(30))
 
-enum { IN_PLACE = -1, REFUSALS = 64, LEAST = 100 };
+enum { REFUSALS = 64, LEAST = 100 };
+
+/* which of its lent buffers a call writes to: less 1 for the first, less 2 for the second */
+enum { SECOND = -2, FIRST_TWO = -3 };
 
 static const struct {
     const char *name;
-    answer (*proved)(const struct question *, void *), (*plainly)(const struct question *, void *);
+    answer (*proved)(const struct question *, void *const *), (*plainly)(const struct question *, void *const *);
     uint64_t gives;        /* the refusals that it can give */
-    int out;               /* the bytes of its out buffer; IN_PLACE: it writes to its lent table */
+    int out;               /* the bytes of its out buffer; below 0 the lent buffers that it writes to */
     const char *number[4]; /* what its numbers are called, */
     const char *lent[3];   /* and its lent buffers */
 } calls[CALLS] = {
@@ -94,10 +102,12 @@ static const struct {
     [PATH_BYTE] = {CALL(path_byte, SHAPED | R(20) | R(21), 0), {"level", "value"}, {0}},
     [PATH_BYTE_PARTS] = {CALL(path_byte_parts, SHAPED | R(8) | R(9), 0), {"byte"}, {0}},
     [FAILED_LINK] = {CALL(failed_link, SHAPED | R(4) | R(20) | R(6), 0), {"server", "level"}, {"table"}},
-    [MARK_LINK] = {CALL(mark_link, SHAPED | R(4) | R(20) | R(6), IN_PLACE), {"server", "level"}, {"table"}},
-    [CLEAR_LINK] = {CALL(clear_link, SHAPED | R(4) | R(20) | R(6), IN_PLACE), {"server", "level"}, {"table"}},
-    [MARK_SERVER] = {CALL(mark_server, SHAPED | R(4) | R(6), IN_PLACE), {"server"}, {"table"}},
-    [CLEAR_SERVER] = {CALL(clear_server, SHAPED | R(4) | R(6), IN_PLACE), {"server"}, {"table"}},
+    [MARK] = {CALL(mark, SUMMED | R(4) | R(20), FIRST_TWO), {"server", "level"}, {"table", "summary"}},
+    [CLEAR] = {CALL(clear, SUMMED | R(4) | R(20), FIRST_TWO), {"server", "level"}, {"table", "summary"}},
+    [MARK_ALL] = {CALL(mark_all, SUMMED | R(4), FIRST_TWO), {"server"}, {"table", "summary"}},
+    [CLEAR_ALL] = {CALL(clear_all, SUMMED | R(4), FIRST_TWO), {"server"}, {"table", "summary"}},
+    [DEAD_SWITCH] = {CALL(dead_switch, SUMMED, 0), {0}, {"table", "summary"}},
+    [SUMMARIZE] = {CALL(summarize, SUMMED, SECOND), {0}, {"table", "summary"}},
     [READ] = {CALL(read, ENDS | R(7) | HOPS_READ, 72), {"source", "destination"}, {"path"}},
     [WRITE] = {CALL(write, ENDS | R(22) | R(23) | R(12), 8), {0}, {"servers"}},
     [REVERSE] = {CALL(reverse, ENDS | R(7) | HOPS_READ, 8), {"source", "destination"}, {"path"}},
@@ -118,10 +128,23 @@ static uint32_t refusal_of(enum call call, answer given) { return call <= FILLED
 enum { AREA = 65536, GUARD = 16 };
 static const size_t vast_size = ((size_t)1 << 32) + AREA;
 
-static uint8_t *fence[3];                                     /* where the area of each lent buffer ends */
+static uint8_t *fence[3];     /* where the area of each lent buffer ends */
 static const uint8_t *vast;
-static uint8_t out_proved[GUARD + AREA + GUARD], out_plain[GUARD + AREA + GUARD], out_before[GUARD + AREA + GUARD];
-static struct question asked;                                 /* with the lent buffers where they lie */
+static struct question asked; /* with the lent buffers where they lie */
+
+/* a buffer that is written to: as it was before, and as the proved and the plain call leave it, with the guard bytes
+ * around it; an out buffer is the first */
+static struct written {
+    size_t size, after; /* after: the guard bytes behind it, GUARD, or 0 where memory ends there */
+    uint8_t *edge;      /* where memory ends */
+    uint8_t *proved;    /* where it begins: in `guarded`, or as far before the edge as it is long */
+    uint8_t before[GUARD + AREA + GUARD], guarded[GUARD + AREA + GUARD], plain[GUARD + AREA + GUARD];
+} written[2];
+
+/* whether a call writes to this buffer: its out buffer, or one that it is lent */
+static int writes(enum call call, int i) { return calls[call].out > 0 ? i == 0 : -calls[call].out >> i & 1; }
+
+static int writes_lent(enum call call, int i) { return calls[call].out < 0 && writes(call, i); }
 
 static size_t width(enum call call) { return call == WRITE ? sizeof(uint64_t) : 1; }
 
@@ -171,7 +194,7 @@ static void print_question(const struct question *q) {
     for (int i = 0; i < 3 && calls[q->call].lent[i]; i++) print_lent(q, i);
 }
 
-static void print_answer(const char *whose, answer given, enum call call, const uint8_t *out, size_t size) {
+static void print_answer(const char *whose, answer given, enum call call) {
     bcube_answer word = {given.word};
     printf("  %s %016" PRIx64, whose, given.word);
     if (call == STEP)
@@ -181,8 +204,13 @@ static void print_answer(const char *whose, answer given, enum call call, const 
     else if (call > FILLED_ROOM)
         printf(" (refusal %" PRIu32 ", route %" PRIu32 ", hop %" PRIu32 ", value %" PRIu32 ")", bcube_refusal(word),
                bcube_route(word), bcube_hop(word), bcube_value(word));
-    if (size) printf(" left");
-    for (size_t i = 0; i < size && i < 72; i++) printf("%s%02x", i % 8 ? "" : " ", out[i]);
+    printf("\n");
+}
+
+/* the first bytes of what a call left */
+static void print_left(const char *whose, int i, const uint8_t *bytes) {
+    printf("  %s left%s", whose, i == 0 ? "" : " in the summary");
+    for (size_t j = 0; j < written[i].size && j < 72; j++) printf("%s%02x", j % 8 ? "" : " ", bytes[j]);
     printf("\n");
 }
 
@@ -198,6 +226,7 @@ static void stopped(int signal_number) {
 
 void open_both(void) {
     for (int i = 0; i < 3; i++) fence[i] = fenced_area();
+    for (int i = 0; i < 2; i++) written[i].edge = fenced_area();
     void *at = mmap(NULL, vast_size, PROT_READ, MAP_PRIVATE | MAP_ANONYMOUS | MAP_NORESERVE, -1, 0);
     vast = at == MAP_FAILED ? NULL : at;
     signal(SIGSEGV, stopped);
@@ -207,27 +236,37 @@ void open_both(void) {
 
 const void *vast_area(void) { return vast; }
 
-const void *left(void) { return out_plain + GUARD; }
+const void *left(void) { return written[0].plain + GUARD; }
+
+const void *left_summary(void) { return written[1].plain + GUARD; }
 
 unsigned long comparisons(void) { return done; }
 
 unsigned long differences(void) { return differing; }
 
-/* the buffers as they are before a call; gives the size of the out buffer */
-static size_t lay_out(const struct question *q) {
+/* a buffer that is written to, as it is before a call: these bytes, or any */
+static void lay_out_written(struct written *to, const void *bytes, size_t size) {
+    to->size = size;
+    to->after = done % 2 ? 0 : GUARD;
+    to->proved = to->after ? to->guarded + GUARD : to->edge - size;
+    for (size_t i = 0; i < GUARD + size + GUARD; i++) to->before[i] = (uint8_t)(37 * i + done);
+    if (bytes && size) memcpy(to->before + GUARD, bytes, size);
+    memcpy(to->proved - GUARD, to->before, GUARD + size + to->after);
+    memcpy(to->plain, to->before, GUARD + size + GUARD);
+}
+
+/* the buffers as they are before a call */
+static void lay_out(const struct question *q) {
     asked = *q;
     for (int i = 0; i < 3; i++) {
         if (!q->lent[i].at || q->lent[i].at == vast) continue;
         asked.lent[i].at = memcpy(fence[i] - lent_bytes(q, i), q->lent[i].at, lent_bytes(q, i));
     }
-    if (calls[q->call].out == 0) return 0;
-    int in_place = calls[q->call].out == IN_PLACE;
-    size_t size = in_place ? (q->lent[0].at == vast ? 0 : q->lent[0].len) : (size_t)calls[q->call].out;
-    for (size_t i = 0; i < GUARD + size + GUARD; i++) out_before[i] = (uint8_t)(37 * i + done);
-    if (in_place && size) memcpy(out_before + GUARD, q->lent[0].at, size);
-    memcpy(out_proved, out_before, GUARD + size + GUARD);
-    memcpy(out_plain, out_before, GUARD + size + GUARD);
-    return size;
+    for (int i = 0; i < 2; i++) {
+        if (!writes(q->call, i)) continue;
+        if (!writes_lent(q->call, i)) lay_out_written(&written[i], NULL, (size_t)calls[q->call].out);
+        else lay_out_written(&written[i], q->lent[i].at, q->lent[i].at == vast ? 0 : q->lent[i].len);
+    }
 }
 
 /* whether a lent buffer is the vast one, which must not be read through */
@@ -242,37 +281,58 @@ static int lent_kept(const struct question *q) {
     return 1;
 }
 
-/* what differs, or NULL */
-static const char *difference(const struct question *q, answer proved, answer plain, size_t size) {
-    const uint8_t *was = out_before + GUARD, *is = out_proved + GUARD;
-    if (proved.word != plain.word || proved.mac != plain.mac) return "the answers differ";
-    if (!lent_kept(q)) return "a lent buffer is changed";
-    if (calls[q->call].out == 0) return NULL;
-    if (memcmp(is, out_plain + GUARD, size) != 0) return "the bytes left differ";
-    if (memcmp(out_proved, out_before, GUARD) != 0) return "bytes before the buffer are changed";
-    if (memcmp(is + size, was + size, GUARD) != 0) return "bytes after the buffer are changed";
-    if (refusal_of(q->call, proved) != 0 && memcmp(is, was, size) != 0) return "a refusal changed the buffer";
+/* what differs in a buffer that is written to, or NULL */
+static const char *difference_in(const struct written *it, int is_refused) {
+    const uint8_t *was = it->before + GUARD;
+    if (memcmp(it->proved, it->plain + GUARD, it->size) != 0) return "the bytes left differ";
+    if (memcmp(it->proved - GUARD, it->before, GUARD) != 0) return "bytes before a buffer are changed";
+    if (memcmp(it->proved + it->size, was + it->size, it->after) != 0) return "bytes after a buffer are changed";
+    if (is_refused && memcmp(it->proved, was, it->size) != 0) return "a refusal changed a buffer";
     return NULL;
 }
 
-static void report(const char *what, const struct question *q, answer proved, answer plain, size_t size) {
+/* what differs, or NULL */
+static const char *difference(const struct question *q, answer proved, answer plain) {
+    const char *what = NULL;
+    if (proved.word != plain.word || proved.mac != plain.mac) return "the answers differ";
+    if (!lent_kept(q)) return "a lent buffer is changed";
+    for (int i = 0; i < 2 && !what; i++)
+        if (writes(q->call, i)) what = difference_in(&written[i], refusal_of(q->call, proved) != 0);
+    return what;
+}
+
+static void report(const char *what, const struct question *q, answer proved, answer plain) {
     if (differing++ >= 20) return;
     printf("differ: %s: ", what);
     print_question(q);
-    print_answer("proved", proved, q->call, out_proved + GUARD, size);
-    print_answer("plain ", plain, q->call, out_plain + GUARD, size);
+    print_answer("proved", proved, q->call);
+    print_answer("plain ", plain, q->call);
+    for (int i = 0; i < 2; i++)
+        if (writes(q->call, i)) {
+            print_left("proved", i, written[i].proved);
+            print_left("plain ", i, written[i].plain + GUARD);
+        }
+}
+
+/* where a call gets a buffer that it writes to: a vast or a null one where it is lent */
+static void *given_at(const struct question *q, int i, uint8_t *usual) {
+    int as_lent = writes_lent(q->call, i) && (!q->lent[i].at || q->lent[i].at == vast);
+    return as_lent ? (void *)(uintptr_t)q->lent[i].at : usual;
 }
 
 answer ask(const struct question *q) {
-    size_t size = lay_out(q);
-    int as_lent = calls[q->call].out == IN_PLACE && (lends_vast(q) || !q->lent[0].at);
-    void *lent = (void *)(uintptr_t)q->lent[0].at;
+    lay_out(q);
+    void *to_proved[2], *to_plain[2];
+    for (int i = 0; i < 2; i++) {
+        to_proved[i] = given_at(q, i, written[i].proved);
+        to_plain[i] = given_at(q, i, written[i].plain + GUARD);
+    }
     if (lends_vast(q)) alarm(20);
-    answer proved = calls[q->call].proved(&asked, as_lent ? lent : out_proved + GUARD);
-    answer plain = calls[q->call].plainly(&asked, as_lent ? lent : out_plain + GUARD);
+    answer proved = calls[q->call].proved(&asked, to_proved);
+    answer plain = calls[q->call].plainly(&asked, to_plain);
     if (lends_vast(q)) alarm(0);
-    const char *what = difference(q, proved, plain, size);
-    if (what) report(what, q, proved, plain, size);
+    const char *what = difference(q, proved, plain);
+    if (what) report(what, q, proved, plain);
     uint32_t refusal = refusal_of(q->call, plain);
     if (refusal < REFUSALS) count[q->call][refusal]++;
     done++;
@@ -283,8 +343,16 @@ void not_as_worked(const struct question *q, answer given, answer wanted) {
     if (differing++ >= 20) return;
     printf("not as worked by hand: ");
     print_question(q);
-    print_answer("plain ", given, q->call, out_plain + GUARD, calls[q->call].out > 0 ? (size_t)calls[q->call].out : 0);
-    print_answer("wanted", wanted, q->call, NULL, 0);
+    print_answer("plain ", given, q->call);
+    print_answer("wanted", wanted, q->call);
+    for (int i = 0; i < 2; i++)
+        if (writes(q->call, i)) print_left("plain ", i, written[i].plain + GUARD);
+}
+
+void not_as_counted(const struct question *q) {
+    if (differing++ >= 20) return;
+    printf("the summary is not as counted afresh, after: ");
+    print_question(q);
 }
 
 /* ---- the counts */

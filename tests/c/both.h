@@ -1,5 +1,6 @@
 /* One question put to both, the proved library and the plain implementation, and their answers compared:
- * the words, every byte left in an out buffer, the bytes around it, and the lent buffers. See both.c. */
+ * the words, every byte left in the buffers that are written to, the bytes around them, and the lent buffers. See
+ * both.c. */
 #ifndef BOTH_H
 #define BOTH_H
 
@@ -9,7 +10,7 @@ enum call {
     VERSION, ROOM_OF, FILLED_ROOM,
     SHAPE, SERVERS, BOUND, SWITCHES, DIGITS, DIGIT, ADDRESS, SWITCH, SERVER_AT, NEIGHBOUR, BETWEEN,
     PATH_BYTE, PATH_BYTE_PARTS,
-    FAILED_LINK, MARK_LINK, CLEAR_LINK, MARK_SERVER, CLEAR_SERVER,
+    FAILED_LINK, MARK, CLEAR, MARK_ALL, CLEAR_ALL, DEAD_SWITCH, SUMMARIZE,
     READ, WRITE, REVERSE, CHECK,
     BUILD, FIND, SELECT, PICK,
     STEP,
@@ -40,11 +41,17 @@ const void *vast_area(void);
 /* Asks both, counts the answer, and reports a difference. Gives the plain answer. */
 answer ask(const struct question *question);
 
-/* What the last question left in the plain out buffer. */
+/* What the last question left in the plain out buffer, or in the table that it was lent to write to; */
 const void *left(void);
+
+/* and in the summary that it was lent to write to. */
+const void *left_summary(void);
 
 /* Reports a question whose answer is not the one worked by hand: what was given, and what is wanted. */
 void not_as_worked(const struct question *question, answer given, answer wanted);
+
+/* Reports a question after which the summary carried along is not the one counted afresh. */
+void not_as_counted(const struct question *question);
 
 unsigned long comparisons(void);
 unsigned long differences(void);

@@ -6,10 +6,17 @@
  * every room of at most 64 servers, full and half-filled: each server, level, value, switch and port, each link, each
  * ordered pair under several failed-link tables, each path byte as a hop; but only some of the one-level half-filled
  * rooms for links, pairs and path bytes, some of the two-level ones for pairs and path bytes, and some of the one-level
- * full rooms for path bytes; in half-filled rooms each vacant port; then as many rounds (1 if not said) of questions
- * of any kind in rooms of every size, with arguments and buffers damaged in every way that the rules name, and numbers
- * of up to 64 bits. The same numbers give the same run. Prints the counts by call and by refusal; status 1 if anything
- * differs, or a refusal was met fewer than 100 times by a call that can give it. */
+ * full rooms for path bytes; in half-filled rooms each vacant port.
+ *
+ * Then the summary: in rooms of few links every table, and every summary beside some tables; in every room of at most
+ * 64 servers each switch dead, alone and beside others; there, but in some of the one-level half-filled ones only, each
+ * kind of wrong entry and of wrong length, and marks and clears in a row, with the table and the summary carried along
+ * and held to the count after each. All of these in larger rooms too.
+ *
+ * Last as many rounds (1 if not said) of questions of any kind in rooms of every size, with arguments and buffers
+ * damaged in every way that the rules name, and numbers of up to 64 bits. The same numbers give the same run.
+ * Prints the counts by call and by refusal; status 1 if anything differs, or a refusal was met fewer than 100 times by
+ * a call that can give it. */
 #include "both.h"
 
 #include "bcube.h"
@@ -44,11 +51,11 @@ static uint64_t odd(void) {
     return edge[any(sizeof edge / sizeof *edge)];
 }
 
-/* ---- the room that the questions are about, and its failed-link table */
+/* ---- the room that the questions are about, its failed-link table, and the summary of that */
 
-static uint32_t n, k, m, servers;
+static uint32_t n, k, m, servers, entries; /* entries: of the summary, one for each switch */
 static bcube_room room;
-static uint8_t failed[MOST + ARRAY];
+static uint8_t failed[MOST + ARRAY], summary[MOST + ARRAY];
 static uint8_t neighbours[BCUBE_NEIGHBOUR_TABLE_BYTES + ARRAY];
 
 static uint32_t power(uint32_t base, uint32_t exponent) {
@@ -57,13 +64,22 @@ static uint32_t power(uint32_t base, uint32_t exponent) {
     return result;
 }
 
+/* how many values a digit at this level has, */
+static uint32_t bound(uint32_t level) { return level == k ? m : n; }
+
+/* and how many switches the level */
+static uint32_t switches_at(uint32_t level) { return servers / bound(level); }
+
 static void enter(uint32_t ports, uint32_t levels, uint32_t fill) {
     n = ports;
     k = levels;
     m = fill;
     servers = m * power(n, k);
+    entries = 0;
+    for (uint32_t level = 0; level <= k; level++) entries += switches_at(level);
     room = plain_filled_room(n, k, m);
     memset(failed, 0, sizeof failed);
+    memset(summary, 0, sizeof summary);
 }
 
 static void enter_full(uint32_t ports, uint32_t levels) { enter(ports, levels, ports); }
@@ -80,9 +96,6 @@ static void enter_chosen(uint32_t i) { enter(chosen[i][0], chosen[i][1], chosen[
 static uint32_t any_fill(uint32_t ports) { return any(2) ? ports : 2 + any(ports - 1); }
 
 static void enter_any(uint32_t ports, uint32_t levels) { enter(ports, levels, any_fill(ports)); }
-
-/* how many values a digit at this level has */
-static uint32_t bound(uint32_t level) { return level == k ? m : n; }
 
 static uint32_t digit_of(uint32_t server, uint32_t level) { return server / power(n, level) % n; }
 
@@ -103,6 +116,29 @@ static void fail_links(uint32_t one_in) {
 }
 
 static void kill_server(uint32_t server) { failed[server] = (uint8_t)(power(2, k + 1) - 1); }
+
+/* the server at a port of a switch: its digits are those of the number, with the port put in at the level */
+static uint32_t at_port(uint32_t level, uint32_t number, uint32_t port) {
+    uint32_t weight = power(n, level);
+    return number / weight * weight * n + port * weight + number % weight;
+}
+
+static void kill_switch(uint32_t level, uint32_t number) {
+    for (uint32_t port = 0; port < bound(level); port++)
+        failed[at_port(level, number, port)] |= (uint8_t)(1u << level);
+}
+
+/* the summary of the table as it is now */
+static void summarize(void) { plain_summarize(room, failed, servers, summary, entries); }
+
+/* where the entry of a server's switch at a level stands; any place, for a server or a level that there is not */
+static uint32_t entry_of(uint64_t server, uint64_t level) {
+    bcube_answer number = plain_switch(room, server, level);
+    if (bcube_refusal(number)) return any(entries);
+    uint32_t place = bcube_value(number);
+    for (uint32_t lower = 0; lower < level; lower++) place += switches_at(lower);
+    return place;
+}
 
 /* fails a link of some hop of some built routes of this pair, so that there is something to replace */
 static void break_routes(uint32_t source, uint32_t destination) {
@@ -147,6 +183,33 @@ static bcube_answer ask_table(enum call call, uint64_t first, uint64_t second) {
     struct question q = about(call, first, second, 0, 0);
     lend(&q, 0, failed, servers);
     return ask_word(&q);
+}
+
+/* the calls with the table and its summary */
+static bcube_answer ask_summary(enum call call, uint64_t server, uint64_t level) {
+    struct question q = about(call, server, level, 0, 0);
+    lend(&q, 0, failed, servers);
+    lend(&q, 1, summary, entries);
+    return ask_word(&q);
+}
+
+/* a mark or a clear, of which the table and the summary are taken on; */
+static bcube_answer carry(enum call call, uint64_t server, uint64_t level) {
+    bcube_answer given = ask_summary(call, server, level);
+    memcpy(failed, left(), servers);
+    memcpy(summary, left_summary(), entries);
+    return given;
+}
+
+/* the summary then has to be the one counted afresh, over any bytes */
+static void hold_to_count(void) {
+    static uint8_t anything[MOST];
+    struct question q = about(SUMMARIZE, 0, 0, 0, 0);
+    anything[any(MOST)] = (uint8_t)any(256);
+    lend(&q, 0, failed, servers);
+    lend(&q, 1, anything, entries);
+    ask(&q);
+    if (memcmp(left_summary(), summary, entries) != 0) not_as_counted(&q);
 }
 
 static bcube_answer ask_check(uint32_t source, uint32_t destination, const uint8_t *list, size_t len) {
@@ -199,6 +262,12 @@ static void worked(struct question q, uint64_t word, const void *bytes, size_t s
 static struct question with(struct question q, const void *at, size_t len) {
     lend(&q, q.lent[0].at ? 1 : 0, at, len);
     return q;
+}
+
+/* the same of a call that writes to a table and its summary, or to the summary alone: these have to be left */
+static void worked_both(struct question q, uint64_t word, const void *in_table, const void *in_summary) {
+    worked(q, word, in_table, q.call == SUMMARIZE ? 0 : q.lent[0].len);
+    if (memcmp(left_summary(), in_summary, q.lent[1].len) != 0) not_as_worked(&q, (answer){word, 0}, (answer){word, 0});
 }
 
 static void worked_addresses(void) {
@@ -302,11 +371,98 @@ static void worked_wiring(void) {
     worked(about(PATH_BYTE_PARTS, 0xc1, 0, 0, 0), valued(256 * 3 + 1), "", 0);
     worked(about(PATH_BYTE_PARTS, 8, 0, 0, 0), refused(9, 1, 1), "", 0);
     worked(about(PATH_BYTE_PARTS, 256, 0, 0, 0), refused(8, 1, 1), "", 0);
-    enter_full(4, 1);
-    static const uint8_t dead[16] = {0, 0, 0, 3}, one[16] = {0, 0, 0, 2};
-    worked(with(about(MARK_SERVER, 3, 0, 0, 0), one, 16), 0, dead, 16);
-    worked(with(about(CLEAR_SERVER, 3, 0, 0, 0), dead, 16), 0, (const uint8_t[16]){0}, 16);
-    worked(with(about(MARK_SERVER, 16, 0, 0, 0), one, 16), refused(4, 0, 0), one, 16);
+}
+
+/* a table of eight bytes and a summary of six, or of as many as are said, before a call and after it */
+struct worked_summary {
+    enum call call;
+    uint32_t server, level;
+    uint8_t table[8], summary[8], len;
+    uint64_t word;
+    uint8_t table_left[8], summary_left[8];
+};
+
+/* (4,1,2): level 0 has the switches 0 and 1, level 1 the switches 0 to 3, and switch x there the servers x and x + 4 */
+static void worked_summaries(void) {
+    static const uint64_t found = UINT64_C(1) << 56; /* level 0, number 0; a level is 2^48 more, a number 2^32 */
+    const struct worked_summary rows[] = {
+        /* level 1, number 1 is entry 3; a mark made again counts once; the switch is dead with its second link */
+        {MARK, 5, 1, {0}, {0}, 6, 0, {0, 0, 0, 0, 0, 2}, {0, 0, 0, 1}},
+        {MARK, 5, 1, {0, 0, 0, 0, 0, 2}, {0, 0, 0, 1}, 6, 0, {0, 0, 0, 0, 0, 2}, {0, 0, 0, 1}},
+        {MARK, 1, 1, {0, 0, 0, 0, 0, 2}, {0, 0, 0, 1}, 6, 0, {0, 2, 0, 0, 0, 2}, {0, 0, 0, 2}},
+        {DEAD_SWITCH, 0, 0, {0, 2, 0, 0, 0, 2}, {0, 0, 0, 2}, 6, found + (UINT64_C(65537) << 32), {0}, {0}},
+        {CLEAR, 5, 1, {0, 2, 0, 0, 0, 2}, {0, 0, 0, 2}, 6, 0, {0, 2}, {0, 0, 0, 1}},
+        {CLEAR, 5, 1, {0, 2}, {0, 0, 0, 1}, 6, 0, {0, 2}, {0, 0, 0, 1}},
+        {DEAD_SWITCH, 0, 0, {0, 2}, {0, 0, 0, 1}, 6, 0, {0}, {0}},
+        /* level 0, number 0 is an answer; of two dead switches the lower level, and of one level the lower number */
+        {DEAD_SWITCH, 0, 0, {1, 1, 1, 1}, {4}, 6, found, {0}, {0}},
+        {DEAD_SWITCH, 0, 0, {0, 0, 0, 2, 1, 1, 1, 3}, {0, 4, 0, 0, 0, 2}, 6, found + (UINT64_C(1) << 32), {0}, {0}},
+        {DEAD_SWITCH, 0, 0, {0, 2, 0, 2, 0, 2, 0, 2}, {0, 0, 0, 2, 0, 2}, 6, found + (UINT64_C(65537) << 32), {0}, {0}},
+        {DEAD_SWITCH, 0, 0, {0, 0, 0, 2, 0, 0, 0, 2}, {0, 0, 0, 0, 0, 2}, 6, found + (UINT64_C(65539) << 32), {0}, {0}},
+        {DEAD_SWITCH, 0, 0, {0}, {0}, 6, 0, {0}, {0}},
+        /* a wrong entry: where it is touched, where the mark would change nothing too, and elsewhere, where it stays */
+        {MARK, 5, 1, {0}, {0, 0, 0, 1}, 6, 30, {0}, {0, 0, 0, 1}},
+        {MARK, 5, 1, {0, 0, 0, 0, 0, 2}, {0}, 6, 30, {0, 0, 0, 0, 0, 2}, {0}},
+        {CLEAR, 5, 1, {0}, {0, 0, 0, 2}, 6, 30, {0}, {0, 0, 0, 2}},
+        {MARK, 5, 1, {0}, {9, 0, 0, 0, 0, 7}, 6, 0, {0, 0, 0, 0, 0, 2}, {9, 0, 0, 1, 0, 7}},
+        {DEAD_SWITCH, 0, 0, {0}, {9, 0, 0, 0, 0, 7}, 6, 30, {0}, {0}},
+        {SUMMARIZE, 0, 0, {0, 2, 0, 0, 0, 3}, {9, 0, 0, 0, 0, 7}, 6, 0, {0}, {0, 1, 0, 2}},
+        /* all links of a server: entries 1 and 3 for server 5, either of them wrong, and one elsewhere */
+        {MARK_ALL, 5, 0, {0, 2}, {0, 0, 0, 1}, 6, 0, {0, 2, 0, 0, 0, 3}, {0, 1, 0, 2}},
+        {MARK_ALL, 5, 0, {0, 2, 0, 0, 0, 1}, {0, 1, 0, 1}, 6, 0, {0, 2, 0, 0, 0, 3}, {0, 1, 0, 2}},
+        {CLEAR_ALL, 5, 0, {0, 2, 0, 0, 0, 3}, {0, 1, 0, 2}, 6, 0, {0, 2}, {0, 0, 0, 1}},
+        {MARK_ALL, 5, 0, {0}, {0, 1, 0, 0}, 6, 30, {0}, {0, 1, 0, 0}},
+        {MARK_ALL, 5, 0, {0}, {0, 0, 0, 1}, 6, 30, {0}, {0, 0, 0, 1}},
+        {CLEAR_ALL, 5, 0, {0}, {7, 0, 7, 0, 7, 7}, 6, 0, {0}, {7, 0, 7, 0, 7, 7}},
+        {MARK_ALL, 8, 0, {0}, {0}, 6, 4, {0}, {0}},
+        /* a length that is not six, in every call; a bit above k comes before it; and a level before both */
+        {MARK, 5, 1, {0}, {0}, 8, 30, {0}, {0}},
+        {MARK, 5, 1, {4}, {0}, 8, 6, {4}, {0}},
+        {MARK, 5, 2, {4}, {0}, 8, 20, {4}, {0}},
+        {CLEAR, 5, 1, {0}, {0}, 5, 30, {0}, {0}},
+        {MARK_ALL, 5, 0, {0}, {0}, 7, 30, {0}, {0}},
+        {CLEAR_ALL, 5, 0, {8}, {0}, 7, 6, {8}, {0}},
+        {DEAD_SWITCH, 0, 0, {0}, {0}, 8, 30, {0}, {0}},
+        {DEAD_SWITCH, 0, 0, {4}, {9}, 6, 6, {0}, {0}},
+        {SUMMARIZE, 0, 0, {1}, {9, 9, 9, 9, 9}, 5, 30, {0}, {9, 9, 9, 9, 9}},
+        {SUMMARIZE, 0, 0, {4}, {9, 9, 9, 9, 9}, 5, 6, {0}, {9, 9, 9, 9, 9}}};
+    enter(4, 1, 2);
+    for (size_t i = 0; i < sizeof rows / sizeof *rows; i++) {
+        const struct worked_summary *row = &rows[i];
+        struct question q = with(about(row->call, row->server, row->level, 0, 0), row->table, 8);
+        q = with(q, row->summary, row->len);
+        if (row->call == DEAD_SWITCH) worked(q, row->word, "", 0);
+        else worked_both(q, row->word, row->table_left, row->summary_left);
+    }
+}
+
+/* all links of a server marked over zeros: its byte, and these entries of so many */
+static void worked_entries(uint32_t server, uint32_t so_many, const uint32_t *at) {
+    static const uint8_t zeros[MOST];
+    uint8_t in_table[MOST] = {0}, in_summary[MOST] = {0};
+    in_table[server] = (uint8_t)(power(2, k + 1) - 1);
+    for (uint32_t level = 0; level <= k; level++) in_summary[at[level]] = 1;
+    struct question q = with(with(about(MARK_ALL, server, 0, 0, 0), zeros, servers), zeros, so_many);
+    worked_both(q, 0, in_table, in_summary);
+    q = with(with(about(CLEAR_ALL, server, 0, 0, 0), in_table, servers), in_summary, so_many);
+    worked_both(q, 0, zeros, zeros);
+}
+
+/* where entries stand: level l begins at l times m n^(k-1) */
+static void worked_places(void) {
+    enter(8, 3, 4);
+    worked_entries(0, 1280, (const uint32_t[]){0, 256, 512, 768});
+    worked_entries(2047, 1280, (const uint32_t[]){255, 511, 767, 1279});
+    enter(12, 3, 2);
+    worked_entries(3455, 2592, (const uint32_t[]){287, 575, 863, 2591});
+    enter(45, 2, 2);
+    worked_entries(4049, 2205, (const uint32_t[]){89, 179, 2204});
+    enter_full(8, 3);
+    worked_entries(521, 2048, (const uint32_t[]){65, 512 + 65, 1024 + 73, 1536 + 9});
+    enter_full(64, 1);
+    worked_entries(4095, 128, (const uint32_t[]){63, 127});
+    enter(64, 0, 2);
+    worked_entries(1, 1, (const uint32_t[]){0});
 }
 
 /* each lent buffer as a null pointer with no length, the others as they should be: a good empty buffer */
@@ -314,10 +470,14 @@ static void worked_nothing(void) {
     static const uint8_t list[8] = {0x41, 3};
     enter_full(4, 1);
     worked(about(FAILED_LINK, 0, 0, 0, 0), refused(6, 0, 0), "", 0);
-    worked(about(MARK_LINK, 0, 0, 0, 0), refused(6, 0, 0), "", 0);
-    worked(about(CLEAR_LINK, 0, 0, 0, 0), refused(6, 0, 0), "", 0);
-    worked(about(MARK_SERVER, 0, 0, 0, 0), refused(6, 0, 0), "", 0);
-    worked(about(CLEAR_SERVER, 0, 0, 0, 0), refused(6, 0, 0), "", 0);
+    for (uint32_t call = MARK; call <= SUMMARIZE; call++) {
+        struct question both = about((enum call)call, 0, 0, 0, 0), first = both, second = both;
+        lend(&first, 0, failed, servers);
+        lend(&second, 1, summary, entries);
+        worked(both, refused(6, 0, 0), "", 0);
+        worked(first, refused(30, 0, 0), "", 0);
+        worked(second, refused(6, 0, 0), "", 0);
+    }
     worked(about(READ, 0, 7, 0, 0), refused(7, 0, 0), "", 0);
     worked(about(REVERSE, 0, 7, 0, 0), refused(7, 0, 0), "", 0);
     worked(about(WRITE, 0, 0, 0, 0), refused(22, 0, 0), "", 0);
@@ -446,17 +606,19 @@ static void every_digit(void) {
     for (uint32_t level = 0; level < k + 1 + BEYOND; level++) ask_numbers(BOUND, beyond(level, k + 1), 0, 0, 0);
 }
 
-/* every link asked, marked, marked again, cleared: the table is taken on from each */
+/* every link asked, marked, marked again, cleared: the table and the summary are taken on from each */
 static void every_link(void) {
-    static const enum call turn[] = {FAILED_LINK, MARK_LINK,  FAILED_LINK,  MARK_LINK,   CLEAR_LINK,
-                                     CLEAR_LINK,  MARK_SERVER, FAILED_LINK, CLEAR_LINK, MARK_SERVER, CLEAR_SERVER};
+    static const enum call turn[] = {FAILED_LINK, MARK,     FAILED_LINK, MARK,  CLEAR,    CLEAR,
+                                     MARK_ALL,    FAILED_LINK, CLEAR,    MARK_ALL, CLEAR_ALL};
     fail_links(4);
+    summarize();
     for (uint32_t i = 0; i < servers + BEYOND; i++)
         for (uint32_t j = 0; j < k + 1 + BEYOND; j++)
             for (size_t t = 0; t < sizeof turn / sizeof *turn; t++) {
-                bcube_answer given = ask_table(turn[t], beyond(i, servers), beyond(j, k + 1));
-                if (turn[t] != FAILED_LINK && bcube_refusal(given) == 0) memcpy(failed, left(), servers);
-                if (any(8) == 0) fail_links(4);
+                uint64_t server = beyond(i, servers), level = beyond(j, k + 1);
+                if (turn[t] == FAILED_LINK) ask_table(FAILED_LINK, server, level);
+                else if (!bcube_refusal(carry(turn[t], server, level))) hold_to_count();
+                if (any(8) == 0) fail_links(4), summarize();
             }
 }
 
@@ -684,6 +846,182 @@ static void every_vacant_port(void) {
     for (uint32_t port = m; port < n; port++) vacant_port(port);
 }
 
+/* ---- summaries: every table, every wrong summary, every dead switch, and changes in a row */
+
+/* the question and the count afresh, with the table and the summary as they are; */
+static void whole_summary(void) {
+    ask_summary(DEAD_SWITCH, 0, 0);
+    ask_summary(SUMMARIZE, 0, 0);
+}
+
+/* and each change too */
+static void every_change(void) {
+    for (uint32_t server = 0; server < servers; server++) {
+        for (uint32_t level = 0; level <= k; level++) {
+            ask_summary(MARK, server, level);
+            ask_summary(CLEAR, server, level);
+        }
+        ask_summary(MARK_ALL, server, 0);
+        ask_summary(CLEAR_ALL, server, 0);
+    }
+    whole_summary();
+}
+
+/* every table of a room of few links, with its summary */
+static void every_table(void (*what)(void)) {
+    for (uint32_t bits = 0; bits < 1u << servers * (k + 1); bits++) {
+        for (uint32_t a = 0; a < servers; a++) failed[a] = (uint8_t)(bits >> a * (k + 1) & (power(2, k + 1) - 1));
+        summarize();
+        what();
+    }
+}
+
+/* every summary with entries below `most` beside any tables, of a room of few switches */
+static void every_summary(uint32_t most) {
+    for (uint32_t tables = 0; tables < 6; tables++) {
+        fail_links(1 + tables / 2);
+        for (uint32_t number = 0; number < power(most, entries); number++) {
+            for (uint32_t i = 0; i < entries; i++) summary[i] = (uint8_t)(number / power(most, i) % most);
+            every_change();
+        }
+    }
+}
+
+static void rooms_of_few_links(void) {
+    for (uint32_t ports = 2; ports <= 6; ports++)
+        for (uint32_t fill = 2; fill <= ports; fill++) enter(ports, 0, fill), every_table(every_change);
+    enter_full(2, 1), every_table(every_change);
+    enter(3, 1, 2), every_table(every_change);
+    enter(4, 1, 2), every_table(whole_summary);
+    for (uint32_t ports = 2; ports <= 4; ports++)
+        for (uint32_t fill = 2; fill <= ports; fill++) enter(ports, 0, fill), every_summary(256);
+    enter_full(2, 1), every_summary(4);
+    enter(3, 1, 2), every_summary(4);
+}
+
+/* the question, whose answer has to be this switch; */
+static void worked_dead(uint32_t level, uint32_t number) {
+    struct question q = with(with(about(DEAD_SWITCH, 0, 0, 0, 0), failed, servers), summary, entries);
+    bcube_answer given = {valued(1u << 24 | level << 16 | number)};
+    if (!bcube_dead_found(given) || bcube_dead_level(given) != level || bcube_dead_number(given) != number)
+        not_as_worked(&q, (answer){given.word, 0}, (answer){given.word, 0});
+    worked(q, given.word, "", 0);
+}
+
+/* or that there is none */
+static void worked_none_dead(void) {
+    worked(with(with(about(DEAD_SWITCH, 0, 0, 0, 0), failed, servers), summary, entries), 0, "", 0);
+}
+
+/* a switch dead alone, without one of its links, with it again, beside another dead switch, and beside any links */
+static void dead_switch(uint32_t level, uint32_t number) {
+    uint32_t server = at_port(level, number, any(bound(level)));
+    fail_links(0);
+    kill_switch(level, number);
+    summarize();
+    worked_dead(level, number);
+    carry(CLEAR, server, level);
+    worked_none_dead();
+    carry(MARK, server, level);
+    carry(MARK, server, level);
+    worked_dead(level, number);
+    uint32_t other_level = any(k + 1), other = any(switches_at(other_level));
+    int before = other_level < level || (other_level == level && other < number);
+    kill_switch(other_level, other);
+    summarize();
+    worked_dead(before ? other_level : level, before ? other : number);
+    fail_links(2 + any(4));
+    kill_switch(level, number);
+    summarize();
+    ask_summary(DEAD_SWITCH, 0, 0);
+    carry(CLEAR_ALL, server, 0);
+    ask_summary(DEAD_SWITCH, 0, 0);
+}
+
+/* no switch dead, and all; then each, or in a large room the first, the last and some of each level */
+static void dead_switches(void) {
+    fail_links(0);
+    summarize();
+    worked_none_dead();
+    fail_links(1);
+    summarize();
+    worked_dead(0, 0);
+    for (uint32_t level = 0; level <= k; level++)
+        for (uint32_t i = 0, all = switches_at(level); i < (servers <= SMALL || all < 6 ? all : 6); i++)
+            dead_switch(level, servers <= SMALL || i == 0 ? i : i == 1 ? all - 1 : any(all));
+}
+
+/* one call with the summary as it is, of this length, and the refusal that it has to give */
+static void refused_summary(enum call call, uint32_t server, uint32_t level, size_t len, uint32_t why) {
+    struct question q = with(with(about(call, server, level, 0, 0), failed, servers), len ? summary : NULL, len);
+    worked(q, why, "", 0);
+}
+
+/* a summary of a wrong length, among them one byte a server and n^k a level; and beside a table that is refused */
+static void wrong_lengths(enum call call, uint32_t server, uint32_t level) {
+    const size_t wrong[] = {0, 1, entries - 1, entries + 1, entries + ARRAY, servers, (k + 1) * power(n, k), MOST};
+    for (size_t i = 0; i < sizeof wrong / sizeof *wrong; i++)
+        if (wrong[i] != entries && wrong[i] <= sizeof summary) refused_summary(call, server, level, wrong[i], 30);
+    uint32_t bad = any(servers), was = failed[bad];
+    failed[bad] |= (uint8_t)(2u << k);
+    refused_summary(call, server, level, entries, 6);
+    refused_summary(call, server, level, entries + 1, 6);
+    failed[bad] = (uint8_t)was;
+}
+
+/* a wrong entry of a switch of this link, and one of a switch that none of the server's links leads to */
+static void wrong_entries(enum call call, uint32_t server, uint32_t level) {
+    static const uint8_t off[] = {1, 255, 128, 64};
+    uint32_t at = entry_of(server, level), elsewhere = any(entries), touched = 0;
+    for (size_t i = 0; i < sizeof off; i++) {
+        summary[at] = (uint8_t)(summary[at] + off[i]);
+        refused_summary(call, server, level, entries, call == SUMMARIZE ? 0 : 30);
+        summary[at] = (uint8_t)(summary[at] - off[i]);
+    }
+    for (uint32_t l = 0; l <= k; l++) touched |= entry_of(server, l) == elsewhere;
+    if (touched) return;
+    uint8_t was = summary[elsewhere], wrong = summary[elsewhere] = (uint8_t)(was + 1 + any(255));
+    refused_summary(call, server, level, entries, call == DEAD_SWITCH ? 30 : 0);
+    if (call < DEAD_SWITCH && ((const uint8_t *)left_summary())[elsewhere] != wrong) {
+        struct question q = about(call, server, level, 0, 0);
+        not_as_counted(&q);
+    }
+    summary[elsewhere] = was;
+}
+
+/* each wrong entry and each wrong length in each call, at any link of the room */
+static void wrong_summaries(void) {
+    fail_links(any(2) ? 4 : 0);
+    summarize();
+    for (uint32_t call = MARK; call <= SUMMARIZE; call++) {
+        uint32_t server = any(servers), level = any(k + 1);
+        wrong_entries((enum call)call, server, level);
+        wrong_lengths((enum call)call, server, level);
+    }
+}
+
+/* so many changes, most of them at the links of one switch, many made twice: after each the summary carried along has
+ * to be the one counted afresh, and the question is asked */
+static void changes_in_a_row(uint32_t count) {
+    static const enum call turn[] = {MARK, MARK, MARK, MARK, CLEAR, CLEAR, MARK_ALL, CLEAR_ALL};
+    uint32_t level = any(k + 1), number = any(switches_at(level));
+    fail_links(any(3) ? 0 : 8);
+    if (any(2)) kill_switch(level, number);
+    summarize();
+    for (uint32_t i = 0; i < count; i++) {
+        enum call call = turn[any(8)];
+        uint32_t server = any(servers), at = any(k + 1);
+        if (any(4)) server = at_port(level, number, any(bound(level))), at = level;
+        for (uint32_t times = 1 + any(2); times > 0; times--) {
+            carry(call, server, at);
+            hold_to_count();
+            ask_summary(DEAD_SWITCH, 0, 0);
+        }
+    }
+}
+
+static void some_changes_in_a_row(void) { changes_in_a_row(40); }
+
 /* ---- all small rooms */
 
 static void part(const char *what) {
@@ -768,6 +1106,16 @@ static void make_table(uint32_t source, uint32_t destination) {
     if (any(24) == 0) kill_server(destination);
 }
 
+/* a summary, to go with the table: its own, or to be counted afresh any; the switch of the link may be dead */
+static void make_summary(struct question *q) {
+    uint32_t level = any(k + 1);
+    if (any(4) == 0) kill_switch(level, any(switches_at(level)));
+    summarize();
+    if (q->call == SUMMARIZE && any(2))
+        for (uint32_t i = 0; i < entries; i++) summary[i] = (uint8_t)any(256);
+    lend(q, 1, summary, entries);
+}
+
 /* the servers along an array of path bytes, for the writer; gives how many */
 static size_t along(uint32_t source, uint32_t destination) {
     uint8_t array[ARRAY];
@@ -807,9 +1155,10 @@ static struct question any_question(enum call call) {
         lend(&q, 0, path, ARRAY);
         lend(&q, 1, neighbours, BCUBE_NEIGHBOUR_TABLE_BYTES);
     } else {
-        if (call == FAILED_LINK || call == MARK_LINK || call == CLEAR_LINK) q.number[1] = any(k + 1);
+        if (call == FAILED_LINK || call == MARK || call == CLEAR) q.number[1] = any(k + 1);
         make_table(source, destination);
         lend(&q, 0, failed, servers);
+        if (call >= MARK && call <= SUMMARIZE) make_summary(&q);
         plain_build(room, source, destination, routes);
         if (call == CHECK || call == PICK) lend(&q, 1, fresh, make_list(source, destination, routes, fresh));
         if (call == PICK) lend(&q, 2, kept, make_list(source, destination, routes, kept));
@@ -839,9 +1188,11 @@ static void damage_number(struct question *q) {
     }
 }
 
-/* a length that is not right: shorter, longer, none, or as far off as the buffer has room */
+/* a length that is not right: shorter, longer, none, the table's for the summary, or as far off as there is room */
 static size_t wrong_length(enum call call, const void *at, size_t len) {
-    size_t room = at == failed ? MOST + ARRAY : at == neighbours ? sizeof neighbours : call == WRITE ? 16 : 64;
+    int of_links = at == failed || at == summary;
+    size_t room = of_links ? MOST + ARRAY : at == neighbours ? sizeof neighbours : call == WRITE ? 16 : 64;
+    if (of_links && any(7) == 0) return at == failed ? entries : servers;
     switch (any(6)) {
     case 0: return 0;
     case 1: return len > 0 ? len - 1 : 1;
@@ -859,6 +1210,12 @@ static void damage_servers(uint32_t count) {
     if (any(2)) met[any(count)] = odd();
 }
 
+/* an entry of any switch, or of one of the server's; a small number may be right */
+static void damage_summary(uint64_t server) {
+    uint32_t at = any(2) ? any(entries) : entry_of(server, any(k + 1));
+    summary[at] = (uint8_t)any(any(2) ? 4 : 256);
+}
+
 static void damage_buffer(struct question *q) {
     int i = (int)any(3);
     if (!q->lent[i].at) i = 0;
@@ -867,6 +1224,7 @@ static void damage_buffer(struct question *q) {
     if (any(16) == 0) lend(q, i, NULL, 0);
     else if (any(2)) q->lent[i].len = wrong_length(q->call, at, q->lent[i].len);
     else if (at == failed) failed[any(3) ? any_server() : any(2) ? 0 : servers - 1] |= (uint8_t)(1u << any(8));
+    else if (at == summary) damage_summary(q->number[0]);
     else if (at == path) path[any(ARRAY)] = (uint8_t)any(256);
     else if (at == fresh) fresh[any(64)] = (uint8_t)any(256);
     else if (at == kept) kept[any(64)] = (uint8_t)any(256);
@@ -889,13 +1247,14 @@ static void any_room(void) {
     enter(ports, levels, fill);
 }
 
-/* questions of every call; the searches are fewer in large rooms, where each takes long */
+/* questions of every call; in large rooms, where each takes long, the searches are fewer, and those with a summary */
 static void any_questions(uint32_t count) {
     fill_neighbours();
     for (uint32_t i = 0; i < count; i++) {
         if (i % 4 == 0) any_room();
         enum call call = (enum call)any(CALLS);
         if ((call == FIND || call == SELECT) && servers > 256 && any(12)) continue;
+        if (call >= MARK && call <= SUMMARIZE && servers > 256 && any(3)) continue;
         struct question q = any_question(call);
         if (any(2))
             for (uint32_t times = 1 + any(3); times > 0; times--) (any(2) ? damage_number : damage_buffer)(&q);
@@ -978,6 +1337,8 @@ static void one_round(void) {
     any_lists(10000);
     vast_lengths();
     for (uint32_t i = 0; i < CHOSEN; i++) enter_chosen(i), some_pairs(12);
+    for (uint32_t i = 0; i < CHOSEN; i++) enter_chosen(i), changes_in_a_row(40), wrong_summaries();
+    for (uint32_t i = 0; i < 20; i++) any_room(), changes_in_a_row(20), wrong_summaries();
     for (int i = 0; i < 6; i++) enter_any(3 + any(5), 3), some_pairs(8);
     for (int i = 0; i < 6; i++) enter_any(5 + any(11), 2), some_pairs(8);
     for (int i = 0; i < 6; i++) enter_any(9 + any(55), 1), some_pairs(8);
@@ -1007,6 +1368,8 @@ int main(int count, char **words) {
     worked_half_filled();
     worked_half_filled_routes();
     worked_wiring();
+    worked_summaries();
+    worked_places();
     worked_nothing();
     worked_routes();
     worked_refusals();
@@ -1041,6 +1404,17 @@ int main(int count, char **words) {
     small_half_filled_rooms(every_vacant_port, 1, 1);
     for (uint32_t i = 0; i < CHOSEN; i++) enter_chosen(i), every_vacant_port();
     part("half-filled rooms: every vacant port");
+    rooms_of_few_links();
+    part("rooms of few links: every table, and every summary beside some");
+    small_full_rooms(dead_switches, 1);
+    small_half_filled_rooms(dead_switches, 1, 1);
+    for (uint32_t i = 0; i < CHOSEN; i++) enter_chosen(i), dead_switches();
+    part("every switch dead in small rooms, some in larger ones");
+    for (int i = 0; i < 8; i++) small_full_rooms(wrong_summaries, 1), small_half_filled_rooms(wrong_summaries, 31, 1);
+    part("rooms of at most 64 servers: wrong summaries");
+    small_full_rooms(some_changes_in_a_row, 1);
+    small_half_filled_rooms(some_changes_in_a_row, 31, 1);
+    part("rooms of at most 64 servers: changes in a row");
     for (unsigned long round = 1; round <= rounds; round++) {
         one_round();
         if (rounds > 1) progress(round, rounds);

@@ -1,8 +1,10 @@
 /* Forwards packets over whole rooms, full and half-filled, with the proved step, as a driver would, and holds every
  * step to the plain step of plain.c.
  *
- * For each room and each of several failed-link tables: neighbour tables for every server are made from the
- * failed-link table, with anything in the entries that name no neighbour; then for every pair of different servers
+ * For each room links are failed by the library's marks, with a summary beside the table: none, all of a server, all
+ * of a switch, and one in so many. The table has to be as marked, the summary carried along as counted afresh, and the
+ * first dead switch the one that this program finds. Under each of these tables neighbour tables for every server are
+ * made from it, with anything in the entries that name no neighbour; then for every pair of different servers
  * (in a large room, for every server and one other) every built route is forwarded. A route that crosses no failed
  * link must be delivered after exactly its hops; any other must be refused with 19 at its first hop over one.
  * Then the library selects routes for the pair (in a large room, for one pair in eight) under the failed-link table,
@@ -22,7 +24,9 @@
 
 static uint32_t n, k, m, servers;
 static bcube_room room;
-static uint8_t failed[BCUBE_MOST_SERVERS]; /* bit l: that server's link at level l */
+static uint8_t failed[BCUBE_MOST_SERVERS];   /* bit l: that server's link at level l */
+static uint8_t summary[BCUBE_MOST_SWITCHES]; /* of it */
+static size_t switches;                      /* of all levels */
 static uint8_t (*tables)[BCUBE_NEIGHBOUR_TABLE_BYTES];
 enum { LARGE = 256 }; /* in rooms of more servers not every pair is taken */
 
@@ -276,22 +280,107 @@ static void forward_all(void) {
     for (uint32_t a = 0; a < servers; a++) forward_from(a);
 }
 
+/* ---- failing links, by the library's marks */
+
+static uint8_t wanted[BCUBE_MOST_SERVERS]; /* the table as it has to be */
+static unsigned long changes, named;
+
+/* a mark or a clear, which nothing refuses */
+static void changed(bcube_answer answer, uint32_t server, uint32_t level) {
+    changes++;
+    if (answer.word != 0) wrong(room, server, level, 0, "a change of a link refused: %016" PRIx64, answer.word);
+}
+
+static void mark(uint32_t server, uint32_t level) {
+    wanted[server] |= (uint8_t)(1u << level);
+    changed(bcube_mark(room, server, level, failed, servers, summary, switches), server, level);
+}
+
+static void clear(uint32_t server, uint32_t level) {
+    wanted[server] &= (uint8_t)~(1u << level);
+    changed(bcube_clear(room, server, level, failed, servers, summary, switches), server, level);
+}
+
+static void mark_all(uint32_t server) {
+    wanted[server] = (uint8_t)(power(2, k + 1) - 1);
+    changed(bcube_mark_all(room, server, failed, servers, summary, switches), server, 0);
+}
+
+static void clear_all(uint32_t server) {
+    wanted[server] = 0;
+    changed(bcube_clear_all(room, server, failed, servers, summary, switches), server, 0);
+}
+
+/* whether all servers that this one meets at a level, itself too, have their link there failed */
+static int is_dead(uint32_t server, uint32_t level) {
+    for (uint32_t value = 0; value < bound(level); value++)
+        if (!(wanted[with_digit(server, level, value)] >> level & 1)) return 0;
+    return 1;
+}
+
+/* the answer that names the first dead switch. The switches of a level are met in the order of their numbers by the
+ * servers whose digit there is 0 */
+static uint64_t first_dead(void) {
+    for (uint32_t level = 0; level <= k; level++)
+        for (uint32_t a = 0, number = 0; a < servers; a++) {
+            if (digit_of(a, level) != 0) continue;
+            if (is_dead(a, level)) return (UINT64_C(1) << 24 | level << 16 | number) << 32;
+            number++;
+        }
+    return 0;
+}
+
+/* the table and the summary after marks and clears, and the switch that they name */
+static void held_marks(void) {
+    static uint8_t counted[BCUBE_MOST_SWITCHES];
+    if (memcmp(failed, wanted, servers) != 0) wrong(room, 0, 0, 0, "a table that is not as marked");
+    bcube_answer fresh = bcube_summarize(room, failed, servers, counted, switches);
+    if (fresh.word != 0 || memcmp(counted, summary, switches) != 0)
+        wrong(room, 0, 0, 0, "%016" PRIx64 ", a summary that is not as counted afresh", fresh.word);
+    bcube_answer dead = bcube_dead_switch(room, failed, servers, summary, switches);
+    if (dead.word != first_dead())
+        wrong(room, 0, 0, 0, "dead switch %016" PRIx64 ", wanted %016" PRIx64, dead.word, first_dead());
+    if (bcube_dead_found(dead)) named++;
+}
+
+/* all links to the switch of a server at a level */
+static void mark_switch(uint32_t server, uint32_t level) {
+    for (uint32_t value = 0; value < bound(level); value++) mark(with_digit(server, level, value), level);
+}
+
+/* every link put anew: failed with a chance of one in so many */
+static void fail_links(uint32_t density) {
+    for (uint32_t a = 0; a < servers; a++)
+        for (uint32_t l = 0; l <= k; l++) {
+            int fails = any(density) == 0;
+            if (fails) mark(a, l);
+            else if (wanted[a] >> l & 1) clear(a, l);
+        }
+}
+
 static void whole_room(uint32_t ports, uint32_t levels, uint32_t fill) {
     n = ports;
     k = levels;
     m = fill;
     servers = m * power(n, k);
     room = bcube_filled_room(n, k, m);
+    switches = 0;
+    for (uint32_t level = 0; level <= k; level++) switches += bcube_value(bcube_switches(room, level));
     memset(failed, 0, sizeof failed);
+    memset(wanted, 0, sizeof wanted);
+    memset(summary, 0, sizeof summary);
     forward_all(); /* every link live */
-    failed[any(servers)] = (uint8_t)(power(2, k + 1) - 1);
+    uint32_t dead = any(servers), level = any(k + 1);
+    mark_all(dead);
+    held_marks();
     forward_all(); /* one dead server */
+    clear_all(dead);
+    mark_switch(any(servers), level);
+    held_marks();
+    forward_all(); /* one dead switch */
     for (uint32_t density = 32; density >= 4; density /= 2) {
-        for (uint32_t a = 0; a < servers; a++) {
-            failed[a] = 0;
-            for (uint32_t l = 0; l <= k; l++)
-                if (any(density) == 0) failed[a] |= (uint8_t)(1 << l);
-        }
+        fail_links(density);
+        held_marks();
         forward_all(); /* one link in 32, 16, 8, 4 */
     }
 }
@@ -342,11 +431,12 @@ int main(void) {
     if (bcube_step_refusal(away) != BCUBE_REFUSED_HOP_INDEX) wrong(four, 0, 3, 8, "%016" PRIx64 ", wanted refusal 18", away.word);
     printf("rooms");
     for (size_t i = 0; i < count; i++) printf(" (%" PRIu32 ",%" PRIu32 ",%" PRIu32 ")", rooms[i][0], rooms[i][1], rooms[i][2]);
-    printf("\nsix failed-link tables each: %lu packets on built routes delivered after exactly their hops, %lu refused at their\n"
-           "first failed link; %lu packets on selected routes delivered after exactly their hops, %lu pairs with no route;\n"
+    printf("\nseven failed-link tables each, by %lu marks and clears; %lu of the tables name a dead switch by their summary;\n"
+           "%lu packets on built routes delivered after exactly their hops, %lu refused at their first failed link;\n"
+           "%lu packets on selected routes delivered after exactly their hops, %lu pairs with no route;\n"
            "%lu damaged paths followed, %lu to a vacant port and refused there, %lu steps; %lu steps of any numbers\n",
-           delivered, broken, selected, unreached, damaged, vacant, routed, steps - routed);
+           changes, named, delivered, broken, selected, unreached, damaged, vacant, routed, steps - routed);
     printf("%lu steps held to the rules, %lu wrong\n", steps, failures);
     free(tables);
-    return failures != 0 || vacant == 0;
+    return failures != 0 || vacant == 0 || named == 0;
 }

@@ -44,13 +44,34 @@ static void half_filled(bcube_room room) {
 }
 
 static void links(bcube_room room) {
-    static uint8_t table[BCUBE_MOST_SERVERS];
-    holds(bcube_refusal(bcube_mark_link(room, 521, 1, table, sizeof table)) == BCUBE_NOT_REFUSED, "mark_link");
-    holds(bcube_value(bcube_failed_link(room, 521, 1, table, sizeof table)) == 1, "failed_link");
-    holds(bcube_refusal(bcube_clear_link(room, 521, 1, table, sizeof table)) == BCUBE_NOT_REFUSED, "clear_link");
-    holds(bcube_refusal(bcube_mark_server(room, 7, table, sizeof table)) == BCUBE_NOT_REFUSED && table[7] == 15, "mark_server");
-    holds(bcube_refusal(bcube_clear_server(room, 7, table, sizeof table)) == BCUBE_NOT_REFUSED && !table[7], "clear_server");
-    holds(bcube_refusal(bcube_mark_server(room, 7, NULL, 0)) == BCUBE_REFUSED_TABLE, "no table");
+    static uint8_t table[BCUBE_MOST_SERVERS], summary[BCUBE_MOST_SWITCHES];
+    const size_t t = sizeof table, s = 2048; /* 512 switches a level */
+    holds(!bcube_refusal(bcube_mark(room, 521, 1, table, t, summary, s)) && summary[577] == 1, "mark");
+    holds(bcube_value(bcube_failed_link(room, 521, 1, table, t)) == 1, "failed_link");
+    holds(!bcube_refusal(bcube_clear(room, 521, 1, table, t, summary, s)) && summary[577] == 0, "clear");
+    holds(!bcube_refusal(bcube_mark_all(room, 7, table, t, summary, s)) && table[7] == 15, "mark_all");
+    holds(summary[0] == 1 && summary[519] == 1 && summary[1031] == 1 && summary[1543] == 1, "the entries of a server");
+    holds(!bcube_refusal(bcube_clear_all(room, 7, table, t, summary, s)) && table[7] == 0, "clear_all");
+    holds(bcube_refusal(bcube_mark_all(room, 7, NULL, 0, summary, s)) == BCUBE_REFUSED_TABLE, "no table");
+    holds(bcube_refusal(bcube_mark_all(room, 7, table, t, NULL, 0)) == BCUBE_REFUSED_SUMMARY, "no summary");
+    holds(bcube_refusal(bcube_mark(room, 7, 0, table, t, summary, s + 1)) == BCUBE_REFUSED_SUMMARY, "a longer summary");
+}
+
+static void switches(bcube_room room) {
+    static uint8_t table[BCUBE_MOST_SERVERS], summary[BCUBE_MOST_SWITCHES];
+    const size_t t = sizeof table, s = 2048;
+    bcube_answer dead = bcube_dead_switch(room, table, t, summary, s);
+    holds(bcube_refusal(dead) == BCUBE_NOT_REFUSED && !bcube_dead_found(dead), "dead_switch, none");
+    for (size_t port = 0; port < 8; port++) table[64 * 8 + 8 * port + 1] = 2; /* the servers of switch 65 at level 1 */
+    dead = bcube_dead_switch(room, table, t, summary, s);
+    holds(bcube_refusal(dead) == BCUBE_REFUSED_SUMMARY && !bcube_dead_found(dead), "a table without its summary");
+    holds(!bcube_refusal(bcube_summarize(room, table, t, summary, s)) && summary[577] == 8, "summarize");
+    dead = bcube_dead_switch(room, table, t, summary, s);
+    holds(bcube_dead_found(dead) && bcube_dead_level(dead) == 1 && bcube_dead_number(dead) == 65, "dead_switch");
+    for (size_t port = 0; port < 8; port++) table[port] = 1; /* those of switch 0 at level 0 */
+    holds(!bcube_refusal(bcube_summarize(room, table, t, summary, s)) && summary[0] == 8, "summarize");
+    dead = bcube_dead_switch(room, table, t, summary, s);
+    holds(bcube_dead_found(dead) && !bcube_dead_level(dead) && !bcube_dead_number(dead), "the first dead switch");
 }
 
 static void paths(bcube_room room) {
@@ -95,7 +116,7 @@ static void steps(bcube_room room) {
 static void texts(void) {
     const char *none = bcube_refusal_text(UINT64_MAX);
     for (uint64_t i = 0; i < 256; i++) {
-        int given = i <= BCUBE_REFUSED_NOT_NEIGHBOURS || i == BCUBE_REFUSED_FILL;
+        int given = i <= BCUBE_REFUSED_NOT_NEIGHBOURS || i == BCUBE_REFUSED_FILL || i == BCUBE_REFUSED_SUMMARY;
         holds((strcmp(bcube_refusal_text(i), none) != 0) == given, "a number without a text, or a text too many");
         for (uint64_t j = 0; j < i && given; j++) holds(strcmp(bcube_refusal_text(i), bcube_refusal_text(j)) != 0, "two texts are the same");
     }
@@ -106,6 +127,7 @@ int main(void) {
     rooms(room);
     half_filled(bcube_filled_room(8, BCUBE_MOST_LEVEL, 4));
     links(room);
+    switches(room);
     paths(room);
     steps(room);
     texts();

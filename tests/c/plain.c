@@ -353,7 +353,7 @@ static int least_route(struct search *search, uint64_t source, struct route *rou
 
 /* ---- the calls: the room, addresses and switches */
 
-uint64_t plain_version(void) { return 30000; }
+uint64_t plain_version(void) { return 40000; }
 
 static uint64_t held(uint64_t number) { return number > 255 ? 255 : number; }
 
@@ -488,41 +488,133 @@ bcube_answer plain_failed_link(bcube_room value, uint64_t server, uint64_t level
     return answered(table[server] >> level & 1);
 }
 
-bcube_answer plain_mark_link(bcube_room value, uint64_t server, uint64_t level, uint8_t *table, size_t table_len) {
+/* ---- the calls: the table and its summary */
+
+/* all servers counted, each at its own switch of each level: how many there are, and how many have that link failed */
+struct tally {
+    uint32_t switches[LEVELS]; /* of each level: one more than the highest number met */
+    uint8_t servers[LEVELS][MOST_SERVERS], failed[LEVELS][MOST_SERVERS];
+};
+
+static void count_servers(struct tally *tally, const struct room *room, const uint8_t *table) {
+    memset(tally, 0, sizeof *tally);
+    for (uint32_t server = 0; server < room->servers; server++) {
+        struct place place = place_of(room, server);
+        for (uint32_t level = 0; level <= room->k; level++) {
+            uint32_t number = switch_number(room, &place, level);
+            if (number >= tally->switches[level]) tally->switches[level] = number + 1;
+            tally->servers[level][number]++;
+            if (table[server] >> level & 1) tally->failed[level][number]++;
+        }
+    }
+}
+
+/* where the entry of a switch stands: behind those of all lower levels */
+static size_t entry_place(const struct tally *tally, uint32_t level, uint32_t number) {
+    size_t place = number;
+    for (uint32_t lower = 0; lower < level; lower++) place += tally->switches[lower];
+    return place;
+}
+
+static size_t entries(const struct room *room, const struct tally *tally) { return entry_place(tally, room->k + 1, 0); }
+
+/* puts the links of a server at the levels from one to another to one state, and counts the entries of their switches
+ * again; before that these entries have to be what the table counts */
+static bcube_answer put_links(const struct room *room, uint64_t server, uint32_t from, uint32_t to, int failed,
+                              uint8_t *table, uint8_t *summary, size_t summary_len) {
+    struct tally tally;
+    struct place place = place_of(room, server);
+    size_t at[LEVELS];
+    uint32_t number[LEVELS];
+    count_servers(&tally, room, table);
+    if (summary_len != entries(room, &tally)) return refused(30);
+    for (uint32_t level = from; level <= to; level++) {
+        number[level] = switch_number(room, &place, level);
+        at[level] = entry_place(&tally, level, number[level]);
+        if (summary[at[level]] != tally.failed[level][number[level]]) return refused(30);
+    }
+    for (uint32_t level = from; level <= to; level++)
+        table[server] = (uint8_t)(failed ? table[server] | 1u << level : table[server] & ~(1u << level));
+    count_servers(&tally, room, table);
+    for (uint32_t level = from; level <= to; level++) summary[at[level]] = tally.failed[level][number[level]];
+    return answered(0);
+}
+
+static bcube_answer put_one(bcube_room value, uint64_t server, uint64_t level, uint8_t *table, size_t table_len,
+                            uint8_t *summary, size_t summary_len, int failed) {
     struct room room;
     uint32_t why = enter(&room, value);
     if (!why) why = link_refusal(&room, server, level, table, table_len);
     if (why) return refused(why);
-    table[server] = (uint8_t)(table[server] | 1u << level);
-    return answered(0);
+    return put_links(&room, server, (uint32_t)level, (uint32_t)level, failed, table, summary, summary_len);
 }
 
-bcube_answer plain_clear_link(bcube_room value, uint64_t server, uint64_t level, uint8_t *table, size_t table_len) {
-    struct room room;
-    uint32_t why = enter(&room, value);
-    if (!why) why = link_refusal(&room, server, level, table, table_len);
-    if (why) return refused(why);
-    table[server] = (uint8_t)(table[server] & ~(1u << level));
-    return answered(0);
-}
-
-/* all links of a server put to one state */
-static bcube_answer put_server(bcube_room value, uint64_t server, uint8_t *table, size_t table_len, int failed) {
+static bcube_answer put_all(bcube_room value, uint64_t server, uint8_t *table, size_t table_len, uint8_t *summary,
+                            size_t summary_len, int failed) {
     struct room room;
     uint32_t why = enter(&room, value);
     if (!why) why = link_refusal(&room, server, 0, table, table_len);
     if (why) return refused(why);
+    return put_links(&room, server, 0, room.k, failed, table, summary, summary_len);
+}
+
+bcube_answer plain_mark(bcube_room value, uint64_t server, uint64_t level, uint8_t *table, size_t table_len,
+                        uint8_t *summary, size_t summary_len) {
+    return put_one(value, server, level, table, table_len, summary, summary_len, 1);
+}
+
+bcube_answer plain_clear(bcube_room value, uint64_t server, uint64_t level, uint8_t *table, size_t table_len,
+                         uint8_t *summary, size_t summary_len) {
+    return put_one(value, server, level, table, table_len, summary, summary_len, 0);
+}
+
+bcube_answer plain_mark_all(bcube_room value, uint64_t server, uint8_t *table, size_t table_len, uint8_t *summary,
+                            size_t summary_len) {
+    return put_all(value, server, table, table_len, summary, summary_len, 1);
+}
+
+bcube_answer plain_clear_all(bcube_room value, uint64_t server, uint8_t *table, size_t table_len, uint8_t *summary,
+                             size_t summary_len) {
+    return put_all(value, server, table, table_len, summary, summary_len, 0);
+}
+
+/* what the question and the count afresh have in common: gives a refusal, or passes with the room and its tally */
+static bcube_answer tallied(bcube_room value, const uint8_t *table, size_t table_len, size_t summary_len,
+                            struct room *room, struct tally *tally) {
+    uint32_t why = enter(room, value);
+    if (!why) why = table_refusal(room, table, table_len);
+    if (why) return refused(why);
+    count_servers(tally, room, table);
+    return summary_len != entries(room, tally) ? refused(30) : passed;
+}
+
+/* dead is a switch none of whose servers has a live link to it */
+bcube_answer plain_dead_switch(bcube_room value, const uint8_t *table, size_t table_len, const uint8_t *summary,
+                               size_t summary_len) {
+    struct room room;
+    struct tally tally;
+    bcube_answer answer = tallied(value, table, table_len, summary_len, &room, &tally);
+    if (is_refused(answer)) return answer;
     for (uint32_t level = 0; level <= room.k; level++)
-        table[server] = (uint8_t)(failed ? table[server] | 1u << level : table[server] & ~(1u << level));
+        for (uint32_t number = 0; number < tally.switches[level]; number++)
+            if (*summary++ != tally.failed[level][number]) return refused(30);
+    for (uint32_t level = 0; level <= room.k; level++)
+        for (uint32_t number = 0; number < tally.switches[level]; number++)
+            if (tally.failed[level][number] == tally.servers[level][number])
+                return answered(1u << 24 | level << 16 | number);
     return answered(0);
 }
 
-bcube_answer plain_mark_server(bcube_room value, uint64_t server, uint8_t *table, size_t table_len) {
-    return put_server(value, server, table, table_len, 1);
-}
-
-bcube_answer plain_clear_server(bcube_room value, uint64_t server, uint8_t *table, size_t table_len) {
-    return put_server(value, server, table, table_len, 0);
+bcube_answer plain_summarize(bcube_room value, const uint8_t *table, size_t table_len, uint8_t *summary,
+                             size_t summary_len) {
+    struct room room;
+    struct tally tally;
+    bcube_answer answer = tallied(value, table, table_len, summary_len, &room, &tally);
+    if (is_refused(answer)) return answer;
+    for (uint32_t level = 0; level <= room.k; level++)
+        for (uint32_t number = 0; number < tally.switches[level]; number++)
+            *summary++ = tally.failed[level][number];
+    return answered(0);
 }
 
 /* ---- the calls: path bytes */

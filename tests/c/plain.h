@@ -24,10 +24,18 @@ bcube_answer plain_between(bcube_room room, uint64_t one, uint64_t other);
 
 bcube_answer plain_failed_link(bcube_room room, uint64_t server, uint64_t level, const uint8_t *table,
                                size_t table_len);
-bcube_answer plain_mark_link(bcube_room room, uint64_t server, uint64_t level, uint8_t *table, size_t table_len);
-bcube_answer plain_clear_link(bcube_room room, uint64_t server, uint64_t level, uint8_t *table, size_t table_len);
-bcube_answer plain_mark_server(bcube_room room, uint64_t server, uint8_t *table, size_t table_len);
-bcube_answer plain_clear_server(bcube_room room, uint64_t server, uint8_t *table, size_t table_len);
+bcube_answer plain_mark(bcube_room room, uint64_t server, uint64_t level, uint8_t *table, size_t table_len,
+                        uint8_t *summary, size_t summary_len);
+bcube_answer plain_clear(bcube_room room, uint64_t server, uint64_t level, uint8_t *table, size_t table_len,
+                         uint8_t *summary, size_t summary_len);
+bcube_answer plain_mark_all(bcube_room room, uint64_t server, uint8_t *table, size_t table_len, uint8_t *summary,
+                            size_t summary_len);
+bcube_answer plain_clear_all(bcube_room room, uint64_t server, uint8_t *table, size_t table_len, uint8_t *summary,
+                             size_t summary_len);
+bcube_answer plain_dead_switch(bcube_room room, const uint8_t *table, size_t table_len, const uint8_t *summary,
+                               size_t summary_len);
+bcube_answer plain_summarize(bcube_room room, const uint8_t *table, size_t table_len, uint8_t *summary,
+                             size_t summary_len);
 
 bcube_answer plain_path_byte(bcube_room room, uint64_t level, uint64_t value);
 bcube_answer plain_path_byte_parts(bcube_room room, uint64_t byte);

@@ -20,12 +20,13 @@ static uint32_t any(uint32_t below) {
 static struct {
     bcube_room room;
     uint64_t source, destination, level, value, met[BCUBE_ROUTE_SERVERS];
-    size_t servers;
+    size_t servers, entries;
     uint8_t failed[BCUBE_MOST_SERVERS], list[BCUBE_LIST_BYTES], path[BCUBE_PATH_BYTES];
     uint8_t neighbours[BCUBE_NEIGHBOUR_TABLE_BYTES];
 } q;
 static uint64_t digits[4], servers[BCUBE_ROUTE_SERVERS];
-static uint8_t table[BCUBE_MOST_SERVERS], path[BCUBE_PATH_BYTES], routes[BCUBE_LIST_BYTES];
+static uint8_t table[BCUBE_MOST_SERVERS], summary[BCUBE_MOST_SWITCHES], counted[BCUBE_MOST_SWITCHES];
+static uint8_t path[BCUBE_PATH_BYTES], routes[BCUBE_LIST_BYTES];
 enum { QUESTIONS = 630 };
 
 static void next_question(int i) {
@@ -43,6 +44,10 @@ static void next_question(int i) {
     for (uint32_t f = any(3) ? any(most) : 0; f > 0; f--) q.failed[any(most)] |= (uint8_t)(1u << any(shape[1] + 1));
     if (any(8) == 0) q.failed[q.destination] = (uint8_t)((2u << shape[1]) - 1);
     memcpy(table, q.failed, sizeof table);
+    q.entries = 0;
+    for (uint32_t level = 0; level <= shape[1]; level++) q.entries += bcube_value(plain_switches(q.room, level));
+    plain_summarize(q.room, table, q.servers, summary, q.entries);
+    if (q.entries && any(8) == 0) summary[any((uint32_t)q.entries)]++;
     memset(q.list, 0, sizeof q.list);
     plain_build(q.room, q.source, q.destination, q.list);
     memcpy(q.path, q.list + BCUBE_PATH_BYTES * any(shape[1] + 1), sizeof q.path);
@@ -57,6 +62,8 @@ static void next_question(int i) {
 
 #define ENDS q.source, q.destination
 #define TABLE q.failed, q.servers
+#define WRITTEN table, q.servers, summary, q.entries
+#define BYTES uint8_t *, size_t
 #define LIST q.list, sizeof q.list
 #define PATH q.path, sizeof q.path
 #define CALLS                                                                      \
@@ -75,10 +82,12 @@ static void next_question(int i) {
     CALL(bcube_answer, neighbour, (q.room, q.source, q.level, q.value), (bcube_room, uint64_t, uint64_t, uint64_t)) \
     CALL(bcube_answer, between, (q.room, ENDS), (bcube_room, uint64_t, uint64_t))  \
     CALL(bcube_answer, failed_link, (q.room, q.source, q.level, TABLE), (bcube_room, uint64_t, uint64_t, const uint8_t *, size_t)) \
-    CALL(bcube_answer, mark_link, (q.room, q.source, q.level, table, q.servers), (bcube_room, uint64_t, uint64_t, uint8_t *, size_t)) \
-    CALL(bcube_answer, clear_link, (q.room, q.source, q.level, table, q.servers), (bcube_room, uint64_t, uint64_t, uint8_t *, size_t)) \
-    CALL(bcube_answer, mark_server, (q.room, q.source, table, q.servers), (bcube_room, uint64_t, uint8_t *, size_t)) \
-    CALL(bcube_answer, clear_server, (q.room, q.source, table, q.servers), (bcube_room, uint64_t, uint8_t *, size_t)) \
+    CALL(bcube_answer, mark, (q.room, q.source, q.level, WRITTEN), (bcube_room, uint64_t, uint64_t, BYTES, BYTES)) \
+    CALL(bcube_answer, clear, (q.room, q.source, q.level, WRITTEN), (bcube_room, uint64_t, uint64_t, BYTES, BYTES)) \
+    CALL(bcube_answer, mark_all, (q.room, q.source, WRITTEN), (bcube_room, uint64_t, BYTES, BYTES)) \
+    CALL(bcube_answer, clear_all, (q.room, q.source, WRITTEN), (bcube_room, uint64_t, BYTES, BYTES)) \
+    CALL(bcube_answer, dead_switch, (q.room, WRITTEN), (bcube_room, const BYTES, const BYTES)) \
+    CALL(bcube_answer, summarize, (q.room, TABLE, counted, q.entries), (bcube_room, const BYTES, BYTES)) \
     CALL(bcube_answer, path_byte, (q.room, q.level, q.value), (bcube_room, uint64_t, uint64_t)) \
     CALL(bcube_answer, path_byte_parts, (q.room, q.path[0]), (bcube_room, uint64_t))   \
     CALL(bcube_answer, read, (q.room, ENDS, PATH, servers), (bcube_room, uint64_t, uint64_t, const uint8_t *, size_t, uint64_t *)) \

@@ -6,9 +6,11 @@
 
 A row is a question, ' = ' and an answer. A question names its room by (n,k) where the room is full, and by (n,k,m) where it is
 not. The model shares nothing with the library: digits are lists, switches are counted one by one, neighbours are found by
-comparing digits, and an alternate is found by trying all routes in order.
+comparing digits, an alternate is found by trying all routes in order, and failed links are counted by going through all
+servers of the room.
 """
 import collections
+import functools
 import glob
 import itertools
 import math
@@ -92,8 +94,81 @@ def switch(s, a, level):
     return level, address(s, ds[:level] + ds[level + 1:])
 
 
+@functools.lru_cache
+def hung(s):
+    """Every switch with its servers, lower level first and then lower number."""
+    servers = collections.defaultdict(list)
+    for a in room(s):
+        for level in range(s.k + 1):
+            servers[switch(s, a, level)].append(a)
+    return dict(sorted(servers.items()))
+
+
+def is_failed(table, a, level):
+    return table[a] >> level & 1 == 1
+
+
+def counts(s, table):
+    """The summary of a table: for each switch, how many of all servers hang on it by a failed link."""
+    found = dict.fromkeys(hung(s), 0)
+    for a in room(s):
+        for level in range(s.k + 1):
+            if is_failed(table, a, level):
+                found[switch(s, a, level)] += 1
+    return list(found.values())
+
+
+def place(s, a, level):
+    """The place of the entry of a link's switch: how many switches come before it."""
+    return list(hung(s)).index(switch(s, a, level))
+
+
+def test_length(s, summary):
+    if len(summary) != len(hung(s)):
+        raise Refused(30)
+
+
+def test_entries(s, table, summary, places):
+    want = counts(s, table)
+    if any(summary[i] != want[i] for i in places):
+        raise Refused(30)
+
+
+def change(s, table, summary, a, levels, mark):
+    """Marks the links of a server at some levels, or clears them; the entries of its switches there follow."""
+    test_table(s, table)
+    test_length(s, summary)
+    touched = [place(s, a, level) for level in levels]
+    test_entries(s, table, summary, touched)
+    table = list(table)
+    for level in levels:
+        if is_failed(table, a, level) != mark:
+            table[a] ^= 1 << level
+    afresh = counts(s, table)
+    return table, [afresh[i] if i in touched else x for i, x in enumerate(summary)]
+
+
+def dead(s, table, summary):
+    """The first switch all of whose servers' links there are failed."""
+    test_shape(s)
+    test_table(s, table)
+    test_length(s, summary)
+    test_entries(s, table, summary, range(len(summary)))
+    for (level, number), servers in hung(s).items():
+        if all(is_failed(table, a, level) for a in servers):
+            return f'level {level} number {number}'
+    return 'none'
+
+
+def fresh(s, table, summary):
+    test_shape(s)
+    test_table(s, table)
+    test_length(s, summary)
+    return counts(s, table)
+
+
 def live(table, level, a, b):
-    return not table or not (table[a] >> level & 1 or table[b] >> level & 1)
+    return not table or not (is_failed(table, a, level) or is_failed(table, b, level))
 
 
 def differing(s, a, b):
@@ -238,14 +313,14 @@ def alternate(s, table, a, d, routes):
             return None
         for level in range(s.k, -1, -1):
             sw = switch(s, here, level)
-            if sw in used or sw in off or table[here] >> level & 1:
+            if sw in used or sw in off or is_failed(table, here, level):
                 continue
             ds = digits(s, here)
             for value in range(bounds(s)[level]):
                 if value == ds[level]:
                     continue
                 there = address(s, ds[:level] + [value] + ds[level + 1:])
-                if there in met or there in shut or table[there] >> level & 1:
+                if there in met or there in shut or is_failed(table, there, level):
                     continue
                 found = go(met + [there], used + [sw], left - 1)
                 if found:
@@ -321,12 +396,20 @@ def hexed(word):
     return [] if word == '-' else list(bytes.fromhex(word))
 
 
+def buffers(lent):
+    return ' '.join(bytes(x).hex() for x in lent)
+
+
 def shown(s, routes):
     return ' '.join(bytes(encode(s, r)).hex() for r in routes)
 
 
+# questions whose words are not all numbers
+MIXED = 'failed mark clear mark_server clear_server dead fresh read reverse check picked select step'.split()
+
+
 def answer(name, s, words):
-    num = [int(w) for w in words if w.isdigit()] if not re.fullmatch('failed|mark|clear|read|reverse|check|picked|select|step', name) else []
+    num = [int(w) for w in words if w.isdigit()] if name not in MIXED else []
     if name == 'servers':
         test_shape(s)
         return len(room(s))
@@ -372,15 +455,27 @@ def answer(name, s, words):
         test_server(s, num[0], num[1])
         apart = differing(s, num[0], num[1])
         return f'level {apart[0]}' if len(apart) == 1 else 'no neighbours'
-    if name in ('failed', 'mark', 'clear'):
+    if name == 'failed':
         table, a, level = hexed(words[0]), int(words[1]), int(words[2])
         test_server(s, a)
         test_level(s, level)
         test_table(s, table)
-        if name == 'failed':
-            return 'yes' if table[a] >> level & 1 else 'no'
-        table[a] = table[a] | 1 << level if name == 'mark' else table[a] & ~(1 << level)
-        return bytes(table).hex()
+        return 'yes' if is_failed(table, a, level) else 'no'
+    if name in ('mark', 'clear'):
+        table, summary, a, level = hexed(words[0]), hexed(words[1]), int(words[2]), int(words[3])
+        test_server(s, a)
+        test_level(s, level)
+        return buffers(change(s, table, summary, a, [level], name == 'mark'))
+    if name in ('mark_server', 'clear_server'):
+        table, summary, a = hexed(words[0]), hexed(words[1]), int(words[2])
+        test_server(s, a)
+        return buffers(change(s, table, summary, a, range(s.k + 1), name == 'mark_server'))
+    if name == 'dead':
+        return dead(s, hexed(words[0]), hexed(words[1]))
+    if name == 'fresh':
+        return bytes(fresh(s, hexed(words[0]), hexed(words[1]))).hex()
+    if name == 'zeros':
+        return dead(s, [0] * num[0], [0] * num[1])
     if name == 'byte':
         test_shape(s)
         test_level(s, num[0])

@@ -11,14 +11,17 @@ use Rattle.refusals.proofs.NumberLaws.{one-le}
 use Rattle.room.specs.Refusals.{shapeRefusal}
 use Rattle.room.proofs.NumberLaws.{shape-numbers}
 use Rattle.room.specs.Answers.{betweenAnswer}
-use Rattle.links.specs.Servers.{serverAnswer, markedServer, clearedServer}
-use Rattle.links.specs.Answers.{failedAnswer, linkAnswer, changedTable}
+use Rattle.links.specs.Answers.{failedAnswer}
+use Rattle.summary.specs.declared.DeadSwitch.{DeadSwitch}
+use Rattle.summary.specs.Answers.{linkAnswer, linkTable, linkSummary, changedServer, serverAnswer, serverTable, serverSummary, deadAnswer, freshAnswer, freshSummary}
+use Rattle.summary.proofs.AnswerLaws.{dead-small, dead-zeros}
+use Rattle.driver.proofs.SummarySmall.{link-fits, server-fits, fresh-fits, dead-with}
 use Rattle.step.specs.declared.Step.{Step}
 use Rattle.step.specs.Steps.{stepAnswer}
 use Rattle.driver.specs.declared.Answer.{Answer}
-use Rattle.driver.specs.Words.{word, refusalIn, Small, left, betweenWord, askedWord}
+use Rattle.driver.specs.Words.{word, refusalIn, Small, left, betweenWord, askedWord, deadWord}
 use Rattle.driver.proofs.WordLaws.{refusal-back, value-back, plain-small, left-given, left-lent}
-use Rattle.driver.proofs.RoomSmall.{servers-small, bound-small, switches-small, server-at-small, server-fits, digit-small, address-small, neighbour-small, switch-small, between-level, between-fits, digits-fits, asked-fits, link-fits}
+use Rattle.driver.proofs.RoomSmall.{servers-small, bound-small, switches-small, server-at-small, digit-small, address-small, neighbour-small, switch-small, between-level, between-fits, digits-fits, asked-fits}
 use Rattle.driver.proofs.PathSmall.{byte-small, parts-found, read-small, reverse-small, write-small, check-small}
 use Rattle.driver.proofs.RouteSmall.{build-small, find-small, select-small}
 use Rattle.driver.proofs.PickSmall.{pick-small}
@@ -29,7 +32,7 @@ use Rattle.room.proofs.RefusalLaws.{valid-of}
 use Rattle.driver.specs.declared.Room.{Room}
 use Rattle.driver.specs.Rooms.{roomOf, shapeIn}
 use Rattle.driver.proofs.ShapeLaws.{held-is, room-refused, room-shape}
-use Rattle.demands.specs.Buffers.{Holds, EveryBuffer, EveryRoom, Tells, TellsStep, EveryWord}
+use Rattle.demands.specs.Buffers.{Holds, EveryBuffer, EveryRoom, Tells, TellsStep, DeadParts, EveryWord}
 
 -- ---- the rooms
 
@@ -97,8 +100,23 @@ tells-step x h =
     high : (m : ℕ) → m < 281474976710656 → m / 1099511627776 ≡ m / 1099511627776 % 256
     high m p = omega arith
 
+-- what a dead switch comes to as a number, and what is read out of it
+dead-value : (x : DeadSwitch) → (x .level ≤ 3) × (x .number < 4096) → cond (x .found) (16777216 + 65536 * x .level + x .number) 0 < 4294967296
+dead-value x h = go (x .found)
+  where
+    go : (b : Bool) → cond b (16777216 + 65536 * x .level + x .number) 0 < 4294967296
+    go true = omega (arith, h .0, h .1)
+    go false = lit< tt
+
+dead-parts : (x : DeadSwitch) → (x .level ≤ 3) × (x .number < 4096) → (x .found ≡ false → (x .level ≡ 0) × (x .number ≡ 0)) → (v : ℕ) → v ≡ cond (x .found) (16777216 + 65536 * x .level + x .number) 0 → DeadParts v x
+dead-parts x h k v e = go (x .found) refl e
+  where
+    go : (b : Bool) → x .found ≡ b → v ≡ cond b (16777216 + 65536 * x .level + x .number) 0 → DeadParts v x
+    go true q f = record { found = ap (λ (y : ℕ). y / 16777216) f ∙ omega (arith, h .0, h .1) ∙ sym (ap (λ (y : Bool). cond y 1 0) q); level = omega (arith, h .0, h .1); number = omega (arith, h .0, h .1) }
+    go false q f = let z = k q in record { found = omega arith ∙ sym (ap (λ (y : Bool). cond y 1 0) q); level = omega (arith, z .0); number = omega (arith, z .1) }
+
 pub every-word : EveryWord
-unfolding betweenWord askedWord
+unfolding betweenWord askedWord deadWord
 every-word =
     record {
       shape = λ s. tells (plain-small (shapeRefusal s) (one-le 255 refl (shape-numbers s)));
@@ -108,7 +126,6 @@ every-word =
       server-at = λ s l w v. tells (server-at-small s l w v);
       path-byte = λ s l v. tells (byte-small s l v);
       path-byte-parts = λ s b. tells (parts-found s b _ refl .small);
-      mark-or-clear-server = λ s t a. tells (server-fits s t a refl);
       digits = λ s a. tells (digits-fits s a 0 (lit< tt) refl);
       one-digit = λ s a l. tells (digit-small s a l);
       address = λ s d0 d1 d2 d3. tells (address-small s (d0 ∷ d1 ∷ d2 ∷ d3 ∷ []) refl);
@@ -116,7 +133,13 @@ every-word =
       neighbour = λ s a l v. tells (neighbour-small s a l v);
       between = λ s a b. tells (between-fits s a b _ (level-small (betweenAnswer s a b .adjacent) (betweenAnswer s a b .level) (between-level s a b refl)) refl);
       failed-link = λ s t a l. tells (asked-fits s t a l _ (bit-small (failedAnswer s t a l .failed)) refl);
-      mark-or-clear = λ s t a l. tells (link-fits s t a l 0 (lit< tt) refl);
+      mark-or-clear = λ s t c a l. tells (link-fits s t c a l refl);
+      mark-or-clear-server = λ s t c a. tells (server-fits s t c a refl);
+      dead-switch = λ s t c. tells (dead-with s t c refl _ (dead-value (deadAnswer s t c) (dead-small s t c)));
+      dead-parts = λ s t c.
+          dead-parts (deadAnswer s t c) (dead-small s t c) (dead-zeros s t c) _
+          (tells {r = deadAnswer s t c .refusal} (dead-with s t c refl _ (dead-value (deadAnswer s t c) (dead-small s t c))) .value);
+      summarize = λ s t c. tells (fresh-fits s t c refl);
       read = λ s a d bs. tells (read-small s a d bs);
       write = λ s vs. tells (write-small s vs);
       reversed = λ s a d bs. tells (reverse-small s a d bs);
@@ -145,13 +168,18 @@ changed zero t u = record { written = λ e. refl; kept = λ n. absurd (n refl) }
 changed (suc q) t u = record { written = λ e. let z : ⊥ = omega arith in absurd z; kept = λ n. refl }
 
 pub every-buffer : EveryBuffer
-unfolding linkAnswer changedTable serverAnswer markedServer clearedServer
+unfolding linkAnswer linkTable linkSummary changedServer serverAnswer serverTable serverSummary freshAnswer freshSummary
 every-buffer =
     record {
-      marked = λ s t a l. changed _ t _;
-      cleared = λ s t a l. changed _ t _;
-      marked-server = λ s t a. changed _ t _;
-      cleared-server = λ s t a. changed _ t _;
+      marked = λ s t c a l. changed _ t _;
+      marked-summary = λ s t c a l. changed _ c _;
+      cleared = λ s t c a l. changed _ t _;
+      cleared-summary = λ s t c a l. changed _ c _;
+      marked-server = λ s t c a. changed _ t _;
+      marked-server-summary = λ s t c a. changed _ c _;
+      cleared-server = λ s t c a. changed _ t _;
+      cleared-server-summary = λ s t c a. changed _ c _;
+      summarized = λ s t c. changed _ c _;
       laid = λ s t a d bs r u h. h .kept;
       digits = λ s a lent. held _ lent _;
       read = λ s a d bs lent. held _ lent _;

@@ -6,8 +6,7 @@ use mathlib.Core.Bool.{Bool, true, false, _||_}
 use mathlib.Core.List.{List, [], _∷_, List·Memᴰ·head, List·Memᴰ·eq-of-singleton}
 use native.Mathlib.Omega.{arith}
 use native.Mathlib.Nat.{le-refl}
-use lib.ListN.{length, getD, set}
-use lib.Seq.{set-set}
+use lib.ListN.{length, getD}
 use Rattle.lists.specs.Lists.{isIn, middle}
 use Rattle.lists.proofs.ListLaws.{in-exactly, at-in, turn-at, length-turn, length-middle, middle-at}
 use Rattle.refusals.specs.declared.Refusal.{Refusal}
@@ -22,8 +21,10 @@ use Rattle.room.proofs.RefusalLaws.{level-none}
 use Rattle.room.proofs.RoomLaws.{switches-top, switches-below, switch-same, same-switch}
 use Rattle.room.proofs.WiringLaws.{port-none, port-server, port-switch, port-digit, port-back}
 use Rattle.links.specs.Table.{failed, TableOf}
-use Rattle.links.specs.Servers.{markedServer, clearedServer, allBits}
-use Rattle.links.proofs.ServerLaws.{table-server-none, mark-server-dead, clear-server-live, mark-server-other, clear-server-other, mark-server-table, clear-server-table}
+use Rattle.summary.specs.Answers.{serverAnswer}
+use Rattle.summary.proofs.RefusalLaws.{counted-server-of}
+use Rattle.summary.proofs.ServerLaws.{server-own, server-other, server-none, server-table}
+use Rattle.summary.proofs.KeptLaws.{server-table-is, server-twice}
 use Rattle.path.specs.Routes.{byteOf, switchAt, levelTo, switchTo, switchesOf, Route, RouteTo, Parallel}
 use Rattle.path.specs.Bytes.{Made}
 use Rattle.path.proofs.HopLaws.{switch-id, level-only}
@@ -59,28 +60,17 @@ every-port =
 -- ---- all links of a server
 
 pub whole-server : WholeServer
-unfolding markedServer clearedServer
+unfolding serverAnswer
 whole-server =
     record {
-      dead = λ s t a h k. mark-server-dead h k;
-      live = λ s t a l h k. clear-server-live h k l;
-      marked-others = λ s t a b h k n. mark-server-other h k b n;
-      cleared-others = λ s t a b h k n. clear-server-other h k b n;
-      marked-table = λ s t a h k. mark-server-table h k;
-      cleared-table = λ s t a h k. clear-server-table h k;
-      marked-again = λ s t a h k. answer-none _ (λ r. markedServer s t a) _ (table-server-none h (mark-server-table h k)) ∙ again t a (allBits (s .k)) (marked h k);
-      cleared-again = λ s t a h k. answer-none _ (λ r. clearedServer s t a) _ (table-server-none h (clear-server-table h k)) ∙ again t a 0 (cleared h k);
+      dead = λ s t c a z.
+          let h = counted-server-of s t c a z in
+          record { all = λ l p. ap (λ (u : List ℕ). failed u a l) (server-table-is true s t c a z) ∙ server-own true (h .server) (h .table) l p };
+      live = λ s t c a l z. let h = counted-server-of s t c a z in ap (λ (u : List ℕ). failed u a l) (server-table-is false s t c a z) ∙ server-none (h .server) (h .table) l;
+      others = λ b s t c a x z n. ap (λ (u : List ℕ). getD u x 0) (server-table-is b s t c a z) ∙ server-other b s a x t n;
+      table = λ b s t c a z. let h = counted-server-of s t c a z in subst (TableOf s) (sym (server-table-is b s t c a z)) (server-table b (h .server) (h .table));
+      again = λ b s t c a. server-twice b s t c a .1;
     }
-  where
-    marked : {s : Shape} {t : List ℕ} {a : ℕ} → Server s a → TableOf s t → markedServer s t a ≡ set t a (allBits (s .k))
-    marked {s} {t} h k = answer-none _ (λ r. t) _ (table-server-none h k)
-
-    cleared : {s : Shape} {t : List ℕ} {a : ℕ} → Server s a → TableOf s t → clearedServer s t a ≡ set t a 0
-    cleared {s} {t} h k = answer-none _ (λ r. t) _ (table-server-none h k)
-
-    -- a byte that is set again
-    again : (t : List ℕ) (a x : ℕ) {u : List ℕ} → u ≡ set t a x → set u a x ≡ u
-    again t a x e = ap (λ (y : List ℕ). set y a x) e ∙ set-set t a x x ∙ sym e
 
 -- ---- one path byte
 

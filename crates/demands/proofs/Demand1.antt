@@ -20,6 +20,10 @@ use Rattle.room.specs.Answers.{onlyLevel, serversAnswer, boundAnswer, digitsAns
 use Rattle.room.specs.Wiring.{portRefusal, switchesAnswer, serverAtAnswer}
 use Rattle.links.specs.Table.{tableLinkRefusal, roomRefusal}
 use Rattle.links.specs.Answers.{failedAnswer}
+use Rattle.summary.specs.Counts.{switchesIn}
+use Rattle.summary.specs.Refusals.{summaryRefusal}
+use Rattle.summary.specs.Answers.{deadAnswer}
+use Rattle.summary.proofs.AnswerLaws.{first-refusal}
 use Rattle.path.specs.Bytes.{madeRefusal, byteAnswer, partsRefusal, noParts, someParts, partsAnswer}
 use Rattle.path.specs.Routes.{byteTo, switchesOf, encode, levelOf, valueOf}
 use Rattle.path.specs.Walks.{Walk, stopped, arrived, walk, hopTo, hopRefusal, fault}
@@ -41,7 +45,7 @@ use Rattle.step.specs.declared.Step.{Step}
 use Rattle.step.specs.Steps.{stepRefusal, withPlace, noStep, delivery, forwarded, stepAnswer}
 use Rattle.demands.specs.Tests.{Refused, Exactly}
 use Rattle.demands.specs.Demand1.{ofAHop, at-hop, no-arrival, later, PartsOf, WalkedOf, ReadingOf, WritingOf, FoundOf, SelectionOf, PlaceOf, StepOf, RefusalOf, HopOf, EveryCall}
-use Rattle.demands.specs.Refusals.{shapeTests, levelTests, serverTests, pairTests, linkTests, valueTests, portTests, madeTests, partsTests, placesTests, tableTests, tableLinkTests, tableServerTests, endsTests, roomTests, arrayTests, layTests, checkTests, selectTests, pickTests, endOf, hopTests, readTests, writeTests, serversTests, givenTests, stepTests, Stops, hop-fails, never-arrives, goes-on, Reads, Writes, Checks, Steps}
+use Rattle.demands.specs.Refusals.{shapeTests, levelTests, serverTests, pairTests, linkTests, valueTests, portTests, madeTests, partsTests, placesTests, tableTests, tableLinkTests, tableServerTests, countedLinkTests, countedServerTests, summaryTests, entriesTests, endsTests, roomTests, arrayTests, layTests, checkTests, selectTests, pickTests, endOf, hopTests, readTests, writeTests, serversTests, givenTests, stepTests, Stops, hop-fails, never-arrives, goes-on, Reads, Writes, Checks, Steps}
 use Rattle.demands.proofs.Chains.{back, all, one-listed, fails}
 use Rattle.demands.proofs.Refusing.{Of, none-of, some-of, hop-of, chain-of, whole-of, bare-none, bare-is, bare-answer, refuses, answer-refuses}
 use Rattle.demands.proofs.Numbers.{read-number, plain-numbers}
@@ -252,7 +256,7 @@ only-none (l ∷ []) = refl
 only-none (l ∷ m ∷ ls) = refl
 
 pub every-call : EveryCall
-unfolding serversAnswer boundAnswer digitsAnswer digitAnswer addressAnswer switchAnswer neighbourAnswer betweenAnswer switchesAnswer serverAtAnswer failedAnswer byteAnswer buildAnswer pickAnswer isIn
+unfolding serversAnswer boundAnswer digitsAnswer digitAnswer addressAnswer switchAnswer neighbourAnswer betweenAnswer switchesAnswer serverAtAnswer failedAnswer deadAnswer byteAnswer buildAnswer pickAnswer isIn
 every-call =
     record {
       shape-refusal = λ s. one-listed (shapeTests s) _ (meets (refused-exactly .shape-refusal s));
@@ -273,8 +277,12 @@ every-call =
       table-refusal = λ s t. one-listed (tableTests s t) _ (meets (refused-exactly .table-refusal s t));
       room-refusal = λ s t a d. one-listed (roomTests s t a d) _ (meets (refused-exactly .room-refusal s t a d));
       failed-link = λ s t a l. answer-refuses _ _ (λ r. refl) 0 _ (tableLinkTests s t a l) (tableLinkRefusal s t a l) _ refl refl (meets (refused-exactly .failed-link s t a l)) refl;
-      mark-or-clear = λ s t a l. alone _ _ _ (whole-of 0 _ (tableLinkTests s t a l) (λ r. r ≡ none) _ refl refl (λ k. none-of) (meets (refused-exactly .mark-or-clear s t a l)));
-      mark-or-clear-server = λ s t a. alone _ _ _ (whole-of 0 _ (tableServerTests s t a) (λ r. r ≡ none) _ refl refl (λ k. none-of) (meets (refused-exactly .mark-or-clear-server s t a)));
+      table-link-refusal = λ s t a l. one-listed (tableLinkTests s t a l) _ (meets (refused-exactly .table-link-refusal s t a l));
+      table-server-refusal = λ s t a. one-listed (tableServerTests s t a) _ (meets (refused-exactly .table-server-refusal s t a));
+      mark-or-clear = λ s t c a l. alone _ _ _ (whole-of 0 _ (countedLinkTests s t c a l) (λ r. r ≡ none) _ refl refl (λ k. none-of) (meets (refused-exactly .mark-or-clear s t c a l)));
+      mark-or-clear-server = λ s t c a. alone _ _ _ (whole-of 0 _ (countedServerTests s t c a) (λ r. r ≡ none) _ refl refl (λ k. none-of) (meets (refused-exactly .mark-or-clear-server s t c a)));
+      dead-switch = λ s t c. answer-refuses _ _ (λ r. refl) 0 _ (summaryTests s t c) (summaryRefusal s t c) _ refl refl (meets (refused-exactly .dead-switch s t c)) (first-refusal s c (switchesIn s));
+      summarize = λ s t c. alone _ _ _ (whole-of 0 _ (entriesTests s t c) (λ r. r ≡ none) _ refl refl (λ k. none-of) (meets (refused-exactly .summarize s t c)));
       byte-of = λ s l v. answer-refuses _ _ (λ r. refl) 0 _ (madeTests s l v) (madeRefusal s l v) _ refl refl (meets (refused-exactly .byte-of s l v)) refl;
       parts-of = parts-of;
       hop-of = hop-one;

@@ -22,9 +22,11 @@ use Rattle.room.proofs.RefusalLaws.{server-of}
 use Rattle.room.proofs.RoomLaws as rooms
 use Rattle.links.specs.declared.Asked.{Asked}
 use Rattle.links.specs.Table.{bit, failed, tableLinkRefusal}
-use Rattle.links.specs.Answers.{notAsked, asked, failedAnswer, linkAnswer}
+use Rattle.links.specs.Answers.{notAsked, asked, failedAnswer}
+use Rattle.summary.specs.Answers.{linkAnswer}
+use Rattle.summary.proofs.RefusalLaws.{counted-link-of}
+use Rattle.summary.proofs.KeptLaws.{link-table-is, link-twice}
 use Rattle.links.proofs.TableLaws as tables
-use Rattle.links.proofs.AnswerLaws.{changed-answered, change-again}
 use Rattle.path.specs.declared.Hop.{Hop}
 use Rattle.path.specs.declared.Reading.{Reading}
 use Rattle.path.specs.Routes.{byteOf, switchTo, byteTo}
@@ -37,7 +39,7 @@ use Rattle.select.proofs.SelectLaws as selected
 use Rattle.step.specs.declared.Step.{Step}
 use Rattle.step.specs.Steps.{entry, macAt, portAt, flagAt, stepRefusal, withPlace, noStep, delivery, forwarded, stepAnswer}
 use Rattle.step.proofs.StepLaws.{with-place-number, goes-of}
-use Rattle.demands.specs.Demand2.{BytesExactly, HopSwitches, LeadsTo, HopExactly, AmongExactly, RoutesAnswered, ReadExactly, WriteExactly, ReadThenWrite, WriteThenRead, ReverseThenRead, ReverseTwice, NoRouteExactly, FailedExactly, AskedExactly, LiveExactly, Changes, Marking, Clearing, Goes, StepGoes, StepDelivers}
+use Rattle.demands.specs.Demand2.{BytesExactly, HopSwitches, LeadsTo, HopExactly, AmongExactly, RoutesAnswered, ReadExactly, WriteExactly, ReadThenWrite, WriteThenRead, ReverseThenRead, ReverseTwice, NoRouteExactly, FailedExactly, AskedExactly, LiveExactly, Changes, ChangesOwn, Marking, Clearing, Goes, StepGoes, StepDelivers}
 
 -- ---- servers to bytes and bytes to servers
 
@@ -125,37 +127,26 @@ asked-exactly s t a l z =
 pub live-exactly : LiveExactly
 live-exactly = tables.live-exactly
 
-pub marking : Marking
+changes-own : (b : Bool) → ChangesOwn b
 unfolding linkAnswer
-marking s t a l z =
-    let p = tables.table-link-of s t a l z in
-    let e = changed-answered true (p .0) (p .1) in (
-      subst (Changes s t a l true) (sym e)
+changes-own b s t c a l z =
+    let p = counted-link-of s t c a l z in (
+      subst (Changes s t a l b) (sym (link-table-is b s t c a l z))
           (record {
-            own = tables.changed-own true a l t (omega (arith, p .0 .server .below, p .1 .long));
-            other = λ b m q. tables.changed-other true a l b m t q;
-            bytes = λ b q. tables.changed-byte true a l b t q;
-            long = tables.changed-long true a l t;
-            table = tables.changed-table true (p .1) a l (p .0 .level);
+            own = tables.changed-own b a l t (omega (arith, p .link .server .below, p .table .long));
+            other = λ x m q. tables.changed-other b a l x m t q;
+            bytes = λ x q. tables.changed-byte b a l x t q;
+            long = tables.changed-long b a l t;
+            table = tables.changed-table b (p .table) a l (p .link .level);
           }),
-      change-again true true s t a l,
+      link-twice b s t c a l .1,
     )
 
+pub marking : Marking
+marking = changes-own true
+
 pub clearing : Clearing
-unfolding linkAnswer
-clearing s t a l z =
-    let p = tables.table-link-of s t a l z in
-    let e = changed-answered false (p .0) (p .1) in (
-      subst (Changes s t a l false) (sym e)
-          (record {
-            own = tables.changed-own false a l t (omega (arith, p .0 .server .below, p .1 .long));
-            other = λ b m q. tables.changed-other false a l b m t q;
-            bytes = λ b q. tables.changed-byte false a l b t q;
-            long = tables.changed-long false a l t;
-            table = tables.changed-table false (p .1) a l (p .0 .level);
-          }),
-      change-again false false s t a l,
-    )
+clearing = changes-own false
 
 -- ---- one forwarding step
 

@@ -24,7 +24,6 @@ use Rattle.build.specs.declared.Building.{Building}
 use Rattle.build.specs.Built.{builtHops, builtBytes, builtArrays}
 use Rattle.build.specs.Sets.{arrayIn, joined, setOf}
 use Rattle.build.specs.Answers.{noBuilding, aBuilding, buildAnswer}
-use Rattle.desk_line.specs.declared.Word.{Word}
 use Rattle.desk_line.specs.declared.Question.{Question}
 use Rattle.desk_line.specs.Lines.{newline, space, before, after, lineSize}
 use Rattle.desk_line.specs.Numbers.{digitsOnly, valueFrom, noWord, aWord, wordOf, noQuestion, parse, questionOf}

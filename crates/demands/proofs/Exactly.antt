@@ -22,9 +22,13 @@ use Rattle.room.specs.Refusals.{shapeRefusal, levelRefusal, serverRefusal, pair
 use Rattle.room.specs.Answers.{noNumber, noDigits, noSwitch, noBetween, onlyLevel, serversAnswer, boundAnswer, digitsAnswer, digitAnswer, addressAnswer, switchAnswer, neighbourAnswer, betweenAnswer}
 use Rattle.room.specs.Wiring.{portRefusal, switchesAnswer, serverAtAnswer}
 use Rattle.links.specs.declared.Asked.{Asked}
-use Rattle.links.specs.Table.{roomTableRefusal, tableLinkRefusal, TableOf, roomRefusal, roomRefusal as layRoom}
-use Rattle.links.specs.Servers.{tableServerRefusal, serverAnswer}
-use Rattle.links.specs.Answers.{notAsked, failedAnswer, linkAnswer}
+use Rattle.links.specs.Table.{roomTableRefusal, tableLinkRefusal, tableServerRefusal, TableOf, roomRefusal, roomRefusal as layRoom}
+use Rattle.links.specs.Answers.{notAsked, failedAnswer}
+use Rattle.summary.specs.declared.DeadSwitch.{DeadSwitch}
+use Rattle.summary.specs.Counts.{switchesIn}
+use Rattle.summary.specs.Refusals.{countedLinkRefusal, countedServerRefusal, summaryRefusal, entriesRefusal}
+use Rattle.summary.specs.Answers.{linkAnswer, serverAnswer, noneDead, deadAnswer, freshAnswer}
+use Rattle.summary.proofs.AnswerLaws.{first-refusal}
 use Rattle.path.specs.Routes.{levelOf, valueOf}
 use Rattle.path.specs.declared.Hop.{Hop}
 use Rattle.path.specs.declared.Parts.{Parts}
@@ -50,9 +54,9 @@ use Rattle.pick.proofs.UsableLaws.{usable-walk, array-long, clash}
 use Rattle.pick.proofs.Promises.{source-chosen}
 use Rattle.step.specs.Steps.{givenRefusal, byteRefusal, awayRefusal, stepRefusal, atHop, withPlace, noStep, delivery, forwarded, stepAnswer}
 use Rattle.demands.specs.Tests.{Tests, Refused, Number, Whole, Exactly}
-use Rattle.demands.specs.Refusals.{shapeTests, levelTests, serverTests, pairTests, linkTests, valueTests, portTests, madeTests, partsTests, placesTests, tableTests, tableLinkTests, tableServerTests, endsTests, roomTests, arrayTests, layTests, Joined, selectTests, Arrays, IsRead, SomeRead, pickTests, hopTests, Reads, givenTests, stepTests, Steps, RefusedExactly}
+use Rattle.demands.specs.Refusals.{shapeTests, levelTests, serverTests, pairTests, linkTests, valueTests, portTests, madeTests, partsTests, placesTests, tableTests, tableLinkTests, tableServerTests, countedLinkTests, countedServerTests, summaryTests, entriesTests, endsTests, roomTests, arrayTests, layTests, Joined, selectTests, Arrays, IsRead, SomeRead, pickTests, hopTests, Reads, givenTests, stepTests, Steps, RefusedExactly}
 use Rattle.demands.proofs.Chains.{front, back, held, skip, same, join, split, exactly, made, carry, some, chain, zero-of, hold-of, answers, test, lt}
-use Rattle.demands.proofs.Numbers.{shape-number, level-number, server-number, pair-number, link-number, value-number, port-number, made-number, parts-number, places-number, table-number, table-link-number, table-server-number, ends-number, ends-hold, array-number, room-number, lists-number, hop-number, given-number, byte-number}
+use Rattle.demands.proofs.Numbers.{shape-number, level-number, server-number, pair-number, link-number, value-number, port-number, made-number, parts-number, places-number, table-number, table-link-number, table-server-number, counted-link-number, counted-server-number, summary-number, entries-number, ends-number, ends-hold, array-number, room-number, lists-number, hop-number, given-number, byte-number}
 use Rattle.demands.proofs.Hops.{walk-reads, reads-walk}
 use Rattle.demands.proofs.Written.{write-path}
 use Rattle.demands.proofs.Places.{check-list}
@@ -282,7 +286,7 @@ module _ (s : Shape) (a d i : ℕ) (bs e : List ℕ) where
 -- ---- every call
 
 pub refused-exactly : RefusedExactly
-unfolding serversAnswer boundAnswer digitsAnswer digitAnswer addressAnswer switchAnswer neighbourAnswer betweenAnswer switchesAnswer serverAtAnswer failedAnswer linkAnswer serverAnswer byteAnswer buildAnswer
+unfolding serversAnswer boundAnswer digitsAnswer digitAnswer addressAnswer switchAnswer neighbourAnswer betweenAnswer switchesAnswer serverAtAnswer failedAnswer linkAnswer serverAnswer deadAnswer freshAnswer byteAnswer buildAnswer
 refused-exactly =
     record {
       shape-refusal = λ s. numbered (shapeTests s) (shapeRefusal s) (shape-number s);
@@ -303,8 +307,12 @@ refused-exactly =
       table-refusal = λ s t. numbered (tableTests s t) (roomTableRefusal s t) (table-number s t);
       room-refusal = λ s t a d. numbered (roomTests s t a d) (roomRefusal s t a d) (room-number s t a d);
       failed-link = λ s t a l. whole (λ (x : Asked). x .refusal) notAsked (λ r. refl) (tableLinkTests s t a l) (tableLinkRefusal s t a l) _ refl (table-link-number s t a l) refl;
-      mark-or-clear = λ s t a l. plainly (tableLinkTests s t a l) (tableLinkRefusal s t a l) refl (table-link-number s t a l);
-      mark-or-clear-server = λ s t a. plainly (tableServerTests s t a) (tableServerRefusal s t a) refl (table-server-number s t a);
+      table-link-refusal = λ s t a l. numbered (tableLinkTests s t a l) (tableLinkRefusal s t a l) (table-link-number s t a l);
+      table-server-refusal = λ s t a. numbered (tableServerTests s t a) (tableServerRefusal s t a) (table-server-number s t a);
+      mark-or-clear = λ s t c a l. plainly (countedLinkTests s t c a l) (countedLinkRefusal s t c a l) refl (counted-link-number s t c a l);
+      mark-or-clear-server = λ s t c a. plainly (countedServerTests s t c a) (countedServerRefusal s t c a) refl (counted-server-number s t c a);
+      dead-switch = λ s t c. whole (λ (x : DeadSwitch). x .refusal) noneDead (λ r. refl) (summaryTests s t c) (summaryRefusal s t c) _ refl (summary-number s t c) (first-refusal s c (switchesIn s));
+      summarize = λ s t c. plainly (entriesTests s t c) (entriesRefusal s t c) refl (entries-number s t c);
       byte-of = λ s l v. whole (λ (x : Numbered). x .refusal) noNumber (λ r. refl) (madeTests s l v) (madeRefusal s l v) _ refl (made-number s l v) refl;
       parts-of = parts-of;
       hop-of = hop-of;

@@ -5,20 +5,23 @@ use mathlib.Core.Logic.{_⊎_, inl, inr}
 use mathlib.Core.Bool.{Bool}
 use mathlib.Core.List.{List}
 use native.Mathlib.Omega.{arith}
-use native.Mathlib.Decide.{decLe}
+use native.Mathlib.Decide.{ℕ-discrete, decLe}
 use native.Mathlib.Nat.{mul-zero}
 use lib.ListN.{length}
 use Rattle.room.specs.declared.Shape.{Shape}
 use Rattle.room.specs.Shapes.{bound, powerOf, serverCount, Link, Value}
-use Rattle.room.specs.Sides.{sideOf}
+use Rattle.room.specs.Sides.{sideOf, sideAt}
+use Rattle.room.specs.Wiring.{Port}
 use Rattle.room.proofs.PowerLaws.{no-ports, past-ports, past-levels, power-within, count-none, count-made}
 use Rattle.room.proofs.RoomLaws.{servers-are, bound-top, bound-other, with-server, with-same, with-beside}
-use Rattle.room.proofs.SideLaws.{side-none, side-count, side-reach}
+use Rattle.room.proofs.WiringLaws.{port-server, port-switch, port-digit}
+use Rattle.room.proofs.SideLaws.{side-none, side-count, side-reach, number-none, number-past, number-count, number-reach}
 use Rattle.links.specs.Table.{changedIn}
 use Rattle.links.proofs.TableLaws.{changed-in, changed-long, changed-own, changed-other}
-use Rattle.links.proofs.LinkLaws.{change-past, change-above}
+use Rattle.links.proofs.LinkLaws.{change-past, change-above, failed-past}
 use Rattle.demands.specs.Demand2.{Sets}
-use Rattle.demands.specs.Helpers.{NoPower, OneLink, ServersAt, EveryHelper}
+use Rattle.demands.specs.Calls.{AtPort}
+use Rattle.demands.specs.Helpers.{NoPower, OneLink, ServersAt, ServersOf, EveryHelper}
 
 no-power : (n l : ℕ) → NoPower n l → 0 ≡ powerOf n l
 no-power n l (inl h) = no-ports n l h
@@ -50,6 +53,23 @@ servers-at s a l h =
           subst (Sets s a l v) (sym (side-reach h v p)) (record { server = with-server k; own = with-same k; others = with-beside k });
     }
 
+servers-of : (s : Shape) (l w : ℕ) → Port s l w 0 → ServersOf s l w (sideAt s l w)
+servers-of s l w h =
+    record {
+      count = number-count h;
+      each = λ v p.
+          let k : Port s l w v = record { valid = h .valid; level = h .level; switch = h .switch; port = p } in
+          subst (AtPort s l w v) (sym (number-reach k)) (record { server = port-server k; switch = port-switch k; port = port-digit k });
+    }
+
+no-side-at : (s : Shape) (l w : ℕ) → NoPower (s .n) l ⊎ (4096 ≤ w) → sideAt s l w ≡ record { first = 0; stride = 0; count = 0 }
+no-side-at s l w (inl h) = sym (number-none s l w 0 (no-power (s .n) l h) refl _ refl)
+no-side-at s l w (inr h) =
+    elim (ℕ-discrete (powerOf (s .n) l) 0) [
+      | yes z ↦ sym (number-none s l w (powerOf (s .n) l) refl z _ refl)
+      | no z ↦ sym (number-past s l w (powerOf (s .n) l) refl z h _ refl)
+    ]
+
 one-link : (b : Bool) (a l : ℕ) (t : List ℕ) → a < length t → l < 8 → OneLink b a l t (changedIn b a l t)
 one-link b a l t p q =
     subst (OneLink b a l t) (sym (changed-in b a l t q))
@@ -72,7 +92,10 @@ every-helper =
       servers = servers-are;
       digit-bound = λ s l. (bound-other s l, λ e. ap (bound s) e ∙ bound-top s);
       side-of = servers-at;
-      no-side = λ s a l h. sym (side-none s a l 0 (no-power (s .n) l h) refl);
+      no-side = λ s a l h. sym (side-none s a l 0 (no-power (s .n) l h) refl _ refl);
+      side-at = servers-of;
+      no-side-at = no-side-at;
+      none-failed = λ t a l h. sym (failed-past t a l h);
       one-link = one-link;
       no-link = no-link;
       level-of = λ b. refl;

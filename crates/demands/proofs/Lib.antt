@@ -1,4 +1,6 @@
 pub mod Chains
+pub mod Entries
+pub mod Summaries
 pub mod Numbers
 pub mod Hops
 pub mod Written

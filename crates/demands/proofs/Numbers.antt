@@ -1,6 +1,6 @@
 -- The number that each chain of tests gives.
 use Prim.Native.Nat.{ℕ, zero, suc, _+_, _*_, _%_, _≤_, _<_, suc-le-suc, zero-le}
-use mathlib.Core.Path.{_≡_, refl, sym, ap, subst}
+use mathlib.Core.Path.{_≡_, refl, sym, ap, _∙_, subst}
 use mathlib.Core.Logic.{_≢_, _↔_, inl}
 use mathlib.Core.Bool.{Bool, true, false, not, cond, _&&_}
 use mathlib.Core.List.{List, [], _∷_, _++_}
@@ -10,8 +10,8 @@ use native.Mathlib.Decide.{decLt}
 use lib.Dec.{ltb, leb, eqb}
 use lib.ListN.{length, getD}
 use borrow.Author.Tests.{le-leb, lt-leb, not-true}
-use Rattle.lists.proofs.ListLaws.{both-held, in-missing, missing-in}
-use Rattle.lists.specs.Lists.{isIn}
+use Rattle.lists.proofs.ListLaws.{both-held, in-missing, missing-in, same-self, same-true}
+use Rattle.lists.specs.Lists.{isIn, same}
 use Rattle.refusals.specs.Refusals.{_or-else_, _unless_, OneOf}
 use Rattle.refusals.proofs.ChainLaws.{or-else-zero, chain-goes, test-held}
 use Rattle.room.specs.declared.Shape.{Shape}
@@ -21,9 +21,10 @@ use Rattle.room.specs.Wiring.{portRefusal}
 use Rattle.room.specs.Refusals.{shapeRefusal, levelRefusal, serverRefusal, pairRefusal, linkRefusal, valueRefusal, placeBound, placesFit, placesRefusal, endsRefusal}
 use Rattle.room.proofs.RefusalLaws.{valid-none, Places, places-of, places-none, ends-of}
 use Rattle.room.proofs.RoomLaws.{neighbours-exactly}
-use Rattle.links.specs.Table.{failed, live, bitsFit, tableRefusal, roomTableRefusal, tableLinkRefusal, TableOf, roomRefusal}
-use Rattle.links.specs.Servers.{tableServerRefusal}
+use Rattle.links.specs.Table.{failed, live, bitsFit, tableRefusal, roomTableRefusal, tableLinkRefusal, tableServerRefusal, TableOf, roomRefusal}
 use Rattle.links.proofs.TableLaws.{table-of, table-none, live-empty}
+use Rattle.summary.specs.Counts.{summaryOf}
+use Rattle.summary.specs.Refusals.{hasEntries, isCounted, areCounted, countedLinkRefusal, countedServerRefusal, summaryRefusal, entriesRefusal}
 use Rattle.path.specs.Bytes.{madeRefusal, partsRefusal}
 use Rattle.path.specs.Routes.{switchAt, switchTo, switchesOf, levelOf, valueOf}
 use Rattle.path.specs.Walks.{hopTo, hopRefusal, fault, single, writeFault}
@@ -32,7 +33,10 @@ use Rattle.verdict.specs.Checks.{listRefusal}
 use Rattle.pick.specs.Picks.{fits, listsRefusal}
 use Rattle.step.specs.Steps.{flagAt, givenRefusal, byteRefusal}
 use Rattle.demands.specs.Tests.{Number, Hold}
-use Rattle.demands.specs.Refusals.{shapeTests, levelTests, serverTests, pairTests, linkTests, valueTests, portTests, madeTests, partsTests, tableServerTests, Fits, placesTests, tableTests, tableLinkTests, endsTests, roomTests, arrayTests, Arrays, checkTests, NotIn, endOf, hopTests, readTests, writeTests, serversTests, givenTests, stepTests}
+use Rattle.demands.specs.Refusals.{shapeTests, levelTests, serverTests, pairTests, linkTests, valueTests, portTests, madeTests, partsTests, tableServerTests, Fits, placesTests, tableTests, tableLinkTests, countedLinkTests, countedServerTests, summaryTests, entriesTests, endsTests, roomTests, arrayTests, Arrays, checkTests, NotIn, endOf, hopTests, readTests, writeTests, serversTests, givenTests, stepTests}
+use Rattle.demands.specs.Summaries.{switchTotal, EntryCounts, Summarizes}
+use Rattle.demands.proofs.Entries.{entries-exactly, counted-exactly, all-counted-exactly}
+use Rattle.demands.proofs.Summaries.{summarizes-exactly}
 use Rattle.demands.proofs.Chains.{front, test, chain, after, under, merge, reword, idle, zero-of, one-listed, le, lt, eq, ne, both}
 
 -- ---- conditions in other words
@@ -165,6 +169,32 @@ module _ (s : Shape) where
   pub table-server-number : (t : List ℕ) (a : ℕ) → Number (tableServerTests s t a) (tableServerRefusal s t a)
   unfolding tableServerRefusal
   table-server-number t a = chain (serverTests s a) ((6, TableOf s t) ∷ []) _ _ refl (server-number a) (λ h. table-alone t)
+
+  pub counted-link-number : (t c : List ℕ) (a l : ℕ) → Number (countedLinkTests s t c a l) (countedLinkRefusal s t c a l)
+  unfolding countedLinkRefusal
+  counted-link-number t c a l =
+      chain (tableLinkTests s t a l) ((30, (length c ≡ switchTotal s) × EntryCounts s t c a l) ∷ []) _ _ refl (table-link-number t a l)
+      (λ h. test 30 (hasEntries s c && isCounted s t c a l) (both _ _ (entries-exactly s c) (counted-exactly s t c a l)))
+
+  pub counted-server-number : (t c : List ℕ) (a : ℕ) → Number (countedServerTests s t c a) (countedServerRefusal s t c a)
+  unfolding countedServerRefusal
+  counted-server-number t c a =
+      chain (tableServerTests s t a) ((30, (length c ≡ switchTotal s) × ((l : ℕ) → l ≤ s .k → EntryCounts s t c a l)) ∷ []) _ _ refl (table-server-number t a)
+      (λ h. test 30 (hasEntries s c && areCounted s t c a (suc (s .k))) (both _ _ (entries-exactly s c) (all-counted-exactly s t c a)))
+
+  pub summary-number : (t c : List ℕ) → Number (summaryTests s t c) (summaryRefusal s t c)
+  unfolding summaryRefusal
+  summary-number t c =
+      chain (tableTests s t) ((30, Summarizes s t c) ∷ []) _ _ refl (table-number t)
+      (λ h. test 30 (same c (summaryOf s t)) (
+        λ e. summarizes-exactly s t c .1 (same-true c (summaryOf s t) e),
+        λ e. ap (same c) (sym (summarizes-exactly s t c .0 e)) ∙ same-self c,
+      ))
+
+  pub entries-number : (t c : List ℕ) → Number (entriesTests s t c) (entriesRefusal s t c)
+  unfolding entriesRefusal
+  entries-number t c =
+      chain (tableTests s t) ((30, length c ≡ switchTotal s) ∷ []) _ _ refl (table-number t) (λ h. test 30 (hasEntries s c) (entries-exactly s c))
 
   pub ends-number : (a d : ℕ) → Number (endsTests s a d) (endsRefusal s a d)
   unfolding endsRefusal

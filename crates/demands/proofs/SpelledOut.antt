@@ -15,13 +15,15 @@ use Rattle.room.specs.declared.Shape.{Shape}
 use Rattle.room.specs.Shapes.{serversOf, bound}
 use Rattle.room.specs.Refusals.{shapeRefusal}
 use Rattle.room.specs.Addresses.{digit}
+use Rattle.summary.specs.Answers.{linkAnswer, deadAnswer}
 use Rattle.path.specs.Routes.{levelOf, valueOf}
 use Rattle.path.specs.Walks.{walk}
 use Rattle.path.specs.Answers.{walkAnswer}
 use Rattle.verdict.specs.Checks.{checkAnswer}
 use Rattle.step.specs.Steps.{flagAt, stepAnswer}
 use Rattle.demands.specs.Tests.{Tests, Refused, Hold, Others}
-use Rattle.demands.specs.Refusals.{roomTests, arrayTests, Arrays, readTests, FirstAfterArrival, Stops, hop-fails, never-arrives, goes-on, Reads, checkTests, FirstPair, Checks, givenTests, stepTests, Steps, SpelledOut}
+use Rattle.demands.specs.Summaries.{switchTotal, EntryCounts, Summarizes}
+use Rattle.demands.specs.Refusals.{tableTests, tableLinkTests, roomTests, arrayTests, Arrays, readTests, FirstAfterArrival, Stops, hop-fails, never-arrives, goes-on, Reads, checkTests, FirstPair, Checks, givenTests, stepTests, Steps, SpelledOut}
 use Rattle.demands.proofs.Chains.{all, others, chain-means, numbersOf}
 use Rattle.demands.proofs.Places.{check-list}
 use Rattle.demands.proofs.Exactly.{refused-exactly}
@@ -37,6 +39,17 @@ twenty-six : (s : Shape) → (shapeRefusal s ≡ 26) ↔ (Hold ((1, (2 ≤ s .n)
 twenty-six s =
     chain-means .number (λ n. n) ((1, (2 ≤ s .n) × (s .n ≤ 64)) ∷ (2, s .k ≤ 3) ∷ []) ((3, serversOf s ≤ 4096) ∷ []) 26 ((2 ≤ s .m) × (s .m ≤ s .n)) (λ r. r ≡ 0) (shapeRefusal s) (refused-exactly .shape-refusal s)
     (λ e. omega arith, (λ e. omega arith, tt)) (λ e. omega arith, tt) (λ e. omega arith)
+
+thirty : (s : Shape) (t c : List ℕ) (a l : ℕ)
+    → (linkAnswer s t c a l ≡ plain 30) ↔ (Hold (tableLinkTests s t a l) × ((length c ≡ switchTotal s) × EntryCounts s t c a l → ⊥))
+thirty s t c a l =
+    chain-means .number plain (tableLinkTests s t a l) [] 30 ((length c ≡ switchTotal s) × EntryCounts s t c a l) (λ r. r ≡ none) (linkAnswer s t c a l) (refused-exactly .mark-or-clear s t c a l)
+    (other-numbers plain (tableLinkTests s t a l) (plain 30) (λ n. refl) refl) tt (λ h. let z = ap (λ (r : Refusal). r .number) h in omega arith)
+
+asked-thirty : (s : Shape) (t c : List ℕ) → (deadAnswer s t c .refusal ≡ plain 30) ↔ (Hold (tableTests s t) × (Summarizes s t c → ⊥))
+asked-thirty s t c =
+    chain-means .number plain (tableTests s t) [] 30 (Summarizes s t c) (λ r. r ≡ none) (deadAnswer s t c .refusal) (refused-exactly .dead-switch s t c)
+    (other-numbers plain (tableTests s t) (plain 30) (λ n. refl) refl) tt (λ h. let z = ap (λ (r : Refusal). r .number) h in omega arith)
 
 seven : (s : Shape) (t : List ℕ) (a d : ℕ) (bs : List ℕ) → (checkAnswer s t a d bs ≡ plain 7) ↔ (Hold (roomTests s t a d) × ((Arrays s bs × (1 ≤ length bs)) → ⊥))
 seven s t a d bs =
@@ -115,4 +128,4 @@ fifteen s t a d bs j = (λ q. let w = means .0 q in (w .0, go (w .1)), λ h. mea
     go (inr (inr h)) = h
 
 pub spelled-out : SpelledOut
-spelled-out = record { twenty-six = twenty-six; seven = seven; eight = eight; fourteen = fourteen; fifteen = fifteen }
+spelled-out = record { twenty-six = twenty-six; thirty = thirty; asked-thirty = asked-thirty; seven = seven; eight = eight; fourteen = fourteen; fifteen = fifteen }

@@ -10,7 +10,7 @@ use lib.ListN.{length, getD, List·getD-eq-default}
 use borrow.Author.Tests.{eqb-false}
 use Rattle.room.specs.Shapes.{serversOf}
 use Rattle.room.proofs.DigitLaws.{rest-div}
-use Rattle.links.specs.Table.{bit, failed, fitsLevels, TableOf}
+use Rattle.links.specs.Table.{bit, failed, fitsLevels}
 use Rattle.links.proofs.TableLaws.{lt-fits, table-above}
 use Rattle.demands.specs.Demand2.{TableExactly}
 

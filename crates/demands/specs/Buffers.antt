@@ -4,7 +4,7 @@ use Prim.Native.Nat.{ℕ, suc, _+_, _*_, _/_, _%_, _≤_}
 use mathlib.Core.Path.{_≡_}
 use mathlib.Core.Logic.{_≢_}
 use mathlib.Core.List.{List, [], _∷_}
-use mathlib.Core.Bool.{cond}
+use mathlib.Core.Bool.{true, false, cond}
 use lib.Dec.{eqb}
 use lib.ListN.{set}
 use Rattle.refusals.specs.declared.Refusal.{Refusal}
@@ -13,9 +13,11 @@ use Rattle.room.specs.declared.Shape.{Shape}
 use Rattle.room.specs.Refusals.{shapeRefusal}
 use Rattle.room.specs.Answers.{serversAnswer, boundAnswer, digitsAnswer, digitAnswer, addressAnswer, switchAnswer, neighbourAnswer, betweenAnswer}
 use Rattle.room.specs.Wiring.{switchesAnswer, serverAtAnswer}
-use Rattle.links.specs.Servers.{allBits, serverAnswer, markedServer, clearedServer}
-use Rattle.links.specs.Table.{marked, cleared}
-use Rattle.links.specs.Answers.{failedAnswer, linkAnswer, markedTable, clearedTable}
+use Rattle.links.specs.Table.{changed}
+use Rattle.links.specs.Answers.{failedAnswer}
+use Rattle.summary.specs.declared.DeadSwitch.{DeadSwitch}
+use Rattle.summary.specs.Counts.{summaryOf, recounted, recountedBelow}
+use Rattle.summary.specs.Answers.{allBits, linkAnswer, linkTable, linkSummary, serverAnswer, serverTable, serverSummary, deadAnswer, freshAnswer, freshSummary}
 use Rattle.path.specs.Bytes.{byteAnswer, partsAnswer}
 use Rattle.path.specs.Answers.{readAnswer, writeAnswer, reverseAnswer}
 use Rattle.verdict.specs.Checks.{checkAnswer}
@@ -28,7 +30,7 @@ use Rattle.driver.specs.declared.Answer.{Answer}
 use Rattle.driver.specs.declared.Stepped.{Stepped}
 use Rattle.driver.specs.declared.Room.{Room}
 use Rattle.driver.specs.Rooms.{roomOf, shapeIn}
-use Rattle.driver.specs.Words.{word, refusalIn, valueIn, numberWord, digitsWord, digitsLeft, switchWord, betweenWord, askedWord, partsWord, readingWord, readingLeft, writingWord, writingLeft, buildingWord, buildingLeft, placeWord}
+use Rattle.driver.specs.Words.{word, refusalIn, valueIn, numberWord, digitsWord, digitsLeft, switchWord, betweenWord, askedWord, deadWord, partsWord, readingWord, readingLeft, writingWord, writingLeft, buildingWord, buildingLeft, placeWord}
 use Rattle.driver.specs.Routes.{FoundWord, SelectedWord}
 use Rattle.driver.specs.Packed.{packed, unpacked, Bytes}
 
@@ -41,12 +43,20 @@ pub record Holds (number : ℕ) (lent answered left : List ℕ) : Type 0 where
 
 -- the calls that can write to what they are lent; all others are lent it to read
 pub record EveryBuffer : Type 0 where
-  -- marking and clearing: the table with the link marked, and cleared
-  pub marked : (s : Shape) (t : List ℕ) (a l : ℕ) → Holds (linkAnswer s t a l .number) t (marked a l t) (markedTable s t a l)
-  pub cleared : (s : Shape) (t : List ℕ) (a l : ℕ) → Holds (linkAnswer s t a l .number) t (cleared a l t) (clearedTable s t a l)
-  -- a whole server: its byte has the bits of all levels, and none
-  pub marked-server : (s : Shape) (t : List ℕ) (a : ℕ) → Holds (serverAnswer s t a .number) t (set t a (allBits (s .k))) (markedServer s t a)
-  pub cleared-server : (s : Shape) (t : List ℕ) (a : ℕ) → Holds (serverAnswer s t a .number) t (set t a 0) (clearedServer s t a)
+  -- marking and clearing: the table with the link marked, and cleared; the summary with its switch's entry counted in that table
+  pub marked : (s : Shape) (t c : List ℕ) (a l : ℕ) → Holds (linkAnswer s t c a l .number) t (changed true a l t) (linkTable true s t c a l)
+  pub marked-summary : (s : Shape) (t c : List ℕ) (a l : ℕ) → Holds (linkAnswer s t c a l .number) c (recounted s (changed true a l t) a l c) (linkSummary true s t c a l)
+  pub cleared : (s : Shape) (t c : List ℕ) (a l : ℕ) → Holds (linkAnswer s t c a l .number) t (changed false a l t) (linkTable false s t c a l)
+  pub cleared-summary : (s : Shape) (t c : List ℕ) (a l : ℕ) → Holds (linkAnswer s t c a l .number) c (recounted s (changed false a l t) a l c) (linkSummary false s t c a l)
+  -- a whole server: its byte has the bits of all levels, and none; the summary with the entries of its switches counted in that table
+  pub marked-server : (s : Shape) (t c : List ℕ) (a : ℕ) → Holds (serverAnswer s t c a .number) t (set t a (allBits (s .k))) (serverTable true s t c a)
+  pub marked-server-summary : (s : Shape) (t c : List ℕ) (a : ℕ)
+      → Holds (serverAnswer s t c a .number) c (recountedBelow s (set t a (allBits (s .k))) a (suc (s .k)) c) (serverSummary true s t c a)
+  pub cleared-server : (s : Shape) (t c : List ℕ) (a : ℕ) → Holds (serverAnswer s t c a .number) t (set t a 0) (serverTable false s t c a)
+  pub cleared-server-summary : (s : Shape) (t c : List ℕ) (a : ℕ)
+      → Holds (serverAnswer s t c a .number) c (recountedBelow s (set t a 0) a (suc (s .k)) c) (serverSummary false s t c a)
+  -- the summary counted afresh
+  pub summarized : (s : Shape) (t c : List ℕ) → Holds (freshAnswer s t c .number) c (summaryOf s t) (freshSummary s t c)
   -- laying a route: on a refusal t, as it was lent, is u, which is left; what is left else is `LaysExactly` in Calls
   pub laid : (s : Shape) (t : List ℕ) (a d : ℕ) (bs : List ℕ) (r : Refusal) (u : List ℕ) → Lays s t a d bs r u → r .number ≢ 0 → u ≡ t
   -- the calls from C, by what their contracts say is left: four digits, nine servers, eight path bytes, four arrays
@@ -90,6 +100,12 @@ pub record TellsStep (w : Stepped) (x : Step) : Type 0 where
   pub mac : w .mac / 1099511627776 ∷ w .mac / 4294967296 % 256 ∷ w .mac / 16777216 % 256 ∷ w .mac / 65536 % 256 ∷ w .mac / 256 % 256 ∷ w .mac % 256 ∷ [] ≡ x .mac
   pub route : x .refusal .route ≡ cond (eqb (x .refusal .hop) 0) 0 1
 
+-- a driver reads out of a number whether a dead switch is found, its level and its number
+pub record DeadParts (v : ℕ) (x : DeadSwitch) : Type 0 where
+  pub found : v / 16777216 ≡ cond (x .found) 1 0
+  pub level : v / 65536 % 256 ≡ x .level
+  pub number : v % 65536 ≡ x .number
+
 -- the word of each call gives back the answer's refusal and number; the two numbers of a step, the whole step
 pub record EveryWord : Type 0 where
   pub shape : (s : Shape) → Tells (word (plain (shapeRefusal s)) 0) (plain (shapeRefusal s)) 0
@@ -99,7 +115,6 @@ pub record EveryWord : Type 0 where
   pub server-at : (s : Shape) (l w v : ℕ) → (let x = serverAtAnswer s l w v in Tells (numberWord x) (x .refusal) (x .value))
   pub path-byte : (s : Shape) (l v : ℕ) → Tells (numberWord (byteAnswer s l v)) (byteAnswer s l v .refusal) (byteAnswer s l v .value)
   pub path-byte-parts : (s : Shape) (b : ℕ) → (let x = partsAnswer s b in Tells (partsWord x) (x .refusal) (256 * x .level + x .value))
-  pub mark-or-clear-server : (s : Shape) (t : List ℕ) (a : ℕ) → Tells (word (serverAnswer s t a) 0) (serverAnswer s t a) 0
   pub digits : (s : Shape) (a : ℕ) → Tells (digitsWord (digitsAnswer s a)) (digitsAnswer s a .refusal) 0
   pub one-digit : (s : Shape) (a l : ℕ) → Tells (numberWord (digitAnswer s a l)) (digitAnswer s a l .refusal) (digitAnswer s a l .value)
   pub address : (s : Shape) (d0 d1 d2 d3 : ℕ) → (let x = addressAnswer s (d0 ∷ d1 ∷ d2 ∷ d3 ∷ []) in Tells (numberWord x) (x .refusal) (x .value))
@@ -107,7 +122,13 @@ pub record EveryWord : Type 0 where
   pub neighbour : (s : Shape) (a l v : ℕ) → Tells (numberWord (neighbourAnswer s a l v)) (neighbourAnswer s a l v .refusal) (neighbourAnswer s a l v .value)
   pub between : (s : Shape) (a b : ℕ) → (let x = betweenAnswer s a b in Tells (betweenWord x) (x .refusal) (cond (x .adjacent) (suc (x .level)) 0))
   pub failed-link : (s : Shape) (t : List ℕ) (a l : ℕ) → (let x = failedAnswer s t a l in Tells (askedWord x) (x .refusal) (cond (x .failed) 1 0))
-  pub mark-or-clear : (s : Shape) (t : List ℕ) (a l : ℕ) → Tells (word (linkAnswer s t a l) 0) (linkAnswer s t a l) 0
+  pub mark-or-clear : (s : Shape) (t c : List ℕ) (a l : ℕ) → Tells (word (linkAnswer s t c a l) 0) (linkAnswer s t c a l) 0
+  pub mark-or-clear-server : (s : Shape) (t c : List ℕ) (a : ℕ) → Tells (word (serverAnswer s t c a) 0) (serverAnswer s t c a) 0
+  -- one that is found: 1 in the highest byte of the number, the level in the next, and the switch's number in the other two
+  pub dead-switch : (s : Shape) (t c : List ℕ) → (let x = deadAnswer s t c in Tells (deadWord x) (x .refusal) (cond (x .found) (16777216 + 65536 * x .level + x .number) 0))
+  -- whose parts are read back
+  pub dead-parts : (s : Shape) (t c : List ℕ) → (let x = deadAnswer s t c in DeadParts (valueIn (deadWord x)) x)
+  pub summarize : (s : Shape) (t c : List ℕ) → Tells (word (freshAnswer s t c) 0) (freshAnswer s t c) 0
   pub read : (s : Shape) (a d : ℕ) (bs : List ℕ) → Tells (readingWord (readAnswer s a d bs)) (readAnswer s a d bs .refusal) (readAnswer s a d bs .count)
   pub write : (s : Shape) (vs : List ℕ) → Tells (writingWord (writeAnswer s vs)) (writeAnswer s vs .refusal) 0
   pub reversed : (s : Shape) (a d : ℕ) (bs : List ℕ) → Tells (writingWord (reverseAnswer s a d bs)) (reverseAnswer s a d bs .refusal) 0

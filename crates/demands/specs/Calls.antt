@@ -2,7 +2,7 @@
 use Prim.Native.Nat.{ℕ, suc, _+_, _-_, _*_, _^_, _≤_, _<_}
 use mathlib.Core.Path.{_≡_}
 use mathlib.Core.Logic.{_↔_, _≢_, _⊎_}
-use mathlib.Core.Bool.{true, false}
+use mathlib.Core.Bool.{Bool, true, false}
 use mathlib.Core.List.{List, []}
 use lib.ListN.{length, getD}
 use Rattle.refusals.specs.declared.Refusal.{Refusal}
@@ -12,7 +12,7 @@ use Rattle.room.specs.Addresses.{digit, switchOf, Beside, Neighbours}
 use Rattle.room.specs.Answers.{aNumber}
 use Rattle.room.specs.Wiring.{switchesAnswer, serverAtAnswer}
 use Rattle.links.specs.Table.{failed, TableOf, Dead}
-use Rattle.links.specs.Servers.{markedServer, clearedServer}
+use Rattle.summary.specs.Answers.{serverAnswer, serverTable, serverSummary}
 use Rattle.path.specs.Routes.{RouteTo, Parallel, Encodes}
 use Rattle.path.specs.Bytes.{byteAnswer, someParts, partsAnswer}
 use Rattle.laying.specs.Answers.{Lays}
@@ -36,17 +36,14 @@ pub record EveryPort : Type 0 where
 
 -- ---- all links of a server
 
--- a whole server of a table: marked it is dead, cleared none of its links is failed; no other server's byte moves, the table stays one of
--- the room, and again changes nothing
+-- a whole server of a table, where the call is not refused: marked it is dead, cleared none of its links is failed; no other server's byte moves,
+-- the table stays one of the room, and again changes nothing. What becomes of the summary is in Summaries.
 pub record WholeServer : Type 0 where
-  pub dead : (s : Shape) (t : List ℕ) (a : ℕ) → Server s a → TableOf s t → Dead s (markedServer s t a) a
-  pub live : (s : Shape) (t : List ℕ) (a l : ℕ) → Server s a → TableOf s t → failed (clearedServer s t a) a l ≡ false
-  pub marked-others : (s : Shape) (t : List ℕ) (a b : ℕ) → Server s a → TableOf s t → b ≢ a → getD (markedServer s t a) b 0 ≡ getD t b 0
-  pub cleared-others : (s : Shape) (t : List ℕ) (a b : ℕ) → Server s a → TableOf s t → b ≢ a → getD (clearedServer s t a) b 0 ≡ getD t b 0
-  pub marked-table : (s : Shape) (t : List ℕ) (a : ℕ) → Server s a → TableOf s t → TableOf s (markedServer s t a)
-  pub cleared-table : (s : Shape) (t : List ℕ) (a : ℕ) → Server s a → TableOf s t → TableOf s (clearedServer s t a)
-  pub marked-again : (s : Shape) (t : List ℕ) (a : ℕ) → Server s a → TableOf s t → markedServer s (markedServer s t a) a ≡ markedServer s t a
-  pub cleared-again : (s : Shape) (t : List ℕ) (a : ℕ) → Server s a → TableOf s t → clearedServer s (clearedServer s t a) a ≡ clearedServer s t a
+  pub dead : (s : Shape) (t c : List ℕ) (a : ℕ) → serverAnswer s t c a .number ≡ 0 → Dead s (serverTable true s t c a) a
+  pub live : (s : Shape) (t c : List ℕ) (a l : ℕ) → serverAnswer s t c a .number ≡ 0 → failed (serverTable false s t c a) a l ≡ false
+  pub others : (b : Bool) (s : Shape) (t c : List ℕ) (a x : ℕ) → serverAnswer s t c a .number ≡ 0 → x ≢ a → getD (serverTable b s t c a) x 0 ≡ getD t x 0
+  pub table : (b : Bool) (s : Shape) (t c : List ℕ) (a : ℕ) → serverAnswer s t c a .number ≡ 0 → TableOf s (serverTable b s t c a)
+  pub again : (b : Bool) (s : Shape) (t c : List ℕ) (a : ℕ) → (let u = serverTable b s t c a in serverTable b s u (serverSummary b s t c a) a ≡ u)
 
 -- ---- one path byte
 

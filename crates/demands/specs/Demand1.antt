@@ -19,9 +19,10 @@ use Rattle.room.specs.Refusals.{shapeRefusal, serverRefusal, pairRefusal, endsR
 use Rattle.room.specs.Answers.{serversAnswer, boundAnswer, digitsAnswer, digitAnswer, addressAnswer, switchAnswer, neighbourAnswer, betweenAnswer}
 use Rattle.room.specs.Wiring.{switchesAnswer, serverAtAnswer}
 use Rattle.links.specs.declared.Asked.{Asked}
-use Rattle.links.specs.Servers.{serverAnswer}
-use Rattle.links.specs.Table.{roomTableRefusal, roomRefusal}
-use Rattle.links.specs.Answers.{failedAnswer, linkAnswer}
+use Rattle.links.specs.Table.{roomTableRefusal, roomRefusal, tableLinkRefusal, tableServerRefusal}
+use Rattle.links.specs.Answers.{failedAnswer}
+use Rattle.summary.specs.declared.DeadSwitch.{DeadSwitch}
+use Rattle.summary.specs.Answers.{linkAnswer, serverAnswer, deadAnswer, freshAnswer}
 use Rattle.path.specs.declared.Hop.{Hop}
 use Rattle.path.specs.declared.Parts.{Parts}
 use Rattle.path.specs.declared.Walked.{Walked}
@@ -46,9 +47,9 @@ use Rattle.step.specs.Steps.{stepAnswer}
 
 -- ---- the place of a refusal
 
--- 0, which is no refusal, 1 to 7, 16 to 18, 20 to 22 and 26 are refusals of a call as a whole
+-- 0, which is no refusal, 1 to 7, 16 to 18, 20 to 22, 26 and 30 are refusals of a call as a whole
 abbrev pub ofTheWhole : ℕ → Bool
-ofTheWhole r = leb r 7 || ((leb 16 r && leb r 18) || ((leb 20 r && leb r 22) || eqb r 26))
+ofTheWhole r = leb r 7 || ((leb 16 r && leb r 18) || ((leb 20 r && leb r 22) || (eqb r 26 || eqb r 30)))
 
 -- 8 to 12, 14, 19 and 23 arise at a hop
 abbrev pub ofAHop : ℕ → Bool
@@ -88,6 +89,9 @@ BetweenOf = Refuses (λ x. x .refusal) (λ r. record { refusal = r; adjacent = f
 
 abbrev pub AskedOf : List ℕ → Asked → Type 0
 AskedOf = Refuses (λ x. x .refusal) (λ r. record { refusal = r; failed = false }) 0
+
+abbrev pub DeadOf : List ℕ → DeadSwitch → Type 0
+DeadOf = Refuses (λ x. x .refusal) (λ r. record { refusal = r; found = false; level = 0; number = 0 }) 0
 
 -- a single byte and a single array are route 1
 abbrev pub PartsOf : List ℕ → Parts → Type 0
@@ -146,8 +150,13 @@ pub record EveryCall : Type 0 where
   pub table-refusal : (s : Shape) (t : List ℕ) → OneOf (1 ∷ 2 ∷ 26 ∷ 3 ∷ 6 ∷ []) (roomTableRefusal s t)
   pub room-refusal : (s : Shape) (t : List ℕ) (a d : ℕ) → OneOf (1 ∷ 2 ∷ 26 ∷ 3 ∷ 4 ∷ 5 ∷ 6 ∷ []) (roomRefusal s t a d)
   pub failed-link : (s : Shape) (t : List ℕ) (a l : ℕ) → AskedOf (1 ∷ 2 ∷ 26 ∷ 3 ∷ 4 ∷ 20 ∷ 6 ∷ []) (failedAnswer s t a l)
-  pub mark-or-clear : (s : Shape) (t : List ℕ) (a l : ℕ) → RefusalOf 0 (1 ∷ 2 ∷ 26 ∷ 3 ∷ 4 ∷ 20 ∷ 6 ∷ []) (linkAnswer s t a l)
-  pub mark-or-clear-server : (s : Shape) (t : List ℕ) (a : ℕ) → RefusalOf 0 (1 ∷ 2 ∷ 26 ∷ 3 ∷ 4 ∷ 6 ∷ []) (serverAnswer s t a)
+  pub table-link-refusal : (s : Shape) (t : List ℕ) (a l : ℕ) → OneOf (1 ∷ 2 ∷ 26 ∷ 3 ∷ 4 ∷ 20 ∷ 6 ∷ []) (tableLinkRefusal s t a l)
+  pub table-server-refusal : (s : Shape) (t : List ℕ) (a : ℕ) → OneOf (1 ∷ 2 ∷ 26 ∷ 3 ∷ 4 ∷ 6 ∷ []) (tableServerRefusal s t a)
+  -- summary
+  pub mark-or-clear : (s : Shape) (t c : List ℕ) (a l : ℕ) → RefusalOf 0 (1 ∷ 2 ∷ 26 ∷ 3 ∷ 4 ∷ 20 ∷ 6 ∷ 30 ∷ []) (linkAnswer s t c a l)
+  pub mark-or-clear-server : (s : Shape) (t c : List ℕ) (a : ℕ) → RefusalOf 0 (1 ∷ 2 ∷ 26 ∷ 3 ∷ 4 ∷ 6 ∷ 30 ∷ []) (serverAnswer s t c a)
+  pub dead-switch : (s : Shape) (t c : List ℕ) → DeadOf (1 ∷ 2 ∷ 26 ∷ 3 ∷ 6 ∷ 30 ∷ []) (deadAnswer s t c)
+  pub summarize : (s : Shape) (t c : List ℕ) → RefusalOf 0 (1 ∷ 2 ∷ 26 ∷ 3 ∷ 6 ∷ 30 ∷ []) (freshAnswer s t c)
   -- path
   pub byte-of : (s : Shape) (l v : ℕ) → NumberOf (1 ∷ 2 ∷ 26 ∷ 3 ∷ 20 ∷ 21 ∷ []) (byteAnswer s l v)
   pub parts-of : (s : Shape) (b : ℕ) → PartsOf (1 ∷ 2 ∷ 26 ∷ 3 ∷ 8 ∷ 9 ∷ []) (partsAnswer s b)

@@ -17,7 +17,8 @@ use Rattle.room.specs.Digits.{strike}
 use Rattle.room.specs.Addresses.{digits, digit, switchOf, switchesAt, differing, Written, Beside, Neighbours}
 use Rattle.room.specs.Answers.{serversAnswer, boundAnswer, digitsAnswer, digitAnswer, addressAnswer, switchAnswer, neighbourAnswer, betweenAnswer}
 use Rattle.links.specs.Table.{failed, live, TableOf}
-use Rattle.links.specs.Answers.{failedAnswer, linkAnswer, markedTable, clearedTable}
+use Rattle.links.specs.Answers.{failedAnswer}
+use Rattle.summary.specs.Answers.{linkAnswer, linkTable, linkSummary}
 use Rattle.path.specs.Routes.{switchTo, byteTo, switchesOf, encode, Route, RouteTo, Encodes, levelOf, valueOf}
 use Rattle.path.specs.Answers.{hopAnswer, walkAnswer, readAnswer, writeAnswer, reverseAnswer}
 use Rattle.verdict.specs.Checks.{checkAnswer}
@@ -368,19 +369,19 @@ pub record Changes (s : Shape) (t : List ℕ) (a l : ℕ) (now : Bool) (u : List
   pub long : length u ≡ length t
   pub table : TableOf s u
 
--- marking sets its own bit and no other; again it changes nothing
-abbrev pub Marking : Type 0
-Marking =
-    (s : Shape) (t : List ℕ) (a l : ℕ) →
-    linkAnswer s t a l .number ≡ 0 →
-    Changes s t a l true (markedTable s t a l) × (markedTable s (markedTable s t a l) a l ≡ markedTable s t a l)
+-- a call that marks a link, b being true, or clears it, changes its own bit and no other, and again it changes nothing. What becomes of the
+-- summary is in Summaries.
+abbrev pub ChangesOwn : Bool → Type 0
+ChangesOwn b =
+    (s : Shape) (t c : List ℕ) (a l : ℕ) →
+    linkAnswer s t c a l .number ≡ 0 →
+    (let u = linkTable b s t c a l in Changes s t a l b u × (linkTable b s u (linkSummary b s t c a l) a l ≡ u))
 
--- clearing resets its own bit and no other; again it changes nothing
+abbrev pub Marking : Type 0
+Marking = ChangesOwn true
+
 abbrev pub Clearing : Type 0
-Clearing =
-    (s : Shape) (t : List ℕ) (a l : ℕ) →
-    linkAnswer s t a l .number ≡ 0 →
-    Changes s t a l false (clearedTable s t a l) × (clearedTable s (clearedTable s t a l) a l ≡ clearedTable s t a l)
+Clearing = ChangesOwn false
 
 -- ---- one forwarding step
 

@@ -1,6 +1,6 @@
 -- Demand 3: a list is accepted exactly when it meets the declarative words; what the builder answers in a healthy room, and all that
 -- selection writes, is accepted; stepping an accepted route delivers after exactly its hops.
-use Prim.Native.Nat.{ℕ, suc, _+_, _-_, _*_, _/_, _≤_, _<_}
+use Prim.Native.Nat.{ℕ, suc, _+_, _-_, _/_, _≤_, _<_}
 use mathlib.Core.Path.{_≡_}
 use mathlib.Core.Logic.{_↔_}
 use mathlib.Core.Bool.{false}

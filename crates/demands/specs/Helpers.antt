@@ -3,7 +3,7 @@
 use Prim.Native.Nat.{ℕ, _+_, _*_, _/_, _%_, _^_, _≤_, _<_}
 use mathlib.Core.Path.{_≡_}
 use mathlib.Core.Logic.{_≢_, _⊎_}
-use mathlib.Core.Bool.{Bool}
+use mathlib.Core.Bool.{Bool, false}
 use mathlib.Core.List.{List}
 use lib.ListN.{length}
 use Rattle.refusals.specs.declared.Refusal.{Refusal}
@@ -11,10 +11,12 @@ use Rattle.refusals.specs.Refusals.{ofRoute}
 use Rattle.room.specs.declared.Shape.{Shape}
 use Rattle.room.specs.declared.Side.{Side}
 use Rattle.room.specs.Shapes.{shapeOf, fullRoom, serversOf, bound, powerOf, serverCount, Link}
-use Rattle.room.specs.Sides.{sideOf}
+use Rattle.room.specs.Sides.{sideOf, sideAt}
+use Rattle.room.specs.Wiring.{Port}
 use Rattle.links.specs.Table.{failed, changedIn}
 use Rattle.path.specs.Routes.{levelOf, valueOf}
 use Rattle.demands.specs.Demand2.{Sets}
+use Rattle.demands.specs.Calls.{AtPort}
 
 -- n ports and level l have no power: n is not among 1 to 64, or l is above 3
 abbrev pub NoPower : ℕ → ℕ → Type 0
@@ -30,6 +32,11 @@ pub record OfRoute (r : Refusal) (i : ℕ) (q : Refusal) : Type 0 where
 pub record ServersAt (s : Shape) (a l : ℕ) (x : Side) : Type 0 where
   pub count : x .count ≡ bound s l
   pub each : (v : ℕ) → v < bound s l → Sets s a l v (x .first + v * x .stride)
+
+-- the servers at switch w of level l, as many as digit l has values, by their ports
+pub record ServersOf (s : Shape) (l w : ℕ) (x : Side) : Type 0 where
+  pub count : x .count ≡ bound s l
+  pub each : (v : ℕ) → v < bound s l → AtPort s l w v (x .first + v * x .stride)
 
 -- table u is table t with the link of server a at level l failed, or not, and no other link changed
 pub record OneLink (b : Bool) (a l : ℕ) (t u : List ℕ) : Type 0 where
@@ -49,6 +56,10 @@ pub record EveryHelper : Type 0 where
   pub digit-bound : (s : Shape) (l : ℕ) → (l ≢ s .k → bound s l ≡ s .n) × (l ≡ s .k → bound s l ≡ s .m)
   pub side-of : (s : Shape) (a l : ℕ) → Link s a l → ServersAt s a l (sideOf s a l)
   pub no-side : (s : Shape) (a l : ℕ) → NoPower (s .n) l → sideOf s a l ≡ record { first = 0; stride = 0; count = 0 }
+  pub side-at : (s : Shape) (l w : ℕ) → Port s l w 0 → ServersOf s l w (sideAt s l w)
+  pub no-side-at : (s : Shape) (l w : ℕ) → NoPower (s .n) l ⊎ (4096 ≤ w) → sideAt s l w ≡ record { first = 0; stride = 0; count = 0 }
+  -- past the table's end no link is failed; which are before it is `FailedExactly`
+  pub none-failed : (t : List ℕ) (a l : ℕ) → length t ≤ a → failed t a l ≡ false
   -- marking, and clearing; past the table's end and above level 7 nothing changes
   pub one-link : (b : Bool) (a l : ℕ) (t : List ℕ) → a < length t → l < 8 → OneLink b a l t (changedIn b a l t)
   pub no-link : (b : Bool) (a l : ℕ) (t : List ℕ) → (length t ≤ a) ⊎ (8 ≤ l) → changedIn b a l t ≡ t

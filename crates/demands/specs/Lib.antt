@@ -10,4 +10,5 @@ pub mod ProvedTable
 pub mod TieRows
 pub mod Uniqueness
 pub mod Calls
+pub mod Summaries
 pub mod Helpers

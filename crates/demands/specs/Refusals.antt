@@ -15,9 +15,9 @@ use Rattle.room.specs.Addresses.{digit, switchesAt, Neighbours}
 use Rattle.room.specs.Refusals.{shapeRefusal, serverRefusal, pairRefusal, endsRefusal, linkRefusal}
 use Rattle.room.specs.Answers.{serversAnswer, boundAnswer, digitsAnswer, digitAnswer, addressAnswer, switchAnswer, neighbourAnswer, betweenAnswer}
 use Rattle.room.specs.Wiring.{switchesAnswer, serverAtAnswer}
-use Rattle.links.specs.Servers.{serverAnswer}
-use Rattle.links.specs.Table.{failed, roomTableRefusal, TableOf, roomRefusal}
-use Rattle.links.specs.Answers.{failedAnswer, linkAnswer}
+use Rattle.links.specs.Table.{failed, roomTableRefusal, TableOf, roomRefusal, tableLinkRefusal, tableServerRefusal}
+use Rattle.links.specs.Answers.{failedAnswer}
+use Rattle.summary.specs.Answers.{linkAnswer, serverAnswer, deadAnswer, freshAnswer}
 use Rattle.path.specs.Bytes.{byteAnswer, partsAnswer}
 use Rattle.path.specs.Routes.{byteTo, switchAt, switchTo, switchesOf, Route, Prefix, RouteTo, Parallel, Encodes, levelOf, valueOf}
 use Rattle.path.specs.Walks.{hopTo}
@@ -34,6 +34,7 @@ use Rattle.pick.specs.Picks.{pickAnswer, arrayAt}
 use Rattle.pick.specs.Places.{placeAnswer}
 use Rattle.step.specs.Steps.{flagAt, stepAnswer}
 use Rattle.demands.specs.Tests.{Tests, _then_, Refused, Number, Whole, Exactly, Hold}
+use Rattle.demands.specs.Summaries.{switchTotal, EntryCounts, Summarizes}
 
 -- ---- shapes, servers, links, values, digits
 
@@ -85,6 +86,25 @@ tableLinkTests s t a l = linkTests s a l then (6, TableOf s t)
 
 abbrev pub tableServerTests : Shape → List ℕ → ℕ → Tests
 tableServerTests s t a = serverTests s a then (6, TableOf s t)
+
+-- and a summary: an entry for each switch, and that of the link's switch is the count
+abbrev pub countedLinkTests : Shape → List ℕ → List ℕ → ℕ → ℕ → Tests
+countedLinkTests s t c a l =
+    tableLinkTests s t a l then (30, (length c ≡ switchTotal s) × EntryCounts s t c a l)
+
+-- those of the server's switches at all levels
+abbrev pub countedServerTests : Shape → List ℕ → List ℕ → ℕ → Tests
+countedServerTests s t c a =
+    tableServerTests s t a
+    then (30, (length c ≡ switchTotal s) × ((l : ℕ) → l ≤ s .k → EntryCounts s t c a l))
+
+-- every entry
+abbrev pub summaryTests : Shape → List ℕ → List ℕ → Tests
+summaryTests s t c = tableTests s t then (30, Summarizes s t c)
+
+-- none of them
+abbrev pub entriesTests : Shape → List ℕ → List ℕ → Tests
+entriesTests s t c = tableTests s t then (30, length c ≡ switchTotal s)
 
 -- source and destination
 abbrev pub endsTests : Shape → ℕ → ℕ → Tests
@@ -281,8 +301,13 @@ pub record RefusedExactly : Type 0 where
   pub table-refusal : (s : Shape) (t : List ℕ) → Exactly (roomTableRefusal s t) (Number (tableTests s t))
   pub room-refusal : (s : Shape) (t : List ℕ) (a d : ℕ) → Exactly (roomRefusal s t a d) (Number (roomTests s t a d))
   pub failed-link : (s : Shape) (t : List ℕ) (a l : ℕ) → Exactly (failedAnswer s t a l .refusal) (Whole (tableLinkTests s t a l))
-  pub mark-or-clear : (s : Shape) (t : List ℕ) (a l : ℕ) → Exactly (linkAnswer s t a l) (Whole (tableLinkTests s t a l))
-  pub mark-or-clear-server : (s : Shape) (t : List ℕ) (a : ℕ) → Exactly (serverAnswer s t a) (Whole (tableServerTests s t a))
+  pub table-link-refusal : (s : Shape) (t : List ℕ) (a l : ℕ) → Exactly (tableLinkRefusal s t a l) (Number (tableLinkTests s t a l))
+  pub table-server-refusal : (s : Shape) (t : List ℕ) (a : ℕ) → Exactly (tableServerRefusal s t a) (Number (tableServerTests s t a))
+  -- summary
+  pub mark-or-clear : (s : Shape) (t c : List ℕ) (a l : ℕ) → Exactly (linkAnswer s t c a l) (Whole (countedLinkTests s t c a l))
+  pub mark-or-clear-server : (s : Shape) (t c : List ℕ) (a : ℕ) → Exactly (serverAnswer s t c a) (Whole (countedServerTests s t c a))
+  pub dead-switch : (s : Shape) (t c : List ℕ) → Exactly (deadAnswer s t c .refusal) (Whole (summaryTests s t c))
+  pub summarize : (s : Shape) (t c : List ℕ) → Exactly (freshAnswer s t c) (Whole (entriesTests s t c))
   -- path: a byte alone is hop 1 of route 1; plain reading and reversal are over the table with no bytes, in which no link is failed
   pub byte-of : (s : Shape) (l v : ℕ) → Exactly (byteAnswer s l v .refusal) (Whole (madeTests s l v))
   pub parts-of : (s : Shape) (b : ℕ) → Exactly (partsAnswer s b .refusal) (Refused plain (shapeTests s) (Refused (λ n. refusedAt n 1 1) (partsTests s b) (λ r. r ≡ none)))
@@ -311,6 +336,12 @@ pub record SpelledOut : Type 0 where
   -- a shape is refused with 26 exactly when n and k are as they must be, and m is not, however many servers it would give
   pub twenty-six : (s : Shape)
       → (shapeRefusal s ≡ 26) ↔ (Hold ((1, (2 ≤ s .n) × (s .n ≤ 64)) ∷ (2, s .k ≤ 3) ∷ []) × ((2 ≤ s .m) × (s .m ≤ s .n) → ⊥))
+  -- marking or clearing a link says 30 exactly when the link and the table are right, and the summary has not an entry for each switch or that of
+  -- the link's switch is not the count
+  pub thirty : (s : Shape) (t c : List ℕ) (a l : ℕ)
+      → (linkAnswer s t c a l ≡ plain 30) ↔ (Hold (tableLinkTests s t a l) × ((length c ≡ switchTotal s) × EntryCounts s t c a l → ⊥))
+  -- the question says it exactly when the shape and the table are right, and the summary, its length or some entry, is not
+  pub asked-thirty : (s : Shape) (t c : List ℕ) → (deadAnswer s t c .refusal ≡ plain 30) ↔ (Hold (tableTests s t) × (Summarizes s t c → ⊥))
   -- a check says 7 exactly when the tests of the room hold and the length of the list is not as it must be
   pub seven : (s : Shape) (t : List ℕ) (a d : ℕ) (bs : List ℕ)
       → (checkAnswer s t a d bs ≡ plain 7) ↔ (Hold (roomTests s t a d) × ((Arrays s bs × (1 ≤ length bs)) → ⊥))

@@ -56,14 +56,12 @@ use Rattle.room.proofs.ends_refusal.Reads as ends-refusal-reads
 use Rattle.room.proofs.ends_refusal.Kinds as ends-refusal-kinds
 use Rattle.room.proofs.switches_of.Reads as switches-of-reads
 use Rattle.room.proofs.switches_of.Kinds as switches-of-kinds
+use Rattle.room.proofs.side_at.Reads as side-at-reads
+use Rattle.room.proofs.side_at.Kinds as side-at-kinds
 use Rattle.room.proofs.server_at.Reads as server-at-reads
 use Rattle.room.proofs.server_at.Kinds as server-at-kinds
 use Rattle.links.proofs.failed_link.Reads as failed-link-reads
 use Rattle.links.proofs.failed_link.Kinds as failed-link-kinds
-use Rattle.links.proofs.mark_link.Reads as mark-link-reads
-use Rattle.links.proofs.mark_link.Kinds as mark-link-kinds
-use Rattle.links.proofs.clear_link.Reads as clear-link-reads
-use Rattle.links.proofs.clear_link.Kinds as clear-link-kinds
 use Rattle.links.proofs.mark.Reads as mark-reads
 use Rattle.links.proofs.mark.Kinds as mark-kinds
 use Rattle.links.proofs.clear.Reads as clear-reads
@@ -74,10 +72,24 @@ use Rattle.links.proofs.table_refusal.Reads as table-refusal-reads
 use Rattle.links.proofs.table_refusal.Kinds as table-refusal-kinds
 use Rattle.links.proofs.room_refusal.Reads as room-refusal-reads
 use Rattle.links.proofs.room_refusal.Kinds as room-refusal-kinds
-use Rattle.links.proofs.mark_server.Reads as mark-server-reads
-use Rattle.links.proofs.mark_server.Kinds as mark-server-kinds
-use Rattle.links.proofs.clear_server.Reads as clear-server-reads
-use Rattle.links.proofs.clear_server.Kinds as clear-server-kinds
+use Rattle.links.proofs.is_failed.Reads as is-failed-reads
+use Rattle.links.proofs.is_failed.Kinds as is-failed-kinds
+use Rattle.links.proofs.table_link_refusal.Reads as table-link-refusal-reads
+use Rattle.links.proofs.table_link_refusal.Kinds as table-link-refusal-kinds
+use Rattle.links.proofs.table_server_refusal.Reads as table-server-refusal-reads
+use Rattle.links.proofs.table_server_refusal.Kinds as table-server-refusal-kinds
+use Rattle.summary.proofs.mark_link.Reads as mark-link-reads
+use Rattle.summary.proofs.mark_link.Kinds as mark-link-kinds
+use Rattle.summary.proofs.clear_link.Reads as clear-link-reads
+use Rattle.summary.proofs.clear_link.Kinds as clear-link-kinds
+use Rattle.summary.proofs.mark_server.Reads as mark-server-reads
+use Rattle.summary.proofs.mark_server.Kinds as mark-server-kinds
+use Rattle.summary.proofs.clear_server.Reads as clear-server-reads
+use Rattle.summary.proofs.clear_server.Kinds as clear-server-kinds
+use Rattle.summary.proofs.dead_switch.Reads as dead-switch-reads
+use Rattle.summary.proofs.dead_switch.Kinds as dead-switch-kinds
+use Rattle.summary.proofs.summarize.Reads as summarize-reads
+use Rattle.summary.proofs.summarize.Kinds as summarize-kinds
 use Rattle.path.proofs.hop_of.Reads as hop-of-reads
 use Rattle.path.proofs.hop_of.Kinds as hop-of-kinds
 use Rattle.path.proofs.level_of.Reads as level-of-reads
@@ -130,10 +142,6 @@ use Rattle.driver.proofs.bcube_switches.Reads as c-switches-reads
 use Rattle.driver.proofs.bcube_switches.Kinds as c-switches-kinds
 use Rattle.driver.proofs.bcube_server_at.Reads as c-server-at-reads
 use Rattle.driver.proofs.bcube_server_at.Kinds as c-server-at-kinds
-use Rattle.driver.proofs.bcube_mark_server.Reads as c-mark-server-reads
-use Rattle.driver.proofs.bcube_mark_server.Kinds as c-mark-server-kinds
-use Rattle.driver.proofs.bcube_clear_server.Reads as c-clear-server-reads
-use Rattle.driver.proofs.bcube_clear_server.Kinds as c-clear-server-kinds
 use Rattle.driver.proofs.bcube_path_byte.Reads as c-path-byte-reads
 use Rattle.driver.proofs.bcube_path_byte.Kinds as c-path-byte-kinds
 use Rattle.driver.proofs.bcube_path_byte_parts.Reads as c-path-byte-parts-reads
@@ -160,12 +168,20 @@ use Rattle.driver.proofs.bcube_neighbour.Reads as c-neighbour-reads
 use Rattle.driver.proofs.bcube_neighbour.Kinds as c-neighbour-kinds
 use Rattle.driver.proofs.bcube_between.Reads as c-between-reads
 use Rattle.driver.proofs.bcube_between.Kinds as c-between-kinds
+use Rattle.driver.proofs.bcube_mark.Reads as c-mark-reads
+use Rattle.driver.proofs.bcube_mark.Kinds as c-mark-kinds
+use Rattle.driver.proofs.bcube_clear.Reads as c-clear-reads
+use Rattle.driver.proofs.bcube_clear.Kinds as c-clear-kinds
+use Rattle.driver.proofs.bcube_mark_all.Reads as c-mark-all-reads
+use Rattle.driver.proofs.bcube_mark_all.Kinds as c-mark-all-kinds
+use Rattle.driver.proofs.bcube_clear_all.Reads as c-clear-all-reads
+use Rattle.driver.proofs.bcube_clear_all.Kinds as c-clear-all-kinds
+use Rattle.driver.proofs.bcube_dead_switch.Reads as c-dead-switch-reads
+use Rattle.driver.proofs.bcube_dead_switch.Kinds as c-dead-switch-kinds
+use Rattle.driver.proofs.bcube_summarize.Reads as c-summarize-reads
+use Rattle.driver.proofs.bcube_summarize.Kinds as c-summarize-kinds
 use Rattle.driver.proofs.bcube_failed_link.Reads as c-failed-link-reads
 use Rattle.driver.proofs.bcube_failed_link.Kinds as c-failed-link-kinds
-use Rattle.driver.proofs.bcube_mark_link.Reads as c-mark-link-reads
-use Rattle.driver.proofs.bcube_mark_link.Kinds as c-mark-link-kinds
-use Rattle.driver.proofs.bcube_clear_link.Reads as c-clear-link-reads
-use Rattle.driver.proofs.bcube_clear_link.Kinds as c-clear-link-kinds
 use Rattle.driver.proofs.bcube_read.Reads as c-read-reads
 use Rattle.driver.proofs.bcube_read.Kinds as c-read-kinds
 use Rattle.driver.proofs.bcube_write.Reads as c-write-reads
@@ -212,21 +228,28 @@ pub record EveryInput : Type 0 where
   pub address-of : Takes 0 address-of-kinds.ps address-of-reads.Pre
   pub switch-of : Takes 0 switch-of-kinds.ps switch-of-reads.Pre
   pub side-of : Takes 0 side-of-kinds.ps side-of-reads.Pre
+  pub side-at : Takes 0 side-at-kinds.ps side-at-reads.Pre
   pub neighbour-of : Takes 0 neighbour-of-kinds.ps neighbour-of-reads.Pre
   pub level-between : Takes 0 level-between-kinds.ps level-between-reads.Pre
   pub switches-of : Takes 0 switches-of-kinds.ps switches-of-reads.Pre
   pub server-at : Takes 0 server-at-kinds.ps server-at-reads.Pre
   -- links
   pub failed-link : Takes 1 failed-link-kinds.ps failed-link-reads.Pre
-  pub mark-link : Takes 1 mark-link-kinds.ps mark-link-reads.Pre
-  pub clear-link : Takes 1 clear-link-kinds.ps clear-link-reads.Pre
   pub mark : Takes 1 mark-kinds.ps mark-reads.Pre
   pub clear : Takes 1 clear-kinds.ps clear-reads.Pre
   pub is-live : Takes 1 is-live-kinds.ps is-live-reads.Pre
   pub table-refusal : Takes 1 table-refusal-kinds.ps table-refusal-reads.Pre
   pub room-refusal : Takes 1 room-refusal-kinds.ps room-refusal-reads.Pre
-  pub mark-server : Takes 1 mark-server-kinds.ps mark-server-reads.Pre
-  pub clear-server : Takes 1 clear-server-kinds.ps clear-server-reads.Pre
+  pub is-failed : Takes 1 is-failed-kinds.ps is-failed-reads.Pre
+  pub table-link-refusal : Takes 1 table-link-refusal-kinds.ps table-link-refusal-reads.Pre
+  pub table-server-refusal : Takes 1 table-server-refusal-kinds.ps table-server-refusal-reads.Pre
+  -- summary
+  pub mark-link : Takes 2 mark-link-kinds.ps mark-link-reads.Pre
+  pub clear-link : Takes 2 clear-link-kinds.ps clear-link-reads.Pre
+  pub mark-server : Takes 2 mark-server-kinds.ps mark-server-reads.Pre
+  pub clear-server : Takes 2 clear-server-kinds.ps clear-server-reads.Pre
+  pub dead-switch : Takes 2 dead-switch-kinds.ps dead-switch-reads.Pre
+  pub summarize : Takes 2 summarize-kinds.ps summarize-reads.Pre
   -- path
   pub byte-of : Takes 0 byte-of-kinds.ps byte-of-reads.Pre
   pub parts-of : Takes 0 parts-of-kinds.ps parts-of-reads.Pre
@@ -264,8 +287,6 @@ pub record EveryInput : Type 0 where
   pub c-version : Takes 0 c-version-kinds.ps c-version-reads.Pre
   pub c-switches : Takes 0 c-switches-kinds.ps c-switches-reads.Pre
   pub c-server-at : Takes 0 c-server-at-kinds.ps c-server-at-reads.Pre
-  pub c-mark-server : Takes 1 c-mark-server-kinds.ps c-mark-server-reads.Pre
-  pub c-clear-server : Takes 1 c-clear-server-kinds.ps c-clear-server-reads.Pre
   pub c-path-byte : Takes 0 c-path-byte-kinds.ps c-path-byte-reads.Pre
   pub c-path-byte-parts : Takes 0 c-path-byte-parts-kinds.ps c-path-byte-parts-reads.Pre
   pub c-room-of : Takes 0 c-room-of-kinds.ps c-room-of-reads.Pre
@@ -280,8 +301,12 @@ pub record EveryInput : Type 0 where
   pub c-neighbour : Takes 0 c-neighbour-kinds.ps c-neighbour-reads.Pre
   pub c-between : Takes 0 c-between-kinds.ps c-between-reads.Pre
   pub c-failed-link : Takes 1 c-failed-link-kinds.ps c-failed-link-reads.Pre
-  pub c-mark-link : Takes 1 c-mark-link-kinds.ps c-mark-link-reads.Pre
-  pub c-clear-link : Takes 1 c-clear-link-kinds.ps c-clear-link-reads.Pre
+  pub c-mark : Takes 2 c-mark-kinds.ps c-mark-reads.Pre
+  pub c-clear : Takes 2 c-clear-kinds.ps c-clear-reads.Pre
+  pub c-mark-all : Takes 2 c-mark-all-kinds.ps c-mark-all-reads.Pre
+  pub c-clear-all : Takes 2 c-clear-all-kinds.ps c-clear-all-reads.Pre
+  pub c-dead-switch : Takes 2 c-dead-switch-kinds.ps c-dead-switch-reads.Pre
+  pub c-summarize : Takes 2 c-summarize-kinds.ps c-summarize-reads.Pre
   pub c-read : Takes 2 c-read-kinds.ps c-read-reads.Pre
   pub c-write : Takes 2 c-write-kinds.ps c-write-reads.Pre
   pub c-reverse : Takes 2 c-reverse-kinds.ps c-reverse-reads.Pre
@@ -316,29 +341,42 @@ pub record Uniqueness : Type 0 where
   pub address-of : Determined 0 address-of-kinds.ps address-of-kinds.r address-of-reads.Post
   pub switch-of : Determined 0 switch-of-kinds.ps switch-of-kinds.r switch-of-reads.Post
   pub side-of : Determined 0 side-of-kinds.ps side-of-kinds.r side-of-reads.Post
+  pub side-at : Determined 0 side-at-kinds.ps side-at-kinds.r side-at-reads.Post
   pub neighbour-of : Determined 0 neighbour-of-kinds.ps neighbour-of-kinds.r neighbour-of-reads.Post
   pub level-between : Determined 0 level-between-kinds.ps level-between-kinds.r level-between-reads.Post
   pub switches-of : Determined 0 switches-of-kinds.ps switches-of-kinds.r switches-of-reads.Post
   pub server-at : Determined 0 server-at-kinds.ps server-at-kinds.r server-at-reads.Post
   -- links
   pub failed-link : Determined 1 failed-link-kinds.ps failed-link-kinds.r failed-link-reads.Post
-  pub mark-link : Determined 1 mark-link-kinds.ps mark-link-kinds.r mark-link-reads.Post
-  -- and the bytes of the table that it leaves behind
-  pub mark-link-leaves : Leaves 1 mark-link-kinds.ps mark-link-kinds.r mark-link-reads.Post (λ κs s. now (s .1 .0))
-  pub clear-link : Determined 1 clear-link-kinds.ps clear-link-kinds.r clear-link-reads.Post
-  -- and the bytes of the table that it leaves behind
-  pub clear-link-leaves : Leaves 1 clear-link-kinds.ps clear-link-kinds.r clear-link-reads.Post (λ κs s. now (s .1 .0))
   pub mark : Leaves 1 mark-kinds.ps mark-kinds.r mark-reads.Post (λ κs s. now (s .0))
   pub clear : Leaves 1 clear-kinds.ps clear-kinds.r clear-reads.Post (λ κs s. now (s .0))
   pub is-live : Determined 1 is-live-kinds.ps is-live-kinds.r is-live-reads.Post
   pub table-refusal : Determined 1 table-refusal-kinds.ps table-refusal-kinds.r table-refusal-reads.Post
   pub room-refusal : Determined 1 room-refusal-kinds.ps room-refusal-kinds.r room-refusal-reads.Post
-  pub mark-server : Determined 1 mark-server-kinds.ps mark-server-kinds.r mark-server-reads.Post
-  -- and the bytes of the table that it leaves behind
-  pub mark-server-leaves : Leaves 1 mark-server-kinds.ps mark-server-kinds.r mark-server-reads.Post (λ κs s. now (s .1 .0))
-  pub clear-server : Determined 1 clear-server-kinds.ps clear-server-kinds.r clear-server-reads.Post
-  -- and the bytes of the table that it leaves behind
-  pub clear-server-leaves : Leaves 1 clear-server-kinds.ps clear-server-kinds.r clear-server-reads.Post (λ κs s. now (s .1 .0))
+  pub is-failed : Determined 1 is-failed-kinds.ps is-failed-kinds.r is-failed-reads.Post
+  pub table-link-refusal : Determined 1 table-link-refusal-kinds.ps table-link-refusal-kinds.r table-link-refusal-reads.Post
+  pub table-server-refusal : Determined 1 table-server-refusal-kinds.ps table-server-refusal-kinds.r table-server-refusal-reads.Post
+  -- summary
+  pub mark-link : Determined 2 mark-link-kinds.ps mark-link-kinds.r mark-link-reads.Post
+  -- and the bytes of the table and of the summary that it leaves behind
+  pub mark-link-leaves : Leaves 2 mark-link-kinds.ps mark-link-kinds.r mark-link-reads.Post (λ κs s. now (s .1 .0))
+  pub mark-link-leaves-summary : Leaves 2 mark-link-kinds.ps mark-link-kinds.r mark-link-reads.Post (λ κs s. now (s .1 .1 .0))
+  pub clear-link : Determined 2 clear-link-kinds.ps clear-link-kinds.r clear-link-reads.Post
+  -- and the bytes of the table and of the summary that it leaves behind
+  pub clear-link-leaves : Leaves 2 clear-link-kinds.ps clear-link-kinds.r clear-link-reads.Post (λ κs s. now (s .1 .0))
+  pub clear-link-leaves-summary : Leaves 2 clear-link-kinds.ps clear-link-kinds.r clear-link-reads.Post (λ κs s. now (s .1 .1 .0))
+  pub mark-server : Determined 2 mark-server-kinds.ps mark-server-kinds.r mark-server-reads.Post
+  -- and the bytes of the table and of the summary that it leaves behind
+  pub mark-server-leaves : Leaves 2 mark-server-kinds.ps mark-server-kinds.r mark-server-reads.Post (λ κs s. now (s .1 .0))
+  pub mark-server-leaves-summary : Leaves 2 mark-server-kinds.ps mark-server-kinds.r mark-server-reads.Post (λ κs s. now (s .1 .1 .0))
+  pub clear-server : Determined 2 clear-server-kinds.ps clear-server-kinds.r clear-server-reads.Post
+  -- and the bytes of the table and of the summary that it leaves behind
+  pub clear-server-leaves : Leaves 2 clear-server-kinds.ps clear-server-kinds.r clear-server-reads.Post (λ κs s. now (s .1 .0))
+  pub clear-server-leaves-summary : Leaves 2 clear-server-kinds.ps clear-server-kinds.r clear-server-reads.Post (λ κs s. now (s .1 .1 .0))
+  pub dead-switch : Determined 2 dead-switch-kinds.ps dead-switch-kinds.r dead-switch-reads.Post
+  pub summarize : Determined 2 summarize-kinds.ps summarize-kinds.r summarize-reads.Post
+  -- and the bytes of the summary that it leaves behind
+  pub summarize-leaves : Leaves 2 summarize-kinds.ps summarize-kinds.r summarize-reads.Post (λ κs s. now (s .1 .1 .0))
   -- path
   pub byte-of : Determined 0 byte-of-kinds.ps byte-of-kinds.r byte-of-reads.Post
   pub parts-of : Determined 0 parts-of-kinds.ps parts-of-kinds.r parts-of-reads.Post
@@ -379,12 +417,6 @@ pub record Uniqueness : Type 0 where
   pub c-version : Determined 0 c-version-kinds.ps c-version-kinds.r c-version-reads.Post
   pub c-switches : Determined 0 c-switches-kinds.ps c-switches-kinds.r c-switches-reads.Post
   pub c-server-at : Determined 0 c-server-at-kinds.ps c-server-at-kinds.r c-server-at-reads.Post
-  pub c-mark-server : Determined 1 c-mark-server-kinds.ps c-mark-server-kinds.r c-mark-server-reads.Post
-  -- and the buffer that it leaves behind
-  pub c-mark-server-leaves : Leaves 1 c-mark-server-kinds.ps c-mark-server-kinds.r c-mark-server-reads.Post (λ κs s. now (s .1 .1 .0))
-  pub c-clear-server : Determined 1 c-clear-server-kinds.ps c-clear-server-kinds.r c-clear-server-reads.Post
-  -- and the buffer that it leaves behind
-  pub c-clear-server-leaves : Leaves 1 c-clear-server-kinds.ps c-clear-server-kinds.r c-clear-server-reads.Post (λ κs s. now (s .1 .1 .0))
   pub c-path-byte : Determined 0 c-path-byte-kinds.ps c-path-byte-kinds.r c-path-byte-reads.Post
   pub c-path-byte-parts : Determined 0 c-path-byte-parts-kinds.ps c-path-byte-parts-kinds.r c-path-byte-parts-reads.Post
   pub c-room-of : Determined 0 c-room-of-kinds.ps c-room-of-kinds.r c-room-of-reads.Post
@@ -401,12 +433,26 @@ pub record Uniqueness : Type 0 where
   pub c-neighbour : Determined 0 c-neighbour-kinds.ps c-neighbour-kinds.r c-neighbour-reads.Post
   pub c-between : Determined 0 c-between-kinds.ps c-between-kinds.r c-between-reads.Post
   pub c-failed-link : Determined 1 c-failed-link-kinds.ps c-failed-link-kinds.r c-failed-link-reads.Post
-  pub c-mark-link : Determined 1 c-mark-link-kinds.ps c-mark-link-kinds.r c-mark-link-reads.Post
+  pub c-mark : Determined 2 c-mark-kinds.ps c-mark-kinds.r c-mark-reads.Post
+  -- and the two buffers that it leaves behind
+  pub c-mark-leaves : Leaves 2 c-mark-kinds.ps c-mark-kinds.r c-mark-reads.Post (λ κs s. now (s .1 .1 .1 .0))
+  pub c-mark-leaves-summary : Leaves 2 c-mark-kinds.ps c-mark-kinds.r c-mark-reads.Post (λ κs s. now (s .1 .1 .1 .1 .0))
+  pub c-clear : Determined 2 c-clear-kinds.ps c-clear-kinds.r c-clear-reads.Post
+  -- and the two buffers that it leaves behind
+  pub c-clear-leaves : Leaves 2 c-clear-kinds.ps c-clear-kinds.r c-clear-reads.Post (λ κs s. now (s .1 .1 .1 .0))
+  pub c-clear-leaves-summary : Leaves 2 c-clear-kinds.ps c-clear-kinds.r c-clear-reads.Post (λ κs s. now (s .1 .1 .1 .1 .0))
+  pub c-mark-all : Determined 2 c-mark-all-kinds.ps c-mark-all-kinds.r c-mark-all-reads.Post
+  -- and the two buffers that it leaves behind
+  pub c-mark-all-leaves : Leaves 2 c-mark-all-kinds.ps c-mark-all-kinds.r c-mark-all-reads.Post (λ κs s. now (s .1 .1 .0))
+  pub c-mark-all-leaves-summary : Leaves 2 c-mark-all-kinds.ps c-mark-all-kinds.r c-mark-all-reads.Post (λ κs s. now (s .1 .1 .1 .0))
+  pub c-clear-all : Determined 2 c-clear-all-kinds.ps c-clear-all-kinds.r c-clear-all-reads.Post
+  -- and the two buffers that it leaves behind
+  pub c-clear-all-leaves : Leaves 2 c-clear-all-kinds.ps c-clear-all-kinds.r c-clear-all-reads.Post (λ κs s. now (s .1 .1 .0))
+  pub c-clear-all-leaves-summary : Leaves 2 c-clear-all-kinds.ps c-clear-all-kinds.r c-clear-all-reads.Post (λ κs s. now (s .1 .1 .1 .0))
+  pub c-dead-switch : Determined 2 c-dead-switch-kinds.ps c-dead-switch-kinds.r c-dead-switch-reads.Post
+  pub c-summarize : Determined 2 c-summarize-kinds.ps c-summarize-kinds.r c-summarize-reads.Post
   -- and the buffer that it leaves behind
-  pub c-mark-link-leaves : Leaves 1 c-mark-link-kinds.ps c-mark-link-kinds.r c-mark-link-reads.Post (λ κs s. now (s .1 .1 .1 .0))
-  pub c-clear-link : Determined 1 c-clear-link-kinds.ps c-clear-link-kinds.r c-clear-link-reads.Post
-  -- and the buffer that it leaves behind
-  pub c-clear-link-leaves : Leaves 1 c-clear-link-kinds.ps c-clear-link-kinds.r c-clear-link-reads.Post (λ κs s. now (s .1 .1 .1 .0))
+  pub c-summarize-leaves : Leaves 2 c-summarize-kinds.ps c-summarize-kinds.r c-summarize-reads.Post (λ κs s. now (s .1 .1 .0))
   pub c-read : Determined 2 c-read-kinds.ps c-read-kinds.r c-read-reads.Post
   -- and the buffer that it leaves behind
   pub c-read-leaves : Leaves 2 c-read-kinds.ps c-read-kinds.r c-read-reads.Post (λ κs s. now (s .1 .1 .1 .1 .0))

@@ -28,9 +28,8 @@ use Rattle.room.proofs.RoomLaws.{bound-le, digit-lt, with-server, neighbours-ex
 use Rattle.room.proofs.WiringLaws.{port-of, port-server}
 use Rattle.links.specs.declared.Asked.{Asked}
 use Rattle.links.specs.Table.{failed, tableLinkRefusal}
-use Rattle.links.specs.Answers.{notAsked, asked, failedAnswer, linkAnswer}
-use Rattle.links.specs.Servers.{tableServerRefusal, serverAnswer}
-use Rattle.links.proofs.NumberLaws.{table-link-numbers, table-server-numbers}
+use Rattle.links.specs.Answers.{notAsked, asked, failedAnswer}
+use Rattle.links.proofs.NumberLaws.{table-link-numbers}
 use Rattle.driver.specs.declared.Answer.{Answer}
 use Rattle.driver.specs.Words.{word, Small, betweenWord, askedWord}
 use Rattle.driver.proofs.WordLaws.{none-small, plain-small, number-small}
@@ -197,16 +196,3 @@ pub live-said : (f : Shape → Asked) {s t : Shape} {x : Asked} {w : Answer} →
 unfolding askedWord
 live-said f {s} {t} {x} {w} h q e g =
     h ∙ ap (λ (b : Bool). word (x .refusal) (cond b 1 0)) (sym q) ∙ ap askedWord (e ∙ ap f g)
-
--- marking and clearing say the refusal alone
-link-at : (s : Shape) (t : List ℕ) (a l v : ℕ) → v < 4294967296 → Small (linkAnswer s t a l) v
-unfolding linkAnswer
-link-at s t a l v k = plain-with (tableLinkRefusal s t a l) v (one-le 255 refl (table-link-numbers s t a l)) k
-
-pub link-fits : (s : Shape) (t : List ℕ) (a l v : ℕ) {x : Refusal} → v < 4294967296 → x ≡ linkAnswer s t a l → Small x v
-link-fits s t a l v {x} k e = subst (λ (z : Refusal). Small z v) (sym e) (link-at s t a l v k)
-
--- and so do marking and clearing a whole server
-pub server-fits : (s : Shape) (t : List ℕ) (a : ℕ) {x : Refusal} → x ≡ serverAnswer s t a → Small x 0
-unfolding serverAnswer
-server-fits s t a {x} e = subst (λ (z : Refusal). Small z 0) (sym e) (plain-with (tableServerRefusal s t a) 0 (one-le 255 refl (table-server-numbers s t a)) (lit< tt))

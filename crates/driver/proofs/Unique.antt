@@ -5,7 +5,7 @@ use borrow.Fn.Kinds.{Dens, endedOf, resT}
 use denote.Triple.Clauses.{AtExit}
 use denote.Ref.{now}
 use contract.Lifetimes.{Lfts}
-use Rattle.refusals.specs.Determined.{Determined}
+use Rattle.refusals.specs.Determined.{Determined, Leaves}
 use Prim.Native.Nat.{ℕ}
 use mathlib.Core.List.{List}
 use Rattle.room.specs.declared.Shape.{Shape}
@@ -24,10 +24,6 @@ use Rattle.driver.proofs.paths.bcube_path_byte.Reads as bcube-path-byte
 use Rattle.driver.proofs.paths.bcube_path_byte.Kinds as bcube-path-byte-kinds
 use Rattle.driver.proofs.paths.bcube_path_byte_parts.Reads as bcube-path-byte-parts
 use Rattle.driver.proofs.paths.bcube_path_byte_parts.Kinds as bcube-path-byte-parts-kinds
-use Rattle.driver.proofs.marks.bcube_mark_server.Reads as bcube-mark-server
-use Rattle.driver.proofs.marks.bcube_mark_server.Kinds as bcube-mark-server-kinds
-use Rattle.driver.proofs.marks.bcube_clear_server.Reads as bcube-clear-server
-use Rattle.driver.proofs.marks.bcube_clear_server.Kinds as bcube-clear-server-kinds
 use Rattle.driver.proofs.shapes.bcube_version.Reads as bcube-version
 use Rattle.driver.proofs.shapes.bcube_version.Kinds as bcube-version-kinds
 use Rattle.driver.proofs.rooms.bcube_shape.Reads as bcube-shape
@@ -48,12 +44,20 @@ use Rattle.driver.proofs.rooms.bcube_neighbour.Reads as bcube-neighbour
 use Rattle.driver.proofs.rooms.bcube_neighbour.Kinds as bcube-neighbour-kinds
 use Rattle.driver.proofs.rooms.bcube_between.Reads as bcube-between
 use Rattle.driver.proofs.rooms.bcube_between.Kinds as bcube-between-kinds
+use Rattle.driver.proofs.marks.bcube_mark.Reads as bcube-mark
+use Rattle.driver.proofs.marks.bcube_mark.Kinds as bcube-mark-kinds
+use Rattle.driver.proofs.marks.bcube_clear.Reads as bcube-clear
+use Rattle.driver.proofs.marks.bcube_clear.Kinds as bcube-clear-kinds
+use Rattle.driver.proofs.marks.bcube_mark_all.Reads as bcube-mark-all
+use Rattle.driver.proofs.marks.bcube_mark_all.Kinds as bcube-mark-all-kinds
+use Rattle.driver.proofs.marks.bcube_clear_all.Reads as bcube-clear-all
+use Rattle.driver.proofs.marks.bcube_clear_all.Kinds as bcube-clear-all-kinds
+use Rattle.driver.proofs.switches.bcube_dead_switch.Reads as bcube-dead-switch
+use Rattle.driver.proofs.switches.bcube_dead_switch.Kinds as bcube-dead-switch-kinds
+use Rattle.driver.proofs.switches.bcube_summarize.Reads as bcube-summarize
+use Rattle.driver.proofs.switches.bcube_summarize.Kinds as bcube-summarize-kinds
 use Rattle.driver.proofs.marks.bcube_failed_link.Reads as bcube-failed-link
 use Rattle.driver.proofs.marks.bcube_failed_link.Kinds as bcube-failed-link-kinds
-use Rattle.driver.proofs.marks.bcube_mark_link.Reads as bcube-mark-link
-use Rattle.driver.proofs.marks.bcube_mark_link.Kinds as bcube-mark-link-kinds
-use Rattle.driver.proofs.marks.bcube_clear_link.Reads as bcube-clear-link
-use Rattle.driver.proofs.marks.bcube_clear_link.Kinds as bcube-clear-link-kinds
 use Rattle.driver.proofs.paths.bcube_read.Reads as bcube-read
 use Rattle.driver.proofs.paths.bcube_read.Kinds as bcube-read-kinds
 use Rattle.driver.proofs.paths.bcube_write.Reads as bcube-write
@@ -128,33 +132,55 @@ bcube-between-unique κs a x y s t e f = e ∙ sym f
 pub bcube-failed-link-unique : Determined 1 bcube-failed-link-kinds.ps bcube-failed-link-kinds.r bcube-failed-link.Post
 bcube-failed-link-unique κs a x y s t e f = e ∙ sym f
 
-pub bcube-mark-link-unique : Determined 1 bcube-mark-link-kinds.ps bcube-mark-link-kinds.r bcube-mark-link.Post
-bcube-mark-link-unique κs a x y s t e f = e .0 ∙ sym (f .0)
+pub bcube-mark-unique : Determined 2 bcube-mark-kinds.ps bcube-mark-kinds.r bcube-mark.Post
+bcube-mark-unique κs a x y s t e f = e .0 ∙ sym (f .0)
 
--- the bytes of the table at exit, its fourth parameter
-pub bcube-mark-link-leaves : (κs : Lfts 1) (a : Dens κs bcube-mark-link-kinds.ps) (x y : resT bcube-mark-link-kinds.r κs .Denot) (s t : AtExit (endedOf 1 bcube-mark-link-kinds.ps bcube-mark-link-kinds.r) κs) → bcube-mark-link.Post κs a x s → bcube-mark-link.Post κs a y t → now (s .1 .1 .1 .0) ≡ now (t .1 .1 .1 .0)
-bcube-mark-link-leaves κs a x y s t e f = e .1 ∙ sym (f .1)
+-- the bytes of the table at exit, its fourth parameter, and of the summary, its fifth
+pub bcube-mark-leaves : Leaves 2 bcube-mark-kinds.ps bcube-mark-kinds.r bcube-mark.Post (λ κs s. now (s .1 .1 .1 .0))
+bcube-mark-leaves κs a x y s t e f = e .1 ∙ sym (f .1)
 
-pub bcube-clear-link-unique : Determined 1 bcube-clear-link-kinds.ps bcube-clear-link-kinds.r bcube-clear-link.Post
-bcube-clear-link-unique κs a x y s t e f = e .0 ∙ sym (f .0)
+pub bcube-mark-leaves-summary : Leaves 2 bcube-mark-kinds.ps bcube-mark-kinds.r bcube-mark.Post (λ κs s. now (s .1 .1 .1 .1 .0))
+bcube-mark-leaves-summary κs a x y s t e f = e .2 ∙ sym (f .2)
 
--- the bytes of the table at exit, its fourth parameter
-pub bcube-clear-link-leaves : (κs : Lfts 1) (a : Dens κs bcube-clear-link-kinds.ps) (x y : resT bcube-clear-link-kinds.r κs .Denot) (s t : AtExit (endedOf 1 bcube-clear-link-kinds.ps bcube-clear-link-kinds.r) κs) → bcube-clear-link.Post κs a x s → bcube-clear-link.Post κs a y t → now (s .1 .1 .1 .0) ≡ now (t .1 .1 .1 .0)
-bcube-clear-link-leaves κs a x y s t e f = e .1 ∙ sym (f .1)
+pub bcube-clear-unique : Determined 2 bcube-clear-kinds.ps bcube-clear-kinds.r bcube-clear.Post
+bcube-clear-unique κs a x y s t e f = e .0 ∙ sym (f .0)
 
-pub bcube-mark-server-unique : Determined 1 bcube-mark-server-kinds.ps bcube-mark-server-kinds.r bcube-mark-server.Post
-bcube-mark-server-unique κs a x y s t e f = e .0 ∙ sym (f .0)
+-- the bytes of the table at exit, its fourth parameter, and of the summary, its fifth
+pub bcube-clear-leaves : Leaves 2 bcube-clear-kinds.ps bcube-clear-kinds.r bcube-clear.Post (λ κs s. now (s .1 .1 .1 .0))
+bcube-clear-leaves κs a x y s t e f = e .1 ∙ sym (f .1)
 
--- the bytes of the table at exit, its third parameter
-pub bcube-mark-server-leaves : (κs : Lfts 1) (a : Dens κs bcube-mark-server-kinds.ps) (x y : resT bcube-mark-server-kinds.r κs .Denot) (s t : AtExit (endedOf 1 bcube-mark-server-kinds.ps bcube-mark-server-kinds.r) κs) → bcube-mark-server.Post κs a x s → bcube-mark-server.Post κs a y t → now (s .1 .1 .0) ≡ now (t .1 .1 .0)
-bcube-mark-server-leaves κs a x y s t e f = e .1 ∙ sym (f .1)
+pub bcube-clear-leaves-summary : Leaves 2 bcube-clear-kinds.ps bcube-clear-kinds.r bcube-clear.Post (λ κs s. now (s .1 .1 .1 .1 .0))
+bcube-clear-leaves-summary κs a x y s t e f = e .2 ∙ sym (f .2)
 
-pub bcube-clear-server-unique : Determined 1 bcube-clear-server-kinds.ps bcube-clear-server-kinds.r bcube-clear-server.Post
-bcube-clear-server-unique κs a x y s t e f = e .0 ∙ sym (f .0)
+pub bcube-mark-all-unique : Determined 2 bcube-mark-all-kinds.ps bcube-mark-all-kinds.r bcube-mark-all.Post
+bcube-mark-all-unique κs a x y s t e f = e .0 ∙ sym (f .0)
 
--- the bytes of the table at exit, its third parameter
-pub bcube-clear-server-leaves : (κs : Lfts 1) (a : Dens κs bcube-clear-server-kinds.ps) (x y : resT bcube-clear-server-kinds.r κs .Denot) (s t : AtExit (endedOf 1 bcube-clear-server-kinds.ps bcube-clear-server-kinds.r) κs) → bcube-clear-server.Post κs a x s → bcube-clear-server.Post κs a y t → now (s .1 .1 .0) ≡ now (t .1 .1 .0)
-bcube-clear-server-leaves κs a x y s t e f = e .1 ∙ sym (f .1)
+-- the bytes of the table at exit, its third parameter, and of the summary, its fourth
+pub bcube-mark-all-leaves : Leaves 2 bcube-mark-all-kinds.ps bcube-mark-all-kinds.r bcube-mark-all.Post (λ κs s. now (s .1 .1 .0))
+bcube-mark-all-leaves κs a x y s t e f = e .1 ∙ sym (f .1)
+
+pub bcube-mark-all-leaves-summary : Leaves 2 bcube-mark-all-kinds.ps bcube-mark-all-kinds.r bcube-mark-all.Post (λ κs s. now (s .1 .1 .1 .0))
+bcube-mark-all-leaves-summary κs a x y s t e f = e .2 ∙ sym (f .2)
+
+pub bcube-clear-all-unique : Determined 2 bcube-clear-all-kinds.ps bcube-clear-all-kinds.r bcube-clear-all.Post
+bcube-clear-all-unique κs a x y s t e f = e .0 ∙ sym (f .0)
+
+-- the bytes of the table at exit, its third parameter, and of the summary, its fourth
+pub bcube-clear-all-leaves : Leaves 2 bcube-clear-all-kinds.ps bcube-clear-all-kinds.r bcube-clear-all.Post (λ κs s. now (s .1 .1 .0))
+bcube-clear-all-leaves κs a x y s t e f = e .1 ∙ sym (f .1)
+
+pub bcube-clear-all-leaves-summary : Leaves 2 bcube-clear-all-kinds.ps bcube-clear-all-kinds.r bcube-clear-all.Post (λ κs s. now (s .1 .1 .1 .0))
+bcube-clear-all-leaves-summary κs a x y s t e f = e .2 ∙ sym (f .2)
+
+pub bcube-dead-switch-unique : Determined 2 bcube-dead-switch-kinds.ps bcube-dead-switch-kinds.r bcube-dead-switch.Post
+bcube-dead-switch-unique κs a x y s t e f = e ∙ sym f
+
+pub bcube-summarize-unique : Determined 2 bcube-summarize-kinds.ps bcube-summarize-kinds.r bcube-summarize.Post
+bcube-summarize-unique κs a x y s t e f = e .0 ∙ sym (f .0)
+
+-- the bytes of the summary at exit, its third parameter
+pub bcube-summarize-leaves : Leaves 2 bcube-summarize-kinds.ps bcube-summarize-kinds.r bcube-summarize.Post (λ κs s. now (s .1 .1 .0))
+bcube-summarize-leaves κs a x y s t e f = e .1 ∙ sym (f .1)
 
 -- ---- path bytes and lists
 

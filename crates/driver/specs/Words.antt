@@ -8,6 +8,7 @@ use Rattle.room.specs.declared.Digits.{Digits}
 use Rattle.room.specs.declared.Switch.{Switch}
 use Rattle.room.specs.declared.Between.{Between}
 use Rattle.links.specs.declared.Asked.{Asked}
+use Rattle.summary.specs.declared.DeadSwitch.{DeadSwitch}
 use Rattle.path.specs.declared.Parts.{Parts}
 use Rattle.path.specs.declared.Reading.{Reading}
 use Rattle.path.specs.declared.Writing.{Writing}
@@ -61,6 +62,10 @@ betweenWord x = word (x .refusal) (cond (x .adjacent) (suc (x .level)) 0)
 -- 1 where the link is failed, else 0
 unfoldable pub askedWord : Asked → Answer
 askedWord x = word (x .refusal) (cond (x .failed) 1 0)
+
+-- a dead switch that is found: 1 in the highest of four bytes, its level in the next, and its number in the other two; else 0
+unfoldable pub deadWord : DeadSwitch → Answer
+deadWord x = word (x .refusal) (cond (x .found) (16777216 + 65536 * x .level + x .number) 0)
 
 -- the level of a path byte and its value
 abbrev pub partsWord : Parts → Answer

@@ -2,7 +2,7 @@
 // as a pointer and a length, an array as a pointer, a struct by value in one register or two; usize is
 // C's uint64_t. Every call takes every input: it answers, or refuses by number and leaves every buffer as
 // it was lent.
-// marks.rt: the failed-link table
+// marks.rt: the failed-link table, marked and cleared with its summary
 mod marks;
 // paths.rt: path bytes read, written and reversed, and lists checked
 mod paths;
@@ -16,14 +16,16 @@ mod routes;
 mod shapes;
 // steps.rt: one forwarding step
 mod steps;
+// switches.rt: the summary, asked and counted afresh
+mod switches;
 // words.rt: the result word
 mod words;
 
-pub use marks::bcube_clear_link;
-pub use marks::bcube_clear_server;
+pub use marks::bcube_clear;
+pub use marks::bcube_clear_all;
 pub use marks::bcube_failed_link;
-pub use marks::bcube_mark_link;
-pub use marks::bcube_mark_server;
+pub use marks::bcube_mark;
+pub use marks::bcube_mark_all;
 pub use paths::bcube_check;
 pub use paths::bcube_path_byte;
 pub use paths::bcube_path_byte_parts;
@@ -49,6 +51,8 @@ pub use shapes::bcube_filled_room;
 pub use shapes::bcube_room_of;
 pub use shapes::bcube_version;
 pub use steps::bcube_step;
+pub use switches::bcube_dead_switch;
+pub use switches::bcube_summarize;
 
 // A room, as the driver holds it: n plus 256 times k plus 65,536 times m. Whatever the number, a call
 // takes it.

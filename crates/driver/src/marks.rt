@@ -1,7 +1,8 @@
-// The failed-link table: one link asked for, marked, cleared; all links of a server marked, cleared.
+// The failed-link table and its summary: a link asked for, marked, cleared; all links of a server marked, cleared.
 ghost use mathlib.Core.Path.{_≡_};
-ghost use Rattle.links.specs.Answers.{failedAnswer, linkAnswer, markedTable, clearedTable};
-ghost use Rattle.links.specs.Servers.{serverAnswer, markedServer, clearedServer};
+ghost use mathlib.Core.Bool.{true, false};
+ghost use Rattle.links.specs.Answers.{failedAnswer};
+ghost use Rattle.summary.specs.Answers.{linkAnswer, linkTable, linkSummary, serverAnswer, serverTable, serverSummary};
 ghost use Rattle.driver.specs.Rooms.{shapeIn};
 ghost use Rattle.driver.specs.Words.{word, askedWord};
 use crate::Answer;
@@ -22,52 +23,66 @@ pub extern "C" fn bcube_failed_link(room: Room, server: usize, level: usize, tab
     result_word(answer.refusal, 0)
 }
 
-// Marks the link of a server at a level as failed. Refusals 1, 2, 26, 3, 4, 20, 6; the value is 0.
+// Marks the link of a server at a level as failed, and its switch counts it. Refusals 1, 2, 26, 3, 4, 20, 6, 30;
+// the value is 0.
 #[no_mangle]
-pub extern "C" fn bcube_mark_link(
+pub extern "C" fn bcube_mark(
     room: Room,
     server: usize,
     level: usize,
     table: &mut [u8],
+    summary: &mut [u8],
 ) -> Answer
-    ensures { λ r. ⌜ (r ≡ word (linkAnswer (shapeIn room) (now (table .entry)) server level) 0) × (now (table .exit) ≡ markedTable (shapeIn room) (now (table .entry)) server level) ⌝ }
+    ensures { λ r. ⌜ (r ≡ word (linkAnswer (shapeIn room) (now (table .entry)) (now (summary .entry)) server level) 0) × (now (table .exit) ≡ linkTable true (shapeIn room) (now (table .entry)) (now (summary .entry)) server level) × (now (summary .exit) ≡ linkSummary true (shapeIn room) (now (table .entry)) (now (summary .entry)) server level) ⌝ }
 {
     let shape = shape_in(room);
-    let refusal = links::mark_link(shape, table, server, level);
+    let refusal = summary::mark_link(shape, table, summary, server, level);
     result_word(refusal, 0)
 }
 
-// Clears the link of a server at a level. Refusals 1, 2, 26, 3, 4, 20, 6; the value is 0.
+// Clears the link of a server at a level, and its switch counts it no more. Refusals 1, 2, 26, 3, 4, 20, 6, 30;
+// the value is 0.
 #[no_mangle]
-pub extern "C" fn bcube_clear_link(
+pub extern "C" fn bcube_clear(
     room: Room,
     server: usize,
     level: usize,
     table: &mut [u8],
+    summary: &mut [u8],
 ) -> Answer
-    ensures { λ r. ⌜ (r ≡ word (linkAnswer (shapeIn room) (now (table .entry)) server level) 0) × (now (table .exit) ≡ clearedTable (shapeIn room) (now (table .entry)) server level) ⌝ }
+    ensures { λ r. ⌜ (r ≡ word (linkAnswer (shapeIn room) (now (table .entry)) (now (summary .entry)) server level) 0) × (now (table .exit) ≡ linkTable false (shapeIn room) (now (table .entry)) (now (summary .entry)) server level) × (now (summary .exit) ≡ linkSummary false (shapeIn room) (now (table .entry)) (now (summary .entry)) server level) ⌝ }
 {
     let shape = shape_in(room);
-    let refusal = links::clear_link(shape, table, server, level);
+    let refusal = summary::clear_link(shape, table, summary, server, level);
     result_word(refusal, 0)
 }
 
-// Marks all links of a server as failed. Refusals 1, 2, 26, 3, 4, 6; the value is 0.
+// Marks all links of a server as failed, and its switches count them. Refusals 1, 2, 26, 3, 4, 6, 30; the value is 0.
 #[no_mangle]
-pub extern "C" fn bcube_mark_server(room: Room, server: usize, table: &mut [u8]) -> Answer
-    ensures { λ r. ⌜ (r ≡ word (serverAnswer (shapeIn room) (now (table .entry)) server) 0) × (now (table .exit) ≡ markedServer (shapeIn room) (now (table .entry)) server) ⌝ }
+pub extern "C" fn bcube_mark_all(
+    room: Room,
+    server: usize,
+    table: &mut [u8],
+    summary: &mut [u8],
+) -> Answer
+    ensures { λ r. ⌜ (r ≡ word (serverAnswer (shapeIn room) (now (table .entry)) (now (summary .entry)) server) 0) × (now (table .exit) ≡ serverTable true (shapeIn room) (now (table .entry)) (now (summary .entry)) server) × (now (summary .exit) ≡ serverSummary true (shapeIn room) (now (table .entry)) (now (summary .entry)) server) ⌝ }
 {
     let shape = shape_in(room);
-    let refusal = links::mark_server(shape, table, server);
+    let refusal = summary::mark_server(shape, table, summary, server);
     result_word(refusal, 0)
 }
 
-// Clears all links of a server. Refusals 1, 2, 26, 3, 4, 6; the value is 0.
+// Clears all links of a server, and its switches count none of them. Refusals 1, 2, 26, 3, 4, 6, 30; the value is 0.
 #[no_mangle]
-pub extern "C" fn bcube_clear_server(room: Room, server: usize, table: &mut [u8]) -> Answer
-    ensures { λ r. ⌜ (r ≡ word (serverAnswer (shapeIn room) (now (table .entry)) server) 0) × (now (table .exit) ≡ clearedServer (shapeIn room) (now (table .entry)) server) ⌝ }
+pub extern "C" fn bcube_clear_all(
+    room: Room,
+    server: usize,
+    table: &mut [u8],
+    summary: &mut [u8],
+) -> Answer
+    ensures { λ r. ⌜ (r ≡ word (serverAnswer (shapeIn room) (now (table .entry)) (now (summary .entry)) server) 0) × (now (table .exit) ≡ serverTable false (shapeIn room) (now (table .entry)) (now (summary .entry)) server) × (now (summary .exit) ≡ serverSummary false (shapeIn room) (now (table .entry)) (now (summary .entry)) server) ⌝ }
 {
     let shape = shape_in(room);
-    let refusal = links::clear_server(shape, table, server);
+    let refusal = summary::clear_server(shape, table, summary, server);
     result_word(refusal, 0)
 }

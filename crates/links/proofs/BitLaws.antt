@@ -1,13 +1,13 @@
 -- Laws of the bits of a byte: what putting one does to it and to the others. b is what it is put to, true where it is set.
-use Prim.Native.Nat.{ℕ, zero, suc, _+_, _-_, _*_, _/_, _%_, _^_, _≤_, _<_}
+use Prim.Native.Nat.{ℕ, zero, suc, _+_, _-_, _*_, _/_, _%_, _^_, _≤_, _<_, suc-le-suc}
 use mathlib.Core.Path.{_≡_, refl, sym, ap, _∙_}
 use mathlib.Core.Logic.{_≢_, _⊎_, inl, inr, ⊎-elim}
 use mathlib.Core.Bool.{Bool, true, false, cond}
 use native.Mathlib.Omega.{arith}
-use native.Mathlib.Decide.{decLe}
+use native.Mathlib.Decide.{ℕ-discrete, decLe}
 use native.Mathlib.Nat.{mod-lt, pow-zero, pow-succ', div-one, div-eq-of-lt, pow-le-pow-right, le-of-suc-le-suc, lt-of-lt-of-le}
 use lib.Dec.{eqb, lit<}
-use borrow.Author.Tests.{eqb-true, eqb-false}
+use borrow.Author.Tests.{eq-eqb, eqb-true, eqb-false}
 use Rattle.room.proofs.DigitLaws.{low, high, rest-lt, rest-div}
 use Rattle.links.specs.Table.{bit, withBit}
 
@@ -135,3 +135,22 @@ put-again b c (suc l) x =
     ap (withBit c (suc l)) (put-suc b l x)
     ∙ put-suc c l (x % 2 + 2 * w)
     ∙ rw (low w (two x), high w (two x), put-again b c l (x / 2)) (sym (put-suc c l x))
+
+-- two numbers below 2^m with the same bits below m are the same
+low-same : (x y : ℕ) → eqb (x % 2) 1 ≡ eqb (y % 2) 1 → x % 2 ≡ y % 2
+low-same x y e =
+    elim (ℕ-discrete (x % 2) 1) [
+      | yes p ↦ p ∙ sym (eqb-true (y % 2) 1 (sym e ∙ eq-eqb (x % 2) 1 p))
+      | no p ↦ elim (ℕ-discrete (y % 2) 1) [
+        | yes q ↦ eqb-true (x % 2) 1 (e ∙ eq-eqb (y % 2) 1 q) ∙ sym q
+        | no q ↦ omega arith
+      ]
+    ]
+
+pub bits-same : (m x y : ℕ) → x < 2 ^ m → y < 2 ^ m → ((l : ℕ) → l < m → bit l x ≡ bit l y) → x ≡ y
+bits-same zero x y hx hy h = omega (arith, pow-zero 2)
+bits-same (suc m) x y hx hy h =
+    let low : x % 2 ≡ y % 2 = low-same x y (sym (bit-zero x) ∙ h 0 (omega arith) ∙ bit-zero y) in
+    let high : x / 2 ≡ y / 2 =
+    bits-same m (x / 2) (y / 2) (rest-lt 2 m x (lit< tt) hx) (rest-lt 2 m y (lit< tt) hy) (λ l k. sym (bit-suc l x) ∙ h (suc l) (suc-le-suc k) ∙ bit-suc l y) in
+    omega arith

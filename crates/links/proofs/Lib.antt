@@ -2,6 +2,4 @@ pub mod BitLaws
 pub mod TableLaws
 pub mod NumberLaws
 pub mod LinkLaws
-pub mod AnswerLaws
-pub mod ServerLaws
 pub mod Unique

@@ -17,14 +17,14 @@ use Rattle.refusals.specs.Refusals.{none, plain}
 use Rattle.refusals.proofs.AnswerLaws.{answer-refused, answer-given}
 use Rattle.room.specs.declared.Shape.{Shape}
 use Rattle.room.specs.Shapes.{serversOf, serverCount}
-use Rattle.room.specs.Refusals.{shapeRefusal, linkRefusal, endsRefusal}
+use Rattle.room.specs.Refusals.{shapeRefusal, serverRefusal, linkRefusal, endsRefusal}
 use Rattle.room.proofs.PowerLaws.{count-servers}
-use Rattle.room.proofs.RefusalLaws.{valid-of, valid-none, link-of, ends-of}
+use Rattle.room.proofs.RefusalLaws.{valid-of, valid-none, server-of, link-of, ends-of}
 use Rattle.links.specs.Table.{bit, failed, live, withBit, changed, changedIn, fitsLevels, bitsFit, tableRefusal, tableLinkRefusal}
 use Rattle.links.specs.declared.Asked.{Asked}
-use Rattle.links.specs.Answers.{notAsked, asked, failedAnswer, linkAnswer, changedTable}
+use Rattle.links.specs.Answers.{notAsked, asked, failedAnswer}
 use Rattle.links.proofs.BitLaws.{bit-none, bit-le, put-same, put-raised, put-lowered, put-lt}
-use Rattle.links.proofs.TableLaws.{table-link-of, changed-in, live-sender, live-receiver, live-exactly}
+use Rattle.links.proofs.TableLaws.{changed-in, live-sender, live-receiver, live-exactly}
 
 -- ---- bytes, where w is the weight of bit l, and b whether it is set
 
@@ -156,14 +156,17 @@ module _ (s : Shape) (t : List ℕ) (x : ℕ) (z : shapeRefusal s ≡ 0) (e : x 
 pub shape-levels : (s : Shape) → shapeRefusal s ≡ 0 → s .k ≤ 3
 shape-levels s z = valid-of s z .levels
 
--- where a link is not refused the shape is not, nor where two ends are not
+-- where a link is not refused the shape is not, nor where a server is not, nor two ends
 pub link-shape : (s : Shape) (a l r : ℕ) → r ≡ linkRefusal s a l → r ≡ 0 → shapeRefusal s ≡ 0
 link-shape s a l r e h = sym (valid-none (link-of s a l (sym e ∙ h) .server .valid))
+
+pub server-shape : (s : Shape) (a r : ℕ) → r ≡ serverRefusal s a → r ≡ 0 → shapeRefusal s ≡ 0
+server-shape s a r e h = sym (valid-none (server-of s a (sym e ∙ h) .valid))
 
 pub ends-shape : (s : Shape) (a d r : ℕ) → r ≡ endsRefusal s a d → r ≡ 0 → shapeRefusal s ≡ 0
 ends-shape s a d r e h = sym (valid-none (ends-of s a d (sym e ∙ h) .source .valid))
 
--- ---- links: r is what was found of the tests
+-- ---- a link asked for: r is what was found of the tests
 
 module _ (s : Shape) (t : List ℕ) (a l r : ℕ) (e : r ≡ tableLinkRefusal s t a l) where
   pub asked-refused : (x : Refusal) → x ≡ plain r → (r ≡ 0 → ⊥) → _≡_ {A = Asked} (record { refusal = x; failed = false }) (failedAnswer s t a l)
@@ -175,22 +178,3 @@ module _ (s : Shape) (t : List ℕ) (a l r : ℕ) (e : r ≡ tableLinkRefusal s 
   unfolding failedAnswer
   asked-given x b f h g =
       answer-given r _ notAsked _ (asked (failed t a l)) e h (ap₂ (λ (y : Refusal) (d : Bool). record { refusal = y; failed = d }) f g)
-
-  pub link-refused : (x : Refusal) → x ≡ plain r → x ≡ linkAnswer s t a l
-  unfolding linkAnswer
-  link-refused x f = f ∙ ap plain e
-
-  pub link-done : (x : Refusal) → x ≡ none → r ≡ 0 → x ≡ linkAnswer s t a l
-  unfolding linkAnswer
-  link-done x f h = f ∙ ap plain (sym h ∙ e)
-
-  -- the table keeps its bytes, or has its link changed
-  pub change-refused : (b : Bool) → (r ≡ 0 → ⊥) → t ≡ changedTable b s t a l
-  unfolding changedTable
-  change-refused b h = answer-refused r _ (λ (q : ℕ). t) t (changed b a l t) refl e h
-
-  pub change-made : (b : Bool) → r ≡ 0 → (u : List ℕ) → u ≡ changedIn b a l t → u ≡ changedTable b s t a l
-  unfolding changedTable
-  change-made b h u f =
-      let z = table-link-of s t a l (sym e ∙ h) in
-      answer-given r _ (λ (p : ℕ). t) u _ e h (f ∙ changed-in b a l t (omega (arith, z .0 .level, z .0 .server .valid .levels)))

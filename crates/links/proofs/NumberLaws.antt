@@ -9,8 +9,7 @@ use Rattle.refusals.proofs.NumberLaws.{test-one, chain-one}
 use Rattle.room.specs.declared.Shape.{Shape}
 use Rattle.room.specs.Shapes.{serversOf}
 use Rattle.room.proofs.NumberLaws.{shape-numbers, server-numbers, ends-numbers, link-numbers}
-use Rattle.links.specs.Table.{bitsFit, tableRefusal, tableNumbers, roomTableRefusal, roomTableNumbers, roomRefusal, roomNumbers, tableLinkRefusal, tableLinkNumbers}
-use Rattle.links.specs.Servers.{tableServerRefusal, tableServerNumbers}
+use Rattle.links.specs.Table.{bitsFit, tableRefusal, tableNumbers, roomTableRefusal, roomTableNumbers, roomRefusal, roomNumbers, tableLinkRefusal, tableLinkNumbers, tableServerRefusal, tableServerNumbers}
 
 module _ (s : Shape) (t : List ℕ) where
   pub table-numbers : OneOf tableNumbers (tableRefusal s t)

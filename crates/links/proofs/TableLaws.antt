@@ -9,16 +9,16 @@ use native.Mathlib.Decide.{ℕ-discrete}
 use native.Mathlib.Nat.{one-le-pow, lt-of-lt-of-le, pow-le-pow-right}
 use lib.Dec.{eqb, lit<}
 use lib.ListN.{length, getD, set, replicate, length-set, length-replicate}
-use lib.Seq.{getD-set-same, getD-set-other, set-getD}
+use lib.Seq.{getD-set-same, getD-set-other, set-getD, ext-getD}
 use borrow.Author.Tests.{lt-ltb, ltb-true, eq-eqb, eqb-true, not-true}
 use Rattle.lists.proofs.ListLaws.{both-held, same-at}
 use Rattle.refusals.proofs.ChainLaws.{or-else-zero, chain-goes, test-held}
 use Rattle.room.specs.declared.Shape.{Shape}
-use Rattle.room.specs.Shapes.{serversOf, Valid, Ends, Link}
-use Rattle.room.specs.Refusals.{shapeRefusal, linkRefusal, endsRefusal}
-use Rattle.room.proofs.RefusalLaws.{valid-of, valid-none, link-of, link-none, ends-of, ends-none}
-use Rattle.links.specs.Table.{bit, failed, live, withBit, changed, changedIn, marked, fitsLevels, bitsFit, tableRefusal, roomTableRefusal, roomRefusal, tableLinkRefusal, TableOf, Dead}
-use Rattle.links.proofs.BitLaws.{bit-none, put-same, put-bit, put-other, put-lt, put-again}
+use Rattle.room.specs.Shapes.{serversOf, Valid, Server, Ends, Link}
+use Rattle.room.specs.Refusals.{shapeRefusal, serverRefusal, linkRefusal, endsRefusal}
+use Rattle.room.proofs.RefusalLaws.{valid-of, valid-none, server-of, server-none, link-of, link-none, ends-of, ends-none}
+use Rattle.links.specs.Table.{bit, failed, live, withBit, changed, changedIn, fitsLevels, bitsFit, tableRefusal, roomTableRefusal, roomRefusal, tableLinkRefusal, tableServerRefusal, TableOf, Dead}
+use Rattle.links.proofs.BitLaws.{bit-none, put-same, put-bit, put-other, put-lt, put-again, bits-same}
 
 -- ---- one link changed: b is what it is changed to, true where it is marked
 
@@ -146,6 +146,14 @@ pub table-link-none : {s : Shape} {t : List ℕ} {a l : ℕ} → Link s a l → 
 unfolding tableLinkRefusal
 table-link-none h k = chain-goes _ _ _ _ (link-none h) refl (table-none k)
 
+pub table-server-of : (s : Shape) (t : List ℕ) (a : ℕ) → tableServerRefusal s t a ≡ 0 → Server s a × TableOf s t
+unfolding tableServerRefusal
+table-server-of s t a z = let p = or-else-zero (serverRefusal s a) (tableRefusal s t) z in (server-of s a (p .0), table-of s t (p .1))
+
+pub table-server-none : {s : Shape} {t : List ℕ} {a : ℕ} → Server s a → TableOf s t → 0 ≡ tableServerRefusal s t a
+unfolding tableServerRefusal
+table-server-none h k = chain-goes _ _ _ _ (server-none h) refl (table-none k)
+
 -- no bit above k is set
 pub table-above : {s : Shape} {t : List ℕ} → TableOf s t → (a l : ℕ) → s .k < l → failed t a l ≡ false
 unfolding failed
@@ -217,26 +225,44 @@ dead-from {s} {t} {a} h l b p = live-sender t l a b (h .all l p)
 pub dead-to : {s : Shape} {t : List ℕ} {a : ℕ} → Dead s t a → (l b : ℕ) → l ≤ s .k → live t l b a ≡ false
 dead-to {s} {t} {a} h l b p = live-receiver t l b a (h .all l p)
 
--- the links of server a at levels 0 to k, marked one after the other
-pub killed : ℕ → ℕ → List ℕ → List ℕ
-killed a zero t = marked a 0 t
-killed a (suc k) t = marked a (suc k) (killed a k t)
+-- ---- the links of server a at the levels below l, changed one after the other
 
-killed-long : (a k : ℕ) (t : List ℕ) → length (killed a k t) ≡ length t
-unfolding killed
-killed-long a zero t = changed-long true a 0 t
-killed-long a (suc k) t = changed-long true a (suc k) (killed a k t) ∙ killed-long a k t
+unfoldable pub changedBelow : Bool → ℕ → ℕ → List ℕ → List ℕ
+changedBelow b a zero t = t
+changedBelow b a (suc l) t = changed b a l (changedBelow b a l t)
 
-killed-failed : (a k l : ℕ) (t : List ℕ) → a < length t → l ≤ k → failed (killed a k t) a l ≡ true
-unfolding killed
-killed-failed a zero zero t h p = changed-own true a 0 t h
-killed-failed a zero (suc l) t h p = let z : ⊥ = omega arith in absurd z
-killed-failed a (suc k) l t h p =
-    elim (ℕ-discrete l (suc k)) [
-      | yes q ↦ ap (failed (marked a (suc k) (killed a k t)) a) q ∙ changed-own true a (suc k) (killed a k t) (omega (arith, killed-long a k t))
-      | no q ↦ changed-stays true a (suc k) a l (killed a k t) (killed-failed a k l t h (omega (arith, q)))
-    ]
+module _ (b : Bool) (a : ℕ) (t : List ℕ) where
+  pub below-long : (l : ℕ) → length (changedBelow b a l t) ≡ length t
+  unfolding changedBelow
+  below-long zero = refl
+  below-long (suc l) = changed-long b a l (changedBelow b a l t) ∙ below-long l
 
--- marking all its links makes a server dead
-pub killed-dead : (s : Shape) (a : ℕ) (t : List ℕ) → a < length t → Dead s (killed a (s .k) t) a
-killed-dead s a t h = record { all = λ l p. killed-failed a (s .k) l t h p }
+  pub below-own : a < length t → (l m : ℕ) → m < l → failed (changedBelow b a l t) a m ≡ b
+  unfolding changedBelow
+  below-own h zero m p = let z : ⊥ = omega arith in absurd z
+  below-own h (suc l) m p =
+      elim (ℕ-discrete m l) [
+        | yes q ↦ ap (failed (changed b a l (changedBelow b a l t)) a) q ∙ changed-own b a l (changedBelow b a l t) (omega (arith, below-long l))
+        | no q ↦ changed-stays b a l a m (changedBelow b a l t) (below-own h l m (omega (arith, q)))
+      ]
+
+  pub below-other : (l c m : ℕ) → (c ≡ a → m < l → ⊥) → failed (changedBelow b a l t) c m ≡ failed t c m
+  unfolding changedBelow
+  below-other zero c m h = refl
+  below-other (suc l) c m h =
+      changed-other b a l c m (changedBelow b a l t) (λ e q. h e (omega arith)) ∙ below-other l c m (λ e p. h e (omega arith))
+
+  pub below-table : {s : Shape} → TableOf s t → (l : ℕ) → l ≤ suc (s .k) → TableOf s (changedBelow b a l t)
+  unfolding changedBelow
+  below-table k zero h = k
+  below-table {s} k (suc l) h = changed-table b (below-table k l (omega arith)) a l (omega arith)
+
+-- ---- one table
+
+-- two tables of a room with the same links failed are the same
+pub one-table : {s : Shape} {t u : List ℕ} → Valid s → TableOf s t → TableOf s u → ((x l : ℕ) → Link s x l → failed t x l ≡ failed u x l) → t ≡ u
+unfolding failed
+one-table {s} {t} {u} v p q h =
+    ext-getD 0 t u (p .long ∙ sym (q .long))
+    (λ x k. bits-same (suc (s .k)) (getD t x 0) (getD u x 0) (fits-lt (s .k) _ (p .fits x)) (fits-lt (s .k) _ (q .fits x))
+    (λ l m. h x l (record { server = record { valid = v; below = omega (arith, p .long) }; level = omega arith })))

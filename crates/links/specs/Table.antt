@@ -8,7 +8,7 @@ use lib.ListN.{length, getD, set}
 use Rattle.refusals.specs.Refusals.{_or-else_, _unless_}
 use Rattle.room.specs.declared.Shape.{Shape}
 use Rattle.room.specs.Shapes.{serversOf}
-use Rattle.room.specs.Refusals.{shapeRefusal, shapeNumbers, linkRefusal, linkNumbers, endsRefusal, endsNumbers}
+use Rattle.room.specs.Refusals.{shapeRefusal, shapeNumbers, serverRefusal, serverNumbers, linkRefusal, linkNumbers, endsRefusal, endsNumbers}
 
 -- whether bit l of a byte is set
 unfoldable pub bit : ℕ → ℕ → Bool
@@ -35,9 +35,6 @@ changed b a l t = set t a (withBit b l (getD t a 0))
 
 abbrev pub marked : ℕ → ℕ → List ℕ → List ℕ
 marked a l t = changed true a l t
-
-abbrev pub cleared : ℕ → ℕ → List ℕ → List ℕ
-cleared a l t = changed false a l t
 
 -- the same with no test: past the end of a table there is no byte, and a byte has no bit of level 8 or more
 unfoldable pub changedIn : Bool → ℕ → ℕ → List ℕ → List ℕ
@@ -92,3 +89,10 @@ tableLinkRefusal s t a l = linkRefusal s a l or-else tableRefusal s t
 
 abbrev pub tableLinkNumbers : List ℕ
 tableLinkNumbers = linkNumbers ++ tableNumbers
+
+-- one server of a table
+unfoldable pub tableServerRefusal : Shape → List ℕ → ℕ → ℕ
+tableServerRefusal s t a = serverRefusal s a or-else tableRefusal s t
+
+abbrev pub tableServerNumbers : List ℕ
+tableServerNumbers = serverNumbers ++ tableNumbers

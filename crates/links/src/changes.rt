@@ -1,4 +1,5 @@
-// One link of a failed-link table changed, with no test of a room.
+// One link of a failed-link table changed, with no test of a room. No summary follows: a table that has one is changed by
+// `summary`.
 ghost use mathlib.Core.Path.{_≡_};
 ghost use mathlib.Core.Bool.{true, false};
 ghost use Rattle.links.specs.Table.{changedIn};

@@ -2,17 +2,19 @@
 ghost use Prim.Native.Nat.{_≤_};
 ghost use mathlib.Core.Path.{_≡_};
 ghost use Rattle.room.specs.Refusals.{shapeRefusal};
-ghost use Rattle.links.specs.Table.{failed, live, bitsFit, tableRefusal, roomTableRefusal, roomRefusal};
+ghost use Rattle.links.specs.Table.{failed, live, bitsFit, tableRefusal, roomTableRefusal, roomRefusal, tableLinkRefusal, tableServerRefusal};
 use crate::bits::has_bit;
 use crate::bits::weight;
 use refusals::Refusal;
 use room::Shape;
 use room::ends_refusal;
+use room::link_refusal;
 use room::server_count;
+use room::server_refusal;
 use room::shape_refusal;
 
 // Whether the link of a server is failed; past the table's end none is.
-pub(crate) fn is_failed(table: &[u8], server: usize, level: usize) -> bool
+pub fn is_failed(table: &[u8], server: usize, level: usize) -> bool
     ensures { λ r. ⌜ r ≡ failed (now (table .entry)) server level ⌝ }
 {
     if server < table.len() {
@@ -53,7 +55,7 @@ fn bits_fit(k: usize, table: &[u8]) -> bool
 }
 
 // 6 where a table is none of this room, or 0.
-pub(crate) fn own_refusal(shape: Shape, table: &[u8]) -> usize
+fn own_refusal(shape: Shape, table: &[u8]) -> usize
     requires { ⌜ shapeRefusal shape ≡ 0 ⌝ }
     ensures { λ r. ⌜ r ≡ tableRefusal shape (now (table .entry)) ⌝ }
 {
@@ -82,6 +84,28 @@ pub fn room_refusal(shape: Shape, table: &[u8], source: usize, destination: usiz
     ensures { λ r. ⌜ r ≡ roomRefusal shape (now (table .entry)) source destination ⌝ }
 {
     let r = ends_refusal(shape, source, destination);
+    if r != 0 {
+        return r;
+    }
+    own_refusal(shape, table)
+}
+
+// The first of 1, 2, 26, 3, 4, 20, 6 that refuses a link of a table, or 0.
+pub fn table_link_refusal(shape: Shape, table: &[u8], server: usize, level: usize) -> usize
+    ensures { λ r. ⌜ r ≡ tableLinkRefusal shape (now (table .entry)) server level ⌝ }
+{
+    let r = link_refusal(shape, server, level);
+    if r != 0 {
+        return r;
+    }
+    own_refusal(shape, table)
+}
+
+// The first of 1, 2, 26, 3, 4, 6 that refuses a server of a table, or 0.
+pub fn table_server_refusal(shape: Shape, table: &[u8], server: usize) -> usize
+    ensures { λ r. ⌜ r ≡ tableServerRefusal shape (now (table .entry)) server ⌝ }
+{
+    let r = server_refusal(shape, server);
     if r != 0 {
         return r;
     }

@@ -1,1 +1,2 @@
 pub mod ListLaws
+pub mod ListCounts

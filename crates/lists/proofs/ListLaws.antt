@@ -1,7 +1,7 @@
 -- Laws of lists: one place at a time, what is in them, what stands in them once or in two of them, elements in turn, the middle, and lists in a
 -- fixed number of places.
 use Prim.Native.Nat.{ℕ, zero, suc, _+_, _-_, _≤_, _<_, zero-le, suc-le-suc}
-use mathlib.Core.Path.{_≡_, refl, sym, ap, _∙_}
+use mathlib.Core.Path.{_≡_, refl, sym, ap, ap₂, _∙_}
 use mathlib.Core.Logic.{_≢_, _↔_}
 use mathlib.Core.Bool.{Bool, true, false, false≢true, _&&_}
 use mathlib.Core.List.{List, [], _∷_, _++_, map, reverse, reverse-append, reverse-cons}
@@ -11,8 +11,9 @@ use native.Mathlib.Omega.{arith}
 use native.Mathlib.Decide.{ℕ-discrete}
 use lib.ListN.{length, getD, set, take, drop, replicate, length-append, length-drop, length-replicate, length-reverse, drop-of-length-le, take-append-drop, List·getD-append, List·getD-eq-default}
 use lib.Seq.{ext-getD, getD-append-seam, getD-append-add, getD-take, getD-drop, take-append-seam, length-take-le, take-suc, take-suc-set, drop-cons, drop-drop, drop-set-lt}
-use borrow.Author.Tests.{eq-eqb, ne-eqb}
-use Rattle.lists.specs.Lists.{isIn, Once, Apart, inTurn, middle, filled, downFrom}
+use lib.Dec.{eqb}
+use borrow.Author.Tests.{eq-eqb, ne-eqb, eqb-true}
+use Rattle.lists.specs.Lists.{isIn, same, Once, Apart, inTurn, middle, filled, downFrom}
 
 -- ---- one place at a time
 
@@ -134,6 +135,35 @@ missing-in x (y ∷ ys) m =
 -- and is not in it exactly when it stands at no place
 pub missing-exactly : (x : ℕ) (xs : List ℕ) → (isIn x xs ≡ false) ↔ Missing x xs
 missing-exactly x xs = (in-missing x xs, missing-in x xs)
+
+-- ---- two lists that are the same
+
+pub same-self : (xs : List ℕ) → same xs xs ≡ true
+unfolding same
+same-self [] = refl
+same-self (x ∷ xs) = rw (eq-eqb x x refl) (same-self xs)
+
+pub same-true : (xs ys : List ℕ) → same xs ys ≡ true → xs ≡ ys
+unfolding same
+same-true [] [] e = refl
+same-true [] (y ∷ ys) e = absurd (false≢true e)
+same-true (x ∷ xs) [] e = absurd (false≢true e)
+same-true (x ∷ xs) (y ∷ ys) e =
+    let p = both-held (eqb x y) (same xs ys) e in ap₂ (λ (z : ℕ) (zs : List ℕ). z ∷ zs) (eqb-true x y (p .0)) (same-true xs ys (p .1))
+
+-- place by place: xs as long as ys, and what is compared is left from place i on
+module _ (xs ys : List ℕ) (e : length xs ≡ length ys) (i : ℕ) where
+  pub same-on : i < length xs → getD xs i 0 ≡ getD ys i 0 → same (drop i xs) (drop i ys) ≡ same (drop (i + 1) xs) (drop (i + 1) ys)
+  unfolding same
+  same-on h q = rw (left xs i 0 h, left ys i 0 (omega arith), eq-eqb (getD xs i 0) (getD ys i 0) q)
+
+  pub same-not : i < length xs → (getD xs i 0 ≡ getD ys i 0 → ⊥) → same (drop i xs) (drop i ys) ≡ false
+  unfolding same
+  same-not h q = rw (left xs i 0 h, left ys i 0 (omega arith), ne-eqb (getD xs i 0) (getD ys i 0) q)
+
+  pub same-end : length xs ≤ i → same (drop i xs) (drop i ys) ≡ true
+  unfolding same
+  same-end h = let g : length ys ≤ i = omega arith in rw (drop-of-length-le xs h, drop-of-length-le ys g)
 
 -- what each element passes, x passes where it is among them
 pub every-at : (f : ℕ → Bool) (xs : List ℕ) (x : ℕ) → every f xs ≡ true → isIn x xs ≡ true → f x ≡ true

@@ -2,7 +2,7 @@
 use Prim.Native.Nat.{ℕ, zero, suc, _-_, _<_}
 use mathlib.Core.Logic.{_≢_}
 use mathlib.Core.List.{List, [], _∷_, _++_}
-use mathlib.Core.Bool.{Bool, false, _||_}
+use mathlib.Core.Bool.{Bool, true, false, _&&_, _||_}
 use lib.Dec.{eqb}
 use lib.ListN.{length, getD, take, drop, replicate}
 
@@ -10,6 +10,13 @@ use lib.ListN.{length, getD, take, drop, replicate}
 unfoldable pub isIn : ℕ → List ℕ → Bool
 isIn x [] = false
 isIn x (y ∷ ys) = eqb x y || isIn x ys
+
+-- whether two lists are the same
+unfoldable pub same : List ℕ → List ℕ → Bool
+same [] [] = true
+same [] (y ∷ ys) = false
+same (x ∷ xs) [] = false
+same (x ∷ xs) (y ∷ ys) = eqb x y && same xs ys
 
 -- nothing stands in the list twice
 pub record Once (xs : List ℕ) : Type 0 where

@@ -65,6 +65,17 @@ module _ (x y : ℕ) (rest : Bool) where
   pub below-holds : x < y → (t : Bool) → t ≡ rest → t ≡ (ltb x y && rest)
   below-holds h t e = rw (lt-ltb x y h) e
 
+-- two tests, the second asked where the first holds
+module _ (r : ℕ) (t u q : Bool) (e : t ≡ u) where
+  pub first-failed : t ≡ false → r ≡ r unless (u && q)
+  first-failed h = rw (← e, h)
+
+  pub second-failed : t ≡ true → (v : Bool) → v ≡ q → v ≡ false → r ≡ r unless (u && q)
+  second-failed h v f g = rw (← e, h, ← f, g)
+
+  pub both-passed : t ≡ true → (v : Bool) → v ≡ q → v ≡ true → 0 ≡ r unless (u && q)
+  both-passed h v f g = rw (← e, h, ← f, g)
+
 -- a test that two numbers are the same, or not
 module _ (r x y : ℕ) where
   pub same-refused : x ≡ y → r ≡ r unless not (eqb x y)

@@ -84,6 +84,9 @@ impl Refusal {
     // m is below 2 or above n.
     pub const FILL: usize = 26;
 
+    // A summary has not an entry for each switch, or an entry is not what the failed-link table counts.
+    pub const SUMMARY: usize = 30;
+
     // No refusal.
     pub fn none() -> Self
         ensures { λ r. ⌜ r ≡ none ⌝ }

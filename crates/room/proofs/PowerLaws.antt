@@ -1,5 +1,5 @@
 -- Powers of n and the number of servers, as a program computes them with no test of a shape.
-use Prim.Native.Nat.{ℕ, zero, suc, _*_, _%_, _^_, _≤_, _<_}
+use Prim.Native.Nat.{ℕ, zero, suc, _+_, _*_, _%_, _^_, _≤_, _<_}
 use mathlib.Core.Path.{_≡_, sym, ap, _∙_}
 use mathlib.Core.Logic.{_≢_, _⊎_, inl, inr, ⊎-elim}
 use mathlib.Core.Bool.{Bool, true, false, cond}
@@ -12,7 +12,7 @@ use mir.Val.{Fits}
 use borrow.Author.Tests.{le-leb, lt-leb}
 use Rattle.room.specs.declared.Shape.{Shape}
 use Rattle.room.specs.Shapes.{serversOf, powerOf, serverCount, Valid}
-use Rattle.room.proofs.DigitLaws.{pow-small, power-one, power-two, power-three}
+use Rattle.room.proofs.DigitLaws.{pow-small, next-power, power-one, power-two, power-three}
 
 -- ---- the limits
 
@@ -45,6 +45,14 @@ power-cases n l =
 
 pub power-some : (n l : ℕ) → powerOf n l ≢ 0 → 1 ≤ n
 power-some n l h = ⊎-elim (λ p. p .0) (λ z. absurd (h (sym z))) (power-cases n l)
+
+-- p is the power that a program found, and some: once more by n it still fits
+pub power-on : (n l p : ℕ) → p ≡ powerOf n l → p ≢ 0 → p * n ≤ 16777216
+power-on n l p e h =
+    ⊎-elim
+    (λ g. omega (arith, next-power n l p (e ∙ power-within n l (g .0) (g .1) (g .2)), pow-small n (l + 1) (g .1) (omega arith)))
+    (λ z. absurd (h (e ∙ sym z)))
+    (power-cases n l)
 
 -- ---- as the program makes it
 

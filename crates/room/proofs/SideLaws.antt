@@ -4,20 +4,22 @@ use Prim.Native.Nat.{ℕ, _+_, _-_, _*_, _/_, _%_, _^_, _≤_, _<_}
 use mathlib.Core.Path.{_≡_, refl, sym, ap, _∙_}
 use mathlib.Core.Logic.{_≢_}
 use native.Mathlib.Omega.{arith}
-use native.Mathlib.Nat.{mod-add-div, mod-le, mul-add, mul-comm, mul-le-mul-left}
+use native.Mathlib.Nat.{mod-add-div, mod-le, div-le-self, mul-add, mul-assoc, mul-comm, mul-le-mul, mul-le-mul-left}
 use mir.Syntax.{w64}
 use mir.Val.{Fits}
-use borrow.Author.Tests.{ne-eqb}
+use borrow.Author.Tests.{ne-eqb, le-leb, lt-leb}
 use Rattle.room.specs.declared.Shape.{Shape}
 use Rattle.room.specs.declared.Side.{Side}
 use Rattle.room.specs.Shapes.{serversOf, bound, powerOf, Link, Value}
 use Rattle.room.specs.Addresses.{digit, withDigit}
 use Rattle.room.specs.Refusals.{linkRefusal, valueRefusal}
-use Rattle.room.specs.Sides.{sideBy, sideOf}
+use Rattle.room.specs.Sides.{noSide, sideBy, sideOf, sideFrom, sideAt}
+use Rattle.room.specs.Wiring.{serverAt, Port}
 use Rattle.room.proofs.DigitLaws.{pow-small}
-use Rattle.room.proofs.PowerLaws.{power-within, power-some}
+use Rattle.room.proofs.PowerLaws.{power-within, power-some, power-on}
 use Rattle.room.proofs.RefusalLaws.{link-of, value-of}
-use Rattle.room.proofs.RoomLaws.{positive, bound-le, bound-two, with-closed-at, with-server, digit-closed-at, weight-pos}
+use Rattle.room.proofs.RoomLaws.{positive, bound-le, bound-two, switches-small, with-closed-at, with-server, digit-closed-at, weight-pos}
+use Rattle.room.proofs.WiringLaws.{port-closed, port-power}
 
 -- what is taken off is there
 pub own-le : (a p n : ℕ) → a / p % n * p ≤ a
@@ -46,9 +48,9 @@ moved {s} {a} {l} {v} h p e =
 -- ---- the servers at a switch, as the program makes them: p is the power that it found
 
 module _ (s : Shape) (a l p : ℕ) (e : p ≡ powerOf (s .n) l) where
-  pub side-none : p ≡ 0 → record { first = 0; stride = 0; count = 0 } ≡ sideOf s a l
+  pub side-none : p ≡ 0 → (x : Side) → x ≡ noSide → x ≡ sideOf s a l
   unfolding sideOf
-  side-none z = rw (← e, z)
+  side-none z x f = f ∙ rw (← e, z)
 
   -- some power: n is not 0
   pub side-ports : p ≢ 0 → 0 < s .n
@@ -57,6 +59,34 @@ module _ (s : Shape) (a l p : ℕ) (e : p ≡ powerOf (s .n) l) where
   pub side-made : p ≢ 0 → (m : ℕ) → m ≡ bound s l → record { first = a - a / p % s .n * p; stride = p; count = m } ≡ sideOf s a l
   unfolding sideOf
   side-made n m f = rw (← e, ne-eqb p 0 n, f)
+
+-- the same by the number of the switch
+module _ (s : Shape) (l w p : ℕ) (e : p ≡ powerOf (s .n) l) where
+  pub number-none : p ≡ 0 → (x : Side) → x ≡ noSide → x ≡ sideAt s l w
+  unfolding sideAt
+  number-none z x f = f ∙ rw (← e, z)
+
+  pub number-past : p ≢ 0 → 4096 ≤ w → (x : Side) → x ≡ noSide → x ≡ sideAt s l w
+  unfolding sideAt
+  number-past n h x f = f ∙ rw (← e, ne-eqb p 0 n, le-leb 4096 w h)
+
+  module _ (n : p ≢ 0) (h : w < 4096) where
+    pub block-fits : Fits w64 (p * s .n)
+    block-fits = omega (arith, power-on (s .n) l p e n)
+
+    pub above-fits : Fits w64 (p * s .n * (w / p))
+    above-fits =
+        let q : w / p ≤ 4096 = omega (arith, div-le-self w p) in
+        omega (arith, mul-le-mul (power-on (s .n) l p e n) q)
+
+    pub number-fits : Fits w64 (w % p + p * s .n * (w / p))
+    number-fits =
+        let q : w / p ≤ 4096 = omega (arith, div-le-self w p) in
+        omega (arith, mul-le-mul (power-on (s .n) l p e n) q, mod-le w p)
+
+    pub number-made : (m : ℕ) → m ≡ bound s l → record { first = w % p + p * s .n * (w / p); stride = p; count = m } ≡ sideAt s l w
+    unfolding sideAt
+    number-made m f = rw (← e, ne-eqb p 0 n, lt-leb 4096 w h, f)
 
 -- ---- the servers at the switch of a link
 
@@ -114,3 +144,27 @@ module _ (s : Shape) (a l v : ℕ) (z : valueRefusal s a l v ≡ 0) (x : Side) (
 
   pub stride-fits : Fits w64 (v * x .stride)
   stride-fits = omega (arith, set-fits)
+
+-- ---- the servers at a switch by its number
+
+module _ {s : Shape} {l w v : ℕ} (h : Port s l w v) where
+  number-is : sideAt s l w ≡ sideFrom s l w (s .n ^ l)
+  unfolding sideAt
+  number-is =
+      let z = weight-pos (h .valid) l (s .n ^ l) refl in
+      let f : w < 4096 = omega (arith, h .switch, switches-small (h .valid) l) in
+      rw (← port-power h (powerOf (s .n) l) refl) (rw (ne-eqb (powerOf (s .n) l) 0 (λ q. omega (arith, port-power h (powerOf (s .n) l) refl)), lt-leb 4096 w f))
+
+  -- the one at port v
+  pub number-reach : sideAt s l w .first + v * sideAt s l w .stride ≡ serverAt s l w v
+  number-reach =
+      let p = s .n ^ l in
+      let q = w / p in
+      ap (λ (x : Side). x .first + v * x .stride) number-is
+      ∙ omega (arith, port-closed h p refl, mul-add p v (s .n * q), mul-comm v p, mul-assoc p (s .n) q)
+
+  pub number-count : sideAt s l w .count ≡ bound s l
+  number-count = ap (λ (x : Side). x .count) number-is
+
+  pub number-stride : sideAt s l w .stride ≡ s .n ^ l
+  number-stride = ap (λ (x : Side). x .stride) number-is

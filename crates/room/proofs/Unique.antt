@@ -37,6 +37,8 @@ use Rattle.room.proofs.wiring.server_at.Reads as server-at
 use Rattle.room.proofs.wiring.server_at.Kinds as server-at-kinds
 use Rattle.room.proofs.switches.switch_of.Reads as switch-of
 use Rattle.room.proofs.switches.switch_of.Kinds as switch-of-kinds
+use Rattle.room.proofs.sides.side_at.Reads as side-at
+use Rattle.room.proofs.sides.side_at.Kinds as side-at-kinds
 use Rattle.room.proofs.sides.side_of.Reads as side-of
 use Rattle.room.proofs.sides.side_of.Kinds as side-of-kinds
 use Rattle.room.proofs.neighbours.neighbour_of.Reads as neighbour-of
@@ -91,6 +93,9 @@ address-of-unique κs a x y s t e f = e ∙ sym f
 
 pub switch-of-unique : Determined 0 switch-of-kinds.ps switch-of-kinds.r switch-of.Post
 switch-of-unique κs a x y s t e f = e ∙ sym f
+
+pub side-at-unique : Determined 0 side-at-kinds.ps side-at-kinds.r side-at.Post
+side-at-unique κs a x y s t e f = e ∙ sym f
 
 pub side-of-unique : Determined 0 side-of-kinds.ps side-of-kinds.r side-of.Post
 side-of-unique κs a x y s t e f = e ∙ sym f

@@ -32,6 +32,7 @@ pub use neighbours::neighbour_of;
 pub use shapes::digit_bound;
 pub use shapes::power;
 pub use shapes::server_count;
+pub use sides::side_at;
 pub use sides::side_of;
 pub use switches::switch_of;
 pub use tests::ends_refusal;

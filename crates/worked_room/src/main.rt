@@ -23,7 +23,7 @@ fn main() {
     halves::switches();
     halves::ports();
     halves::neighbours();
-    tables::marks();
+    tables::asked();
     tables::refusals();
     tables::half_filled();
 }

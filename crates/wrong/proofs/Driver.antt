@@ -8,7 +8,7 @@ use native.Mathlib.Omega.{arith}
 use native.Mathlib.Decide.{ℕ-discrete}
 use lib.Dec.{eqb}
 use lib.ListN.{length, getD, take}
-use Rattle.lists.specs.Lists.{filled, isIn, inTurn, middle}
+use Rattle.lists.specs.Lists.{filled, isIn, same, inTurn, middle}
 use Rattle.refusals.specs.declared.Refusal.{Refusal}
 use Rattle.refusals.specs.Refusals.{plain, _or-else_}
 use Rattle.room.specs.declared.Shape.{Shape}
@@ -19,10 +19,12 @@ use Rattle.room.specs.Refusals.{shapeRefusal, levelRefusal, serverRefusal, pair
 use Rattle.room.specs.Answers.{serversAnswer, boundAnswer, digitsAnswer, digitAnswer, addressAnswer, switchAnswer, neighbourAnswer, betweenAnswer}
 use Rattle.room.specs.Wiring.{serverAt, portRefusal, switchesAnswer, serverAtAnswer}
 use Rattle.links.specs.Table as links
-use Rattle.links.specs.Answers.{failedAnswer, linkAnswer, changedTable}
-use Rattle.links.specs.Servers.{tableServerRefusal, allBits, serverAnswer, markedServer, clearedServer}
+use Rattle.links.specs.Table.{roomRefusal}
+use Rattle.links.specs.Answers.{failedAnswer}
 use Rattle.links.proofs.TableLaws.{dead-to}
-use Rattle.links.specs.Table.{roomRefusal, changed}
+use Rattle.summary.specs.Counts.{numbered, switchesBelow, switchesIn as switchesInRoom, placeOf, countBelow, countAt, summaryOf, isDead, recounted, recountedBelow}
+use Rattle.summary.specs.Refusals.{hasEntries, isCounted, areCounted, countedLinkRefusal, countedServerRefusal, summaryRefusal, entriesRefusal}
+use Rattle.summary.specs.Answers.{linkAnswer, linkTable, linkSummary, allBits, changedServer, serverAnswer, serverTable, serverSummary, firstDead, deadAnswer, freshAnswer, freshSummary}
 use Rattle.path.specs.Routes.{byteOf, switchAt, levelTo, switchTo, byteTo, encode, RouteTo}
 use Rattle.path.specs.Walks.{stopped, arrived, hopTo, hopRefusal, fault, ended, walkFrom, walk, writeFault, writeFrom}
 use Rattle.path.specs.Bytes.{madeRefusal, byteAnswer, partsRefusal, partsAnswer}
@@ -44,7 +46,7 @@ use Rattle.driver.specs.declared.Room.{Room}
 use Rattle.driver.specs.declared.Answer.{Answer}
 use Rattle.driver.specs.declared.Stepped.{Stepped}
 use Rattle.driver.specs.Rooms.{held, roomOf, shapeIn}
-use Rattle.driver.specs.Words.{word, refusalIn, valueIn, left, betweenWord, askedWord}
+use Rattle.driver.specs.Words.{word, refusalIn, valueIn, left, betweenWord, askedWord, deadWord}
 use Rattle.driver.specs.Packed.{bytesNumber, macNumber, stepWord, packed}
 use Rattle.driver.specs.Routes.{FoundWord, SelectedWord}
 use Rattle.driver.proofs.WordLaws.{refusal-back, value-back, left-given, left-lent}
@@ -168,7 +170,7 @@ refused-16 {r} h z =
 -- ---- all of them
 
 pub wrong-driver : (o q b : Loan) → Driver o q b
-unfolding serversOf bound digitsOf addressOf filled differFrom digits digit withDigit switchOf differing _or-else_ shapeRefusal levelRefusal serverRefusal pairRefusal linkRefusal valueRefusal placeBound placesFit placesRefusal serversAnswer boundAnswer digitsAnswer digitAnswer addressAnswer switchAnswer neighbourAnswer betweenAnswer links.bit links.failed links.live links.withBit links.changed links.bitsFit links.fitsLevels links.tableRefusal links.tableLinkRefusal failedAnswer linkAnswer changedTable isIn inTurn middle byteOf switchAt levelTo switchTo byteTo encode hopTo hopRefusal fault ended walkFrom walk writeFault writeFrom endsRefusal arrayRefusal walkAnswer readAnswer reverseAnswer serversRefusal writeRefusal onTheWay writeAnswer arrays disjoint switchesIn between parallel firstStop firstMeeting firstOf firstPair roomRefusal listRefusal walksOf checkAnswer plusOne builtHops builtBytesOf builtBytes builtArrays joined setOf arrayIn buildAnswer hopBytes usable firstUsable firstUsableIn found fits listsRefusal pickSource pickRefusal placeAnswer entry macAt portAt flagAt givenRefusal byteRefusal awayRefusal stepRefusal atHop withPlace stepAnswer switchesAt serverAt portRefusal switchesAnswer serverAtAnswer tableServerRefusal allBits serverAnswer markedServer clearedServer madeRefusal byteAnswer partsRefusal partsAnswer held roomOf shapeIn word refusalIn valueIn betweenWord askedWord bytesNumber macNumber stepWord packed
+unfolding serversOf bound digitsOf addressOf filled differFrom digits digit withDigit switchOf differing _or-else_ shapeRefusal levelRefusal serverRefusal pairRefusal linkRefusal valueRefusal placeBound placesFit placesRefusal serversAnswer boundAnswer digitsAnswer digitAnswer addressAnswer switchAnswer neighbourAnswer betweenAnswer links.bit links.failed links.live links.withBit links.changed links.bitsFit links.fitsLevels links.tableRefusal links.roomTableRefusal links.tableLinkRefusal links.tableServerRefusal failedAnswer numbered switchesBelow switchesInRoom placeOf countBelow countAt summaryOf isDead recounted recountedBelow hasEntries isCounted areCounted countedLinkRefusal countedServerRefusal summaryRefusal entriesRefusal linkAnswer linkTable linkSummary allBits changedServer serverAnswer serverTable serverSummary firstDead deadAnswer freshAnswer freshSummary same isIn inTurn middle byteOf switchAt levelTo switchTo byteTo encode hopTo hopRefusal fault ended walkFrom walk writeFault writeFrom endsRefusal arrayRefusal walkAnswer readAnswer reverseAnswer serversRefusal writeRefusal onTheWay writeAnswer arrays disjoint switchesIn between parallel firstStop firstMeeting firstOf firstPair roomRefusal listRefusal walksOf checkAnswer plusOne builtHops builtBytesOf builtBytes builtArrays joined setOf arrayIn buildAnswer hopBytes usable firstUsable firstUsableIn found fits listsRefusal pickSource pickRefusal placeAnswer entry macAt portAt flagAt givenRefusal byteRefusal awayRefusal stepRefusal atHop withPlace stepAnswer switchesAt serverAt portRefusal switchesAnswer serverAtAnswer madeRefusal byteAnswer partsRefusal partsAnswer held roomOf shapeIn word refusalIn valueIn betweenWord askedWord deadWord bytesNumber macNumber stepWord packed
 wrong-driver o q b =
     record {
       version-in-bytes = clash (λ y. y) refl;
@@ -267,32 +269,104 @@ wrong-driver o q b =
       failed-in-full-table = clash said refl;
       marked-above-k = λ κ x p. differ said refl (p .0);
       mark-counted = λ κ x p. differ said refl (p .0);
+      mark-count-told = λ κ x p. differ said refl (p .0);
+      mark-level-cut = λ κ x p. differ said refl (p .0);
+      mark-summary-before-table = λ κ x p. differ said refl (p .0);
+      mark-long-summary = λ κ x p. differ said refl (p .0);
+      mark-entry-not-tested = λ κ x p. differ said refl (p .0);
+      mark-elsewhere-tested = λ κ x p. differ said refl (p .0);
+      mark-m-servers-counted = λ κ x p. differ said refl (p .0);
       marks-nothing = λ κ r x p. clash-left 3 refl (p .1);
       mark-server-and-level-exchanged = λ κ r x p. clash-left 0 refl (p .1);
       mark-touched = λ κ r x p. clash-left 3 refl (p .1);
+      mark-table-touched = λ κ r x p. clash-left 5 refl (p .1);
       marked-in-full-table = λ κ r x p. clash-left 8 refl (p .1);
+      mark-not-counted = λ κ r x p. clash-left 3 refl (p .2);
+      mark-counted-twice = λ κ r x p. clash-left 3 refl (p .2);
+      mark-place-by-power = λ κ r x p. clash-left 3 refl (p .2);
+      mark-elsewhere-corrected = λ κ r x p. clash-left 0 refl (p .2);
+      mark-summary-touched = λ κ r x p. clash-left 3 refl (p .2);
       cleared-above-k = λ κ x p. differ said refl (p .0);
       clear-level-before-address = λ κ x p. differ said refl (p .0);
+      clear-summary-before-table = λ κ x p. differ said refl (p .0);
+      clear-long-summary = λ κ x p. differ said refl (p .0);
+      clear-entry-not-tested = λ κ x p. differ said refl (p .0);
+      clear-elsewhere-tested = λ κ x p. differ said refl (p .0);
       clears-all = λ κ r x p. clash-left 3 refl (p .1);
       clears-level-k = λ κ r x p. clash-left 3 refl (p .1);
       clear-touched = λ κ r x p. clash-left 3 refl (p .1);
+      clear-table-touched = λ κ r x p. clash-left 5 refl (p .1);
       cleared-in-full-table = λ κ r x p. clash-left 8 refl (p .1);
-      mark-server-n = λ κ x p. differ said refl (p .0);
-      mark-server-table-before-address = λ κ x p. differ said refl (p .0);
-      mark-server-cut = λ κ x p. differ said refl (p .0);
+      clearing-not-counted = λ κ r x p. clash-left 3 refl (p .2);
+      clear-unmarked-subtracted = λ κ r x p. clash-left 3 refl (p .2);
+      clear-place-by-power = λ κ r x p. clash-left 3 refl (p .2);
+      clear-elsewhere-corrected = λ κ r x p. clash-left 0 refl (p .2);
+      clear-summary-touched = λ κ r x p. clash-left 3 refl (p .2);
+      mark-all-n = λ κ x p. differ said refl (p .0);
+      mark-all-table-before-address = λ κ x p. differ said refl (p .0);
+      mark-all-cut = λ κ x p. differ said refl (p .0);
+      mark-all-summary-before-table = λ κ x p. differ said refl (p .0);
+      mark-all-long-summary = λ κ x p. differ said refl (p .0);
+      mark-all-level-k-not-tested = λ κ x p. differ said refl (p .0);
+      mark-all-entry-not-tested = λ κ x p. differ said refl (p .0);
+      mark-all-elsewhere-tested = λ κ x p. differ said refl (p .0);
       marks-no-server = λ κ r x p. clash-left 3 refl (p .1);
       marks-one-link = λ κ r x p. clash-left 3 refl (p .1);
       marks-whole-byte = λ κ r x p. clash-left 3 refl (p .1);
-      mark-server-touched = λ κ r x p. clash-left 3 refl (p .1);
+      mark-all-touched = λ κ r x p. clash-left 3 refl (p .1);
+      mark-all-table-touched = λ κ r x p. clash-left 5 refl (p .1);
       server-marked-in-full-table = λ κ r x p. clash-left 8 refl (p .1);
-      clear-server-n = λ κ x p. differ said refl (p .0);
-      clear-server-table-before-address = λ κ x p. differ said refl (p .0);
-      clear-server-counted = λ κ x p. differ said refl (p .0);
+      mark-all-level-0-alone = λ κ r x p. clash-left 3 refl (p .2);
+      mark-all-counted-twice = λ κ r x p. clash-left 1 refl (p .2);
+      mark-all-place-by-power = λ κ r x p. clash-left 3 refl (p .2);
+      mark-all-elsewhere-corrected = λ κ r x p. clash-left 0 refl (p .2);
+      mark-all-summary-touched = λ κ r x p. clash-left 1 refl (p .2);
+      clear-all-n = λ κ x p. differ said refl (p .0);
+      clear-all-table-before-address = λ κ x p. differ said refl (p .0);
+      clear-all-counted = λ κ x p. differ said refl (p .0);
+      clear-all-summary-before-table = λ κ x p. differ said refl (p .0);
+      clear-all-long-summary = λ κ x p. differ said refl (p .0);
+      clear-all-level-k-not-tested = λ κ x p. differ said refl (p .0);
+      clear-all-entry-not-tested = λ κ x p. differ said refl (p .0);
+      clear-all-elsewhere-tested = λ κ x p. differ said refl (p .0);
       clears-no-server = λ κ r x p. clash-left 3 refl (p .1);
       clears-one-link = λ κ r x p. clash-left 3 refl (p .1);
       clears-whole-table = λ κ r x p. clash-left 7 refl (p .1);
-      clear-server-touched = λ κ r x p. clash-left 3 refl (p .1);
+      clear-all-touched = λ κ r x p. clash-left 3 refl (p .1);
+      clear-all-table-touched = λ κ r x p. clash-left 5 refl (p .1);
       server-cleared-in-full-table = λ κ r x p. clash-left 8 refl (p .1);
+      clear-all-level-0-alone = λ κ r x p. clash-left 3 refl (p .2);
+      clear-all-unmarked-subtracted = λ κ r x p. clash-left 3 refl (p .2);
+      clear-all-place-by-power = λ κ r x p. clash-left 3 refl (p .2);
+      clear-all-elsewhere-corrected = λ κ r x p. clash-left 0 refl (p .2);
+      clear-all-summary-touched = λ κ r x p. clash-left 1 refl (p .2);
+      dead-first-as-0 = clash said refl;
+      dead-none-as-first = clash said refl;
+      dead-not-said-found = clash said refl;
+      dead-level-and-number-exchanged = clash said refl;
+      dead-place-for-number = clash said refl;
+      dead-level-by-power = clash said refl;
+      dead-n-for-m = clash said refl;
+      dead-m-for-n = clash said refl;
+      dead-later-given = clash said refl;
+      dead-higher-level-first = clash said refl;
+      dead-over-wrong-entries = clash said refl;
+      dead-tested-to-the-first = clash said refl;
+      dead-summary-before-table = clash said refl;
+      dead-long-summary = clash said refl;
+      dead-beside-refusal = clash said refl;
+      dead-full-table = clash said refl;
+      fresh-old-entries-tested = λ κ x p. differ said refl (p .0);
+      fresh-marks-told = λ κ x p. differ said refl (p .0);
+      fresh-summary-before-table = λ κ x p. differ said refl (p .0);
+      fresh-long-summary = λ κ x p. differ said refl (p .0);
+      fresh-not-written = λ κ r x p. clash-left 0 refl (p .1);
+      fresh-added = λ κ r x p. clash-left 3 refl (p .1);
+      fresh-other-level = λ κ r x p. clash-left 1 refl (p .1);
+      fresh-place-by-power = λ κ r x p. clash-left 3 refl (p .1);
+      fresh-m-servers = λ κ r x p. clash-left 0 refl (p .1);
+      fresh-touched = λ κ r x p. clash-left 0 refl (p .1);
+      fresh-touched-by-table = λ κ r x p. clash-left 0 refl (p .1);
       path-byte-position-low = clash said refl;
       path-byte-level-and-value-exchanged = clash said refl;
       path-byte-value-not-bounded = clash said refl;

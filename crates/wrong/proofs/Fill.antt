@@ -23,9 +23,11 @@ use Rattle.room.specs.Answers.{serversAnswer, boundAnswer, digitsAnswer, digitA
 use Rattle.room.specs.Wiring.{serverAt, portRefusal, switchesAnswer, serverAtAnswer}
 use Rattle.links.specs.declared.Asked.{Asked}
 use Rattle.links.specs.Table as links
-use Rattle.links.specs.Answers.{failedAnswer, linkAnswer}
-use Rattle.links.specs.Servers.{tableServerRefusal, serverAnswer}
 use Rattle.links.specs.Table.{roomRefusal}
+use Rattle.links.specs.Answers.{failedAnswer}
+use Rattle.summary.specs.declared.DeadSwitch.{DeadSwitch}
+use Rattle.summary.specs.Refusals.{countedLinkRefusal, countedServerRefusal, summaryRefusal, entriesRefusal}
+use Rattle.summary.specs.Answers.{linkAnswer, serverAnswer, deadAnswer, freshAnswer}
 use Rattle.path.specs.declared.Parts.{Parts}
 use Rattle.path.specs.declared.Hop.{Hop}
 use Rattle.path.specs.declared.Walked.{Walked}
@@ -53,7 +55,7 @@ use Rattle.step.specs.Steps.{givenRefusal, stepRefusal, atHop, withPlace, stepA
 use Rattle.driver.specs.declared.Answer.{Answer}
 use Rattle.driver.specs.declared.Stepped.{Stepped}
 use Rattle.driver.specs.Rooms.{held, roomOf, shapeIn}
-use Rattle.driver.specs.Words.{word, refusalIn, numberWord, digitsWord, switchWord, partsWord, readingWord, writingWord, buildingWord, placeWord, betweenWord, askedWord}
+use Rattle.driver.specs.Words.{word, refusalIn, numberWord, digitsWord, switchWord, partsWord, readingWord, writingWord, buildingWord, placeWord, betweenWord, askedWord, deadWord}
 use Rattle.driver.specs.Packed.{stepWord, packed, stepIn, unpacked}
 use Rattle.wrong.specs.Never.{Loan}
 use Rattle.wrong.specs.Examples.{array}
@@ -98,7 +100,7 @@ abbrev said : Answer → ℕ
 said y = refusalIn y .number
 
 pub wrong-fill : (o q b : Loan) → Fill o q b
-unfolding serversOf bound digitsOf addressOf filled differFrom digits digit withDigit switchOf differing _or-else_ shapeRefusal levelRefusal serverRefusal pairRefusal linkRefusal valueRefusal placeBound placesFit placesRefusal serversAnswer boundAnswer digitsAnswer digitAnswer addressAnswer switchAnswer neighbourAnswer betweenAnswer links.bit links.failed links.live links.tableRefusal links.tableLinkRefusal links.roomTableRefusal failedAnswer linkAnswer isIn byteOf hopTo hopRefusal fault ended walkFrom walk writeFault writeFrom endsRefusal hopAnswer arrayRefusal walkAnswer readAnswer reverseAnswer serversRefusal writeRefusal onTheWay writeAnswer roomRefusal listRefusal checkAnswer builtArrays setOf buildAnswer listsRefusal pickSource pickRefusal placeAnswer givenRefusal stepRefusal atHop withPlace stepAnswer switchesAt serverAt portRefusal switchesAnswer serverAtAnswer tableServerRefusal serverAnswer madeRefusal byteAnswer partsRefusal partsAnswer held roomOf shapeIn word refusalIn betweenWord askedWord stepWord packed layRefusal pickAnswer stepIn unpacked
+unfolding serversOf bound digitsOf addressOf filled differFrom digits digit withDigit switchOf differing _or-else_ shapeRefusal levelRefusal serverRefusal pairRefusal linkRefusal valueRefusal placeBound placesFit placesRefusal serversAnswer boundAnswer digitsAnswer digitAnswer addressAnswer switchAnswer neighbourAnswer betweenAnswer links.bit links.failed links.live links.tableRefusal links.tableLinkRefusal links.tableServerRefusal links.roomTableRefusal failedAnswer countedLinkRefusal countedServerRefusal summaryRefusal entriesRefusal linkAnswer serverAnswer deadAnswer freshAnswer isIn byteOf hopTo hopRefusal fault ended walkFrom walk writeFault writeFrom endsRefusal hopAnswer arrayRefusal walkAnswer readAnswer reverseAnswer serversRefusal writeRefusal onTheWay writeAnswer roomRefusal listRefusal checkAnswer builtArrays setOf buildAnswer listsRefusal pickSource pickRefusal placeAnswer givenRefusal stepRefusal atHop withPlace stepAnswer switchesAt serverAt portRefusal switchesAnswer serverAtAnswer madeRefusal byteAnswer partsRefusal partsAnswer held roomOf shapeIn word refusalIn betweenWord askedWord deadWord stepWord packed layRefusal pickAnswer stepIn unpacked
 wrong-fill o q b =
     record {
       shape-refusal = λ s v m κ y x. never (λ y. y) shapeRefusal refl s v m;
@@ -119,10 +121,14 @@ wrong-fill o q b =
       table-refusal = λ s v m κ y x. never (λ y. y) (λ s. links.roomTableRefusal s []) refl s v m;
       room-refusal = λ s v m κ y x. never (λ y. y) (λ s. roomRefusal s [] 0 1) refl s v m;
       failed-link = λ s v m κ y x. never (λ (y : Asked). y .refusal .number) (λ s. failedAnswer s [] 0 0) refl s v m;
-      mark-link = λ s v m κ y x p. never number (λ s. linkAnswer s [] 0 0) refl s v m (p .0);
-      clear-link = λ s v m κ y x p. never number (λ s. linkAnswer s [] 0 0) refl s v m (p .0);
-      mark-server = λ s v m κ y x p. never number (λ s. serverAnswer s [] 0) refl s v m (p .0);
-      clear-server = λ s v m κ y x p. never number (λ s. serverAnswer s [] 0) refl s v m (p .0);
+      table-link-refusal = λ s v m κ y x. never (λ y. y) (λ s. links.tableLinkRefusal s [] 0 0) refl s v m;
+      table-server-refusal = λ s v m κ y x. never (λ y. y) (λ s. links.tableServerRefusal s [] 0) refl s v m;
+      mark-link = λ s v m κ y x p. never number (λ s. linkAnswer s [] [] 0 0) refl s v m (p .0);
+      clear-link = λ s v m κ y x p. never number (λ s. linkAnswer s [] [] 0 0) refl s v m (p .0);
+      mark-server = λ s v m κ y x p. never number (λ s. serverAnswer s [] [] 0) refl s v m (p .0);
+      clear-server = λ s v m κ y x p. never number (λ s. serverAnswer s [] [] 0) refl s v m (p .0);
+      dead-switch = λ s v m κ y x. never (λ (y : DeadSwitch). y .refusal .number) (λ s. deadAnswer s [] []) refl s v m;
+      summarize = λ s v m κ y x p. never number (λ s. freshAnswer s [] []) refl s v m (p .0);
       byte-of = λ s v m κ y x. never (λ (y : Number). y .refusal .number) (λ s. byteAnswer s 0 1) refl s v m;
       parts-of = λ s v m κ y x. never (λ (y : Parts). y .refusal .number) (λ s. partsAnswer s 0x01) refl s v m;
       hop-of = λ s v m κ y x. never (λ (y : Hop). y .number) (λ s. hopAnswer s 0 0x01) refl s v m;
@@ -150,10 +156,12 @@ wrong-fill o q b =
       bcube-neighbour = λ c v m κ y x. never said (λ c. numberWord (neighbourAnswer (shapeIn c) 0 0 1)) refl c v m;
       bcube-between = λ c v m κ y x. never said (λ c. betweenWord (betweenAnswer (shapeIn c) 0 1)) refl c v m;
       bcube-failed-link = λ c v m κ y x. never said (λ c. askedWord (failedAnswer (shapeIn c) [] 0 0)) refl c v m;
-      bcube-mark-link = λ c v m κ y x p. never said (λ c. word (linkAnswer (shapeIn c) [] 0 0) 0) refl c v m (p .0);
-      bcube-clear-link = λ c v m κ y x p. never said (λ c. word (linkAnswer (shapeIn c) [] 0 0) 0) refl c v m (p .0);
-      bcube-mark-server = λ c v m κ y x p. never said (λ c. word (serverAnswer (shapeIn c) [] 0) 0) refl c v m (p .0);
-      bcube-clear-server = λ c v m κ y x p. never said (λ c. word (serverAnswer (shapeIn c) [] 0) 0) refl c v m (p .0);
+      bcube-mark = λ c v m κ y x p. never said (λ c. word (linkAnswer (shapeIn c) [] [] 0 0) 0) refl c v m (p .0);
+      bcube-clear = λ c v m κ y x p. never said (λ c. word (linkAnswer (shapeIn c) [] [] 0 0) 0) refl c v m (p .0);
+      bcube-mark-all = λ c v m κ y x p. never said (λ c. word (serverAnswer (shapeIn c) [] [] 0) 0) refl c v m (p .0);
+      bcube-clear-all = λ c v m κ y x p. never said (λ c. word (serverAnswer (shapeIn c) [] [] 0) 0) refl c v m (p .0);
+      bcube-dead-switch = λ c v m κ y x. never said (λ c. deadWord (deadAnswer (shapeIn c) [] [])) refl c v m;
+      bcube-summarize = λ c v m κ y x p. never said (λ c. word (freshAnswer (shapeIn c) [] []) 0) refl c v m (p .0);
       bcube-path-byte = λ c v m κ y x. never said (λ c. numberWord (byteAnswer (shapeIn c) 0 1)) refl c v m;
       bcube-path-byte-parts = λ c v m κ y x. never said (λ c. partsWord (partsAnswer (shapeIn c) 0x01)) refl c v m;
       bcube-read = λ c v m κ y x p. never said (λ c. readingWord (readAnswer (shapeIn c) 0 1 (array (0x01 ∷ [])))) refl c v m (p .0);

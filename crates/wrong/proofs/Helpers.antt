@@ -5,14 +5,14 @@ use Rattle.refusals.specs.Refusals.{_or-else_}
 use Rattle.room.specs.declared.Side.{Side}
 use Rattle.room.specs.Shapes.{serversOf, bound, powerOf, serverCount}
 use Rattle.room.specs.Refusals.{shapeRefusal, serverRefusal, pairRefusal, endsRefusal}
-use Rattle.room.specs.Sides.{sideOf}
+use Rattle.room.specs.Sides.{sideOf, sideAt}
 use Rattle.links.specs.Table.{bit, withBit, changed, changedIn, fitsLevels, bitsFit, tableRefusal, roomRefusal}
 use Rattle.wrong.specs.Never.{Loan}
 use Rattle.wrong.specs.Helpers.{Helpers}
 use Rattle.wrong.proofs.Clash.{clash, clash-left}
 
 pub wrong-helpers : (o : Loan) → Helpers o
-unfolding serversOf bound powerOf serverCount shapeRefusal serverRefusal pairRefusal endsRefusal sideOf bit withBit changed changedIn fitsLevels bitsFit tableRefusal roomRefusal _or-else_
+unfolding serversOf bound powerOf serverCount shapeRefusal serverRefusal pairRefusal endsRefusal sideOf sideAt bit withBit changed changedIn fitsLevels bitsFit tableRefusal roomRefusal _or-else_
 wrong-helpers o =
     record {
       route-kept = λ r i j h n κ x e. n (ap (λ (y : Refusal). y .route) e);
@@ -36,6 +36,14 @@ wrong-helpers o =
       n-servers-at-level-k = clash (λ (y : Side). y .count) refl;
       m-servers-at-level-0 = clash (λ (y : Side). y .count) refl;
       stride-to-the-base-m = clash (λ (y : Side). y .stride) refl;
+      number-for-first = clash (λ (y : Side). y .first) refl;
+      number-for-server = clash (λ (y : Side). y .first) refl;
+      number-not-moved-up = clash (λ (y : Side). y .first) refl;
+      level-and-number-exchanged = clash (λ (y : Side). y .first) refl;
+      n-servers-by-number = clash (λ (y : Side). y .count) refl;
+      m-servers-by-number = clash (λ (y : Side). y .count) refl;
+      stride-by-number-to-the-base-m = clash (λ (y : Side). y .stride) refl;
+      number-4096-taken = clash (λ (y : Side). y .first) refl;
       marks-nothing = λ κ r x p. clash-left 3 refl p;
       marked-twice = λ κ r x p. clash-left 3 refl p;
       clears-nothing = λ κ r x p. clash-left 3 refl p;

@@ -3,6 +3,7 @@ pub mod Routes
 pub mod Helpers
 pub mod Room
 pub mod Links
+pub mod Summary
 pub mod Path
 pub mod Verdict
 pub mod Build

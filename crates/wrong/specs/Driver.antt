@@ -1,4 +1,4 @@
--- Wrong answers of `driver`, what C calls, wherever the buffers lie: o lends a table, q bytes or servers to read, b a buffer to write.
+-- Wrong answers of `driver`, what C calls, wherever the buffers lie: o lends a table, q a summary, or bytes or servers to read, b a buffer to write.
 -- Numbers are those of C, of 64 bits: 4294967297 is 1 where it is cut to 32 bits.
 use Prim.Native.Nat.{_+_, _*_}
 use mathlib.Core.Bool.{true, false}
@@ -27,10 +27,12 @@ use Rattle.driver.proofs.bcube_server_at.Reads as bcube-server-at
 use Rattle.driver.proofs.bcube_neighbour.Reads as bcube-neighbour
 use Rattle.driver.proofs.bcube_between.Reads as bcube-between
 use Rattle.driver.proofs.bcube_failed_link.Reads as bcube-failed-link
-use Rattle.driver.proofs.bcube_mark_link.Reads as bcube-mark-link
-use Rattle.driver.proofs.bcube_clear_link.Reads as bcube-clear-link
-use Rattle.driver.proofs.bcube_mark_server.Reads as bcube-mark-server
-use Rattle.driver.proofs.bcube_clear_server.Reads as bcube-clear-server
+use Rattle.driver.proofs.bcube_mark.Reads as bcube-mark
+use Rattle.driver.proofs.bcube_clear.Reads as bcube-clear
+use Rattle.driver.proofs.bcube_mark_all.Reads as bcube-mark-all
+use Rattle.driver.proofs.bcube_clear_all.Reads as bcube-clear-all
+use Rattle.driver.proofs.bcube_dead_switch.Reads as bcube-dead-switch
+use Rattle.driver.proofs.bcube_summarize.Reads as bcube-summarize
 use Rattle.driver.proofs.bcube_path_byte.Reads as bcube-path-byte
 use Rattle.driver.proofs.bcube_path_byte_parts.Reads as bcube-path-byte-parts
 use Rattle.driver.proofs.bcube_read.Reads as bcube-read
@@ -43,7 +45,7 @@ use Rattle.driver.proofs.bcube_select.Reads as bcube-select
 use Rattle.driver.proofs.bcube_pick.Reads as bcube-pick
 use Rattle.driver.proofs.bcube_step.Reads as bcube-step
 use Rattle.wrong.specs.Never.{Never, NeverLeaves, Loan, third, fourth, fifth, _&_, _lends_}
-use Rattle.wrong.specs.Examples.{array, healthy, failing, direct, other, tied, cutOff, mac, neighbour, stale}
+use Rattle.wrong.specs.Examples.{array, healthy, failing, unmarked, counting, halfHealthy, halfFailing, halfUnmarked, halfCounting, direct, other, tied, cutOff, mac, neighbour, stale}
 
 -- the step from 00 of (4,1) to 10, by byte 41 of the path bytes 41 03
 abbrev pub went : Step
@@ -52,11 +54,11 @@ went = record { refusal = none; delivered = false; next = 4; index = 1; mac = ma
 pub record Driver (o q b : Loan) : Type 0 where
   -- ---- bcube_version
   -- the numbers packed in bytes
-  pub version-in-bytes : Never bcube-version.Post tt 0x030000
+  pub version-in-bytes : Never bcube-version.Post tt 0x040000
   -- the version before
-  pub version-before : Never bcube-version.Post tt 20000
+  pub version-before : Never bcube-version.Post tt 30000
   -- the first number alone
-  pub version-first-alone : Never bcube-version.Post tt 3
+  pub version-first-alone : Never bcube-version.Post tt 4
   -- ---- bcube_room_of
   -- n and k exchanged
   pub full-room-n-and-k-exchanged : Never bcube-room-of.Post (8 & 3 & tt) (roomOf 3 8 3)
@@ -253,66 +255,212 @@ pub record Driver (o q b : Loan) : Type 0 where
   pub failed-another-link : Never bcube-failed-link.Post (roomOf 4 1 4 & 3 & 0 & o lends failing 3 2 & tt) (word none 1)
   -- N as n to the power k + 1: server 8 of (4,1,2) in a table of 16 bytes told live
   pub failed-in-full-table : Never bcube-failed-link.Post (roomOf 4 1 2 & 8 & 0 & o lends healthy & tt) (word none 0)
-  -- ---- bcube_mark_link
+  -- ---- bcube_mark
   -- level k + 1 marked
-  pub marked-above-k : Never bcube-mark-link.Post (roomOf 4 1 4 & 3 & 2 & b lends healthy & tt) (word none 0)
+  pub marked-above-k : Never bcube-mark.Post (roomOf 4 1 4 & 3 & 2 & o lends healthy & q lends unmarked & tt) (word none 0)
   -- 1 told for a mark made
-  pub mark-counted : Never bcube-mark-link.Post (roomOf 4 1 4 & 3 & 1 & b lends healthy & tt) (word none 1)
+  pub mark-counted : Never bcube-mark.Post (roomOf 4 1 4 & 3 & 1 & o lends healthy & q lends unmarked & tt) (word none 1)
+  -- the count of the switch told in the value
+  pub mark-count-told : Never bcube-mark.Post (roomOf 4 1 2 & 5 & 1 & o lends halfFailing 1 2 & q lends halfCounting 3 1 & tt) (word none 2)
+  -- the level cut to 32 bits
+  pub mark-level-cut : Never bcube-mark.Post (roomOf 4 1 2 & 5 & 4294967297 & o lends halfHealthy & q lends halfUnmarked & tt) (word none 0)
+  -- 30 tested before 6: a bit above k, a summary of 8 bytes for the 6 switches of (4,1,2)
+  pub mark-summary-before-table : Never bcube-mark.Post (roomOf 4 1 2 & 5 & 1 & o lends halfFailing 0 4 & q lends replicate 8 0 & tt) (word (plain 30) 0)
+  -- a summary of one byte too many taken
+  pub mark-long-summary : Never bcube-mark.Post (roomOf 4 1 2 & 5 & 1 & o lends halfHealthy & q lends replicate 7 0 & tt) (word none 0)
+  -- 30 not given where the mark would change nothing
+  pub mark-entry-not-tested : Never bcube-mark.Post (roomOf 4 1 2 & 5 & 1 & o lends halfFailing 5 2 & q lends halfUnmarked & tt) (word none 0)
+  -- 30 for entries that are wrong elsewhere
+  pub mark-elsewhere-tested : Never bcube-mark.Post (roomOf 4 1 2 & 5 & 1 & o lends halfHealthy & q lends set (halfCounting 0 9) 5 7 & tt) (word (plain 30) 0)
+  -- m servers counted at a switch of level 0: the mark of server 3 missed, and the entry refused
+  pub mark-m-servers-counted : Never bcube-mark.Post (roomOf 4 1 2 & 0 & 0 & o lends halfFailing 3 1 & q lends halfCounting 0 1 & tt) (word (plain 30) 0)
   -- nothing marked
-  pub marks-nothing : NeverLeaves bcube-mark-link.Post (roomOf 4 1 4 & 3 & 1 & b lends healthy & tt) fourth healthy
+  pub marks-nothing : NeverLeaves bcube-mark.Post (roomOf 4 1 4 & 3 & 1 & o lends healthy & q lends unmarked & tt) fourth healthy
   -- server and level exchanged
-  pub mark-server-and-level-exchanged : NeverLeaves bcube-mark-link.Post (roomOf 4 1 4 & 1 & 0 & b lends healthy & tt) fourth (failing 0 2)
+  pub mark-server-and-level-exchanged : NeverLeaves bcube-mark.Post (roomOf 4 1 4 & 1 & 0 & o lends healthy & q lends unmarked & tt) fourth (failing 0 2)
   -- the table touched on refusal 20
-  pub mark-touched : NeverLeaves bcube-mark-link.Post (roomOf 4 1 4 & 3 & 2 & b lends healthy & tt) fourth (failing 3 4)
+  pub mark-touched : NeverLeaves bcube-mark.Post (roomOf 4 1 4 & 3 & 2 & o lends healthy & q lends unmarked & tt) fourth (failing 3 4)
+  -- the table touched on refusal 30
+  pub mark-table-touched : NeverLeaves bcube-mark.Post (roomOf 4 1 2 & 5 & 1 & o lends halfHealthy & q lends halfCounting 3 1 & tt) fourth (halfFailing 5 2)
   -- N as n to the power k + 1: server 8 of (4,1,2) marked in a table of 16 bytes
-  pub marked-in-full-table : NeverLeaves bcube-mark-link.Post (roomOf 4 1 2 & 8 & 0 & b lends healthy & tt) fourth (failing 8 1)
-  -- ---- bcube_clear_link
+  pub marked-in-full-table : NeverLeaves bcube-mark.Post (roomOf 4 1 2 & 8 & 0 & o lends healthy & q lends halfUnmarked & tt) fourth (failing 8 1)
+  -- the mark not counted
+  pub mark-not-counted : NeverLeaves bcube-mark.Post (roomOf 4 1 2 & 5 & 1 & o lends halfHealthy & q lends halfUnmarked & tt) fifth halfUnmarked
+  -- a repeated mark counted twice
+  pub mark-counted-twice : NeverLeaves bcube-mark.Post (roomOf 4 1 2 & 5 & 1 & o lends halfFailing 5 2 & q lends halfCounting 3 1 & tt) fifth (halfCounting 3 2)
+  -- the place of an entry as level times n to the power k, plus number: 5 for 3
+  pub mark-place-by-power : NeverLeaves bcube-mark.Post (roomOf 4 1 2 & 5 & 1 & o lends halfHealthy & q lends halfUnmarked & tt) fifth (halfCounting 5 1)
+  -- entries that are wrong elsewhere corrected
+  pub mark-elsewhere-corrected : NeverLeaves bcube-mark.Post (roomOf 4 1 2 & 5 & 1 & o lends halfHealthy & q lends set (halfCounting 0 9) 5 7 & tt) fifth (halfCounting 3 1)
+  -- the summary touched on refusal 30
+  pub mark-summary-touched : NeverLeaves bcube-mark.Post (roomOf 4 1 2 & 5 & 1 & o lends halfHealthy & q lends halfCounting 3 1 & tt) fifth (halfCounting 3 2)
+  -- ---- bcube_clear
   -- level k + 1 cleared
-  pub cleared-above-k : Never bcube-clear-link.Post (roomOf 4 1 4 & 3 & 2 & b lends healthy & tt) (word none 0)
+  pub cleared-above-k : Never bcube-clear.Post (roomOf 4 1 4 & 3 & 2 & o lends healthy & q lends unmarked & tt) (word none 0)
   -- 20 tested before 4: level 2 of server 16
-  pub clear-level-before-address : Never bcube-clear-link.Post (roomOf 4 1 4 & 16 & 2 & b lends healthy & tt) (word (plain 20) 0)
+  pub clear-level-before-address : Never bcube-clear.Post (roomOf 4 1 4 & 16 & 2 & o lends healthy & q lends unmarked & tt) (word (plain 20) 0)
+  -- 30 tested before 6: a bit above k, a summary of 8 bytes for (4,1,2)
+  pub clear-summary-before-table : Never bcube-clear.Post (roomOf 4 1 2 & 5 & 1 & o lends halfFailing 0 4 & q lends replicate 8 0 & tt) (word (plain 30) 0)
+  -- a summary of one byte too many taken
+  pub clear-long-summary : Never bcube-clear.Post (roomOf 4 1 2 & 5 & 1 & o lends halfHealthy & q lends replicate 7 0 & tt) (word none 0)
+  -- 30 not given where clearing would change nothing
+  pub clear-entry-not-tested : Never bcube-clear.Post (roomOf 4 1 2 & 5 & 1 & o lends halfHealthy & q lends halfCounting 3 1 & tt) (word none 0)
+  -- 30 for entries that are wrong elsewhere
+  pub clear-elsewhere-tested : Never bcube-clear.Post (roomOf 4 1 2 & 5 & 1 & o lends halfHealthy & q lends set (halfCounting 0 9) 5 7 & tt) (word (plain 30) 0)
   -- all links of the server cleared
-  pub clears-all : NeverLeaves bcube-clear-link.Post (roomOf 4 1 4 & 3 & 0 & b lends failing 3 3 & tt) fourth healthy
+  pub clears-all : NeverLeaves bcube-clear.Post (roomOf 4 1 4 & 3 & 0 & o lends failing 3 3 & q lends set (counting 0 1) 7 1 & tt) fourth healthy
   -- the link of level k cleared
-  pub clears-level-k : NeverLeaves bcube-clear-link.Post (roomOf 4 1 4 & 3 & 0 & b lends failing 3 3 & tt) fourth (failing 3 1)
+  pub clears-level-k : NeverLeaves bcube-clear.Post (roomOf 4 1 4 & 3 & 0 & o lends failing 3 3 & q lends set (counting 0 1) 7 1 & tt) fourth (failing 3 1)
   -- the table touched on refusal 6, which its bit above k is
-  pub clear-touched : NeverLeaves bcube-clear-link.Post (roomOf 4 1 4 & 3 & 0 & b lends failing 3 5 & tt) fourth (failing 3 4)
+  pub clear-touched : NeverLeaves bcube-clear.Post (roomOf 4 1 4 & 3 & 0 & o lends failing 3 5 & q lends counting 0 1 & tt) fourth (failing 3 4)
+  -- the table touched on refusal 30
+  pub clear-table-touched : NeverLeaves bcube-clear.Post (roomOf 4 1 2 & 5 & 1 & o lends halfFailing 5 2 & q lends halfUnmarked & tt) fourth halfHealthy
   -- N as n to the power k + 1: server 8 of (4,1,2) cleared in a table of 16 bytes
-  pub cleared-in-full-table : NeverLeaves bcube-clear-link.Post (roomOf 4 1 2 & 8 & 0 & b lends failing 8 1 & tt) fourth healthy
-  -- ---- bcube_mark_server
+  pub cleared-in-full-table : NeverLeaves bcube-clear.Post (roomOf 4 1 2 & 8 & 0 & o lends failing 8 1 & q lends halfUnmarked & tt) fourth healthy
+  -- the clearing not counted
+  pub clearing-not-counted : NeverLeaves bcube-clear.Post (roomOf 4 1 2 & 5 & 1 & o lends set (halfFailing 1 2) 5 2 & q lends halfCounting 3 2 & tt) fifth (halfCounting 3 2)
+  -- one taken away though the link was not marked
+  pub clear-unmarked-subtracted : NeverLeaves bcube-clear.Post (roomOf 4 1 2 & 5 & 1 & o lends halfFailing 1 2 & q lends halfCounting 3 1 & tt) fifth halfUnmarked
+  -- the place of an entry as level times n to the power k, plus number: 5 for 3, servers 3 and 5 being marked
+  pub clear-place-by-power : NeverLeaves bcube-clear.Post (roomOf 4 1 2 & 5 & 1 & o lends set (halfFailing 3 2) 5 2 & q lends set (halfCounting 3 1) 5 1 & tt) fifth (halfCounting 3 1)
+  -- entries that are wrong elsewhere corrected
+  pub clear-elsewhere-corrected : NeverLeaves bcube-clear.Post (roomOf 4 1 2 & 5 & 1 & o lends halfFailing 5 2 & q lends set (set (halfCounting 0 9) 3 1) 5 7 & tt) fifth halfUnmarked
+  -- the summary touched on refusal 30
+  pub clear-summary-touched : NeverLeaves bcube-clear.Post (roomOf 4 1 2 & 5 & 1 & o lends halfFailing 5 2 & q lends halfCounting 3 2 & tt) fifth (halfCounting 3 1)
+  -- ---- bcube_mark_all, of which server 5 of (4,1,2) is at switch 1 of level 0 and at switch 1 of level 1: places 1 and 3
   -- server N marked
-  pub mark-server-n : Never bcube-mark-server.Post (roomOf 4 1 4 & 16 & b lends healthy & tt) (word none 0)
+  pub mark-all-n : Never bcube-mark-all.Post (roomOf 4 1 4 & 16 & o lends healthy & q lends unmarked & tt) (word none 0)
   -- 6 tested before 4: server 16, a table of 15 bytes
-  pub mark-server-table-before-address : Never bcube-mark-server.Post (roomOf 4 1 4 & 16 & b lends replicate 15 0 & tt) (word (plain 6) 0)
+  pub mark-all-table-before-address : Never bcube-mark-all.Post (roomOf 4 1 4 & 16 & o lends replicate 15 0 & q lends unmarked & tt) (word (plain 6) 0)
   -- the server cut to 32 bits
-  pub mark-server-cut : Never bcube-mark-server.Post (roomOf 4 1 4 & 4294967299 & b lends healthy & tt) (word none 0)
+  pub mark-all-cut : Never bcube-mark-all.Post (roomOf 4 1 4 & 4294967299 & o lends healthy & q lends unmarked & tt) (word none 0)
+  -- 30 tested before 6: a bit above k, a summary of 8 bytes for (4,1,2)
+  pub mark-all-summary-before-table : Never bcube-mark-all.Post (roomOf 4 1 2 & 5 & o lends halfFailing 0 4 & q lends replicate 8 0 & tt) (word (plain 30) 0)
+  -- a summary of one byte too many taken
+  pub mark-all-long-summary : Never bcube-mark-all.Post (roomOf 4 1 2 & 5 & o lends halfHealthy & q lends replicate 7 0 & tt) (word none 0)
+  -- the entry of level 0 tested alone
+  pub mark-all-level-k-not-tested : Never bcube-mark-all.Post (roomOf 4 1 2 & 5 & o lends halfHealthy & q lends halfCounting 3 1 & tt) (word none 0)
+  -- 30 not given where the marks would change nothing
+  pub mark-all-entry-not-tested : Never bcube-mark-all.Post (roomOf 4 1 2 & 5 & o lends halfFailing 5 3 & q lends halfUnmarked & tt) (word none 0)
+  -- 30 for entries that are wrong elsewhere
+  pub mark-all-elsewhere-tested : Never bcube-mark-all.Post (roomOf 4 1 2 & 5 & o lends halfHealthy & q lends set (halfCounting 0 9) 5 7 & tt) (word (plain 30) 0)
   -- nothing marked
-  pub marks-no-server : NeverLeaves bcube-mark-server.Post (roomOf 4 1 4 & 3 & b lends healthy & tt) third healthy
+  pub marks-no-server : NeverLeaves bcube-mark-all.Post (roomOf 4 1 4 & 3 & o lends healthy & q lends unmarked & tt) third healthy
   -- one link marked, that of level 0
-  pub marks-one-link : NeverLeaves bcube-mark-server.Post (roomOf 4 1 4 & 3 & b lends healthy & tt) third (failing 3 1)
+  pub marks-one-link : NeverLeaves bcube-mark-all.Post (roomOf 4 1 4 & 3 & o lends healthy & q lends unmarked & tt) third (failing 3 1)
   -- the whole byte set, bits above k with it
-  pub marks-whole-byte : NeverLeaves bcube-mark-server.Post (roomOf 4 1 4 & 3 & b lends healthy & tt) third (failing 3 0xff)
+  pub marks-whole-byte : NeverLeaves bcube-mark-all.Post (roomOf 4 1 4 & 3 & o lends healthy & q lends unmarked & tt) third (failing 3 0xff)
   -- the table touched on refusal 6, which its bit above k is
-  pub mark-server-touched : NeverLeaves bcube-mark-server.Post (roomOf 4 1 4 & 3 & b lends failing 3 4 & tt) third (failing 3 3)
+  pub mark-all-touched : NeverLeaves bcube-mark-all.Post (roomOf 4 1 4 & 3 & o lends failing 3 4 & q lends unmarked & tt) third (failing 3 3)
+  -- the table touched on refusal 30
+  pub mark-all-table-touched : NeverLeaves bcube-mark-all.Post (roomOf 4 1 2 & 5 & o lends halfHealthy & q lends halfCounting 3 1 & tt) third (halfFailing 5 3)
   -- N as n to the power k + 1: server 8 of (4,1,2) marked in a table of 16 bytes
-  pub server-marked-in-full-table : NeverLeaves bcube-mark-server.Post (roomOf 4 1 2 & 8 & b lends healthy & tt) third (failing 8 3)
-  -- ---- bcube_clear_server
+  pub server-marked-in-full-table : NeverLeaves bcube-mark-all.Post (roomOf 4 1 2 & 8 & o lends healthy & q lends halfUnmarked & tt) third (failing 8 3)
+  -- the entry of level 0 alone moved
+  pub mark-all-level-0-alone : NeverLeaves bcube-mark-all.Post (roomOf 4 1 2 & 5 & o lends halfHealthy & q lends halfUnmarked & tt) fourth (halfCounting 1 1)
+  -- a repeated mark counted twice, at each level
+  pub mark-all-counted-twice : NeverLeaves bcube-mark-all.Post (roomOf 4 1 2 & 5 & o lends halfFailing 5 3 & q lends set (halfCounting 1 1) 3 1 & tt) fourth (set (halfCounting 1 2) 3 2)
+  -- the place of an entry as level times n to the power k, plus number: 5 for 3
+  pub mark-all-place-by-power : NeverLeaves bcube-mark-all.Post (roomOf 4 1 2 & 5 & o lends halfHealthy & q lends halfUnmarked & tt) fourth (set (halfCounting 1 1) 5 1)
+  -- entries that are wrong elsewhere corrected
+  pub mark-all-elsewhere-corrected : NeverLeaves bcube-mark-all.Post (roomOf 4 1 2 & 5 & o lends halfHealthy & q lends set (halfCounting 0 9) 5 7 & tt) fourth (set (halfCounting 1 1) 3 1)
+  -- the summary touched on refusal 30
+  pub mark-all-summary-touched : NeverLeaves bcube-mark-all.Post (roomOf 4 1 2 & 5 & o lends halfHealthy & q lends halfCounting 3 1 & tt) fourth (set (halfCounting 1 1) 3 1)
+  -- ---- bcube_clear_all
   -- server N cleared
-  pub clear-server-n : Never bcube-clear-server.Post (roomOf 4 1 4 & 16 & b lends healthy & tt) (word none 0)
+  pub clear-all-n : Never bcube-clear-all.Post (roomOf 4 1 4 & 16 & o lends healthy & q lends unmarked & tt) (word none 0)
   -- 6 tested before 4: server 16, and a bit above k
-  pub clear-server-table-before-address : Never bcube-clear-server.Post (roomOf 4 1 4 & 16 & b lends failing 3 4 & tt) (word (plain 6) 0)
+  pub clear-all-table-before-address : Never bcube-clear-all.Post (roomOf 4 1 4 & 16 & o lends failing 3 4 & q lends unmarked & tt) (word (plain 6) 0)
   -- the links that were cleared counted
-  pub clear-server-counted : Never bcube-clear-server.Post (roomOf 4 1 4 & 3 & b lends failing 3 3 & tt) (word none 2)
+  pub clear-all-counted : Never bcube-clear-all.Post (roomOf 4 1 4 & 3 & o lends failing 3 3 & q lends set (counting 0 1) 7 1 & tt) (word none 2)
+  -- 30 tested before 6: a bit above k, a summary of 8 bytes for (4,1,2)
+  pub clear-all-summary-before-table : Never bcube-clear-all.Post (roomOf 4 1 2 & 5 & o lends halfFailing 0 4 & q lends replicate 8 0 & tt) (word (plain 30) 0)
+  -- a summary of one byte too many taken
+  pub clear-all-long-summary : Never bcube-clear-all.Post (roomOf 4 1 2 & 5 & o lends halfHealthy & q lends replicate 7 0 & tt) (word none 0)
+  -- the entry of level 0 tested alone
+  pub clear-all-level-k-not-tested : Never bcube-clear-all.Post (roomOf 4 1 2 & 5 & o lends halfFailing 5 3 & q lends halfCounting 1 1 & tt) (word none 0)
+  -- 30 not given where clearing would change nothing
+  pub clear-all-entry-not-tested : Never bcube-clear-all.Post (roomOf 4 1 2 & 5 & o lends halfHealthy & q lends halfCounting 3 1 & tt) (word none 0)
+  -- 30 for entries that are wrong elsewhere
+  pub clear-all-elsewhere-tested : Never bcube-clear-all.Post (roomOf 4 1 2 & 5 & o lends halfHealthy & q lends set (halfCounting 0 9) 5 7 & tt) (word (plain 30) 0)
   -- nothing cleared
-  pub clears-no-server : NeverLeaves bcube-clear-server.Post (roomOf 4 1 4 & 3 & b lends failing 3 3 & tt) third (failing 3 3)
+  pub clears-no-server : NeverLeaves bcube-clear-all.Post (roomOf 4 1 4 & 3 & o lends failing 3 3 & q lends set (counting 0 1) 7 1 & tt) third (failing 3 3)
   -- one link cleared, that of level 0
-  pub clears-one-link : NeverLeaves bcube-clear-server.Post (roomOf 4 1 4 & 3 & b lends failing 3 3 & tt) third (failing 3 2)
+  pub clears-one-link : NeverLeaves bcube-clear-all.Post (roomOf 4 1 4 & 3 & o lends failing 3 3 & q lends set (counting 0 1) 7 1 & tt) third (failing 3 2)
   -- the whole table cleared: the mark of server 7 lost
-  pub clears-whole-table : NeverLeaves bcube-clear-server.Post (roomOf 4 1 4 & 3 & b lends set (failing 3 3) 7 1 & tt) third healthy
+  pub clears-whole-table : NeverLeaves bcube-clear-all.Post (roomOf 4 1 4 & 3 & o lends set (failing 3 3) 7 1 & q lends set (set (counting 0 1) 1 1) 7 1 & tt) third healthy
   -- the table touched on refusal 6, which its bit above k is
-  pub clear-server-touched : NeverLeaves bcube-clear-server.Post (roomOf 4 1 4 & 3 & b lends failing 3 4 & tt) third healthy
+  pub clear-all-touched : NeverLeaves bcube-clear-all.Post (roomOf 4 1 4 & 3 & o lends failing 3 4 & q lends unmarked & tt) third healthy
+  -- the table touched on refusal 30
+  pub clear-all-table-touched : NeverLeaves bcube-clear-all.Post (roomOf 4 1 2 & 5 & o lends halfFailing 5 3 & q lends halfUnmarked & tt) third halfHealthy
   -- N as n to the power k + 1: server 8 of (4,1,2) cleared in a table of 16 bytes
-  pub server-cleared-in-full-table : NeverLeaves bcube-clear-server.Post (roomOf 4 1 2 & 8 & b lends failing 8 3 & tt) third healthy
+  pub server-cleared-in-full-table : NeverLeaves bcube-clear-all.Post (roomOf 4 1 2 & 8 & o lends failing 8 3 & q lends halfUnmarked & tt) third healthy
+  -- the entry of level 0 alone moved
+  pub clear-all-level-0-alone : NeverLeaves bcube-clear-all.Post (roomOf 4 1 2 & 5 & o lends halfFailing 5 3 & q lends set (halfCounting 1 1) 3 1 & tt) fourth (halfCounting 3 1)
+  -- one taken away though the link was not marked: server 5 at level 1, where server 1 is
+  pub clear-all-unmarked-subtracted : NeverLeaves bcube-clear-all.Post (roomOf 4 1 2 & 5 & o lends set (halfFailing 5 1) 1 2 & q lends set (halfCounting 1 1) 3 1 & tt) fourth halfUnmarked
+  -- the place of an entry as level times n to the power k, plus number: 5 for 3, the link of server 3 there being marked
+  pub clear-all-place-by-power : NeverLeaves bcube-clear-all.Post (roomOf 4 1 2 & 5 & o lends set (halfFailing 5 3) 3 2 & q lends set (set (halfCounting 1 1) 3 1) 5 1 & tt) fourth (halfCounting 3 1)
+  -- entries that are wrong elsewhere corrected
+  pub clear-all-elsewhere-corrected : NeverLeaves bcube-clear-all.Post (roomOf 4 1 2 & 5 & o lends halfHealthy & q lends set (halfCounting 0 9) 5 7 & tt) fourth halfUnmarked
+  -- the summary touched on refusal 30
+  pub clear-all-summary-touched : NeverLeaves bcube-clear-all.Post (roomOf 4 1 2 & 5 & o lends halfFailing 5 3 & q lends halfCounting 1 1 & tt) fourth halfUnmarked
+  -- ---- bcube_dead_switch
+  -- switch 0 of level 0 told as 0, which is none
+  pub dead-first-as-0 : Never bcube-dead-switch.Post (roomOf 4 1 2 & o lends 1 ∷ 1 ∷ 1 ∷ 1 ∷ 0 ∷ 0 ∷ 0 ∷ 0 ∷ [] & q lends halfCounting 0 4 & tt) (word none 0)
+  -- none told as switch 0 of level 0
+  pub dead-none-as-first : Never bcube-dead-switch.Post (roomOf 4 1 2 & o lends halfHealthy & q lends halfUnmarked & tt) (word none 16777216)
+  -- level and number alone
+  pub dead-not-said-found : Never bcube-dead-switch.Post (roomOf 4 1 2 & o lends set (halfFailing 1 2) 5 2 & q lends halfCounting 3 2 & tt) (word none (65536 * 1 + 1))
+  -- level and number exchanged: switch 2 of level 1
+  pub dead-level-and-number-exchanged : Never bcube-dead-switch.Post (roomOf 4 1 2 & o lends 0 ∷ 0 ∷ 2 ∷ 0 ∷ 0 ∷ 0 ∷ 2 ∷ 0 ∷ [] & q lends halfCounting 4 2 & tt) (word none (16777216 + (65536 * 2 + 1)))
+  -- the place among all switches for the number in the level
+  pub dead-place-for-number : Never bcube-dead-switch.Post (roomOf 4 1 2 & o lends set (halfFailing 1 2) 5 2 & q lends halfCounting 3 2 & tt) (word none (16777216 + (65536 * 1 + 3)))
+  -- level and number by the power of n, as if level 0 had four switches
+  pub dead-level-by-power : Never bcube-dead-switch.Post (roomOf 4 1 2 & o lends set (halfFailing 1 2) 5 2 & q lends halfCounting 3 2 & tt) (word none (16777216 + 3))
+  -- n links wanted at a switch of level k
+  pub dead-n-for-m : Never bcube-dead-switch.Post (roomOf 4 1 2 & o lends set (halfFailing 1 2) 5 2 & q lends halfCounting 3 2 & tt) (word none 0)
+  -- m links wanted at a switch of level 0
+  pub dead-m-for-n : Never bcube-dead-switch.Post (roomOf 4 1 2 & o lends set (halfFailing 0 1) 1 1 & q lends halfCounting 0 2 & tt) (word none 16777216)
+  -- the second of two dead switches
+  pub dead-later-given : Never bcube-dead-switch.Post (roomOf 4 1 2 & o lends 0 ∷ 2 ∷ 2 ∷ 0 ∷ 0 ∷ 2 ∷ 2 ∷ 0 ∷ [] & q lends set (halfCounting 3 2) 4 2 & tt) (word none (16777216 + (65536 * 1 + 2)))
+  -- the higher level first
+  pub dead-higher-level-first : Never bcube-dead-switch.Post (roomOf 4 1 2 & o lends 3 ∷ 1 ∷ 1 ∷ 1 ∷ 2 ∷ 0 ∷ 0 ∷ 0 ∷ [] & q lends set (halfCounting 0 4) 2 2 & tt) (word none (16777216 + 65536 * 1))
+  -- none told over entries that are wrong
+  pub dead-over-wrong-entries : Never bcube-dead-switch.Post (roomOf 4 1 2 & o lends halfHealthy & q lends set (halfCounting 0 9) 5 7 & tt) (word none 0)
+  -- the entries tested up to the first dead switch alone
+  pub dead-tested-to-the-first : Never bcube-dead-switch.Post (roomOf 4 1 2 & o lends 1 ∷ 1 ∷ 1 ∷ 1 ∷ 0 ∷ 0 ∷ 0 ∷ 0 ∷ [] & q lends set (halfCounting 0 4) 5 1 & tt) (word none 16777216)
+  -- 30 tested before 6: a bit above k, a summary of 8 bytes
+  pub dead-summary-before-table : Never bcube-dead-switch.Post (roomOf 4 1 2 & o lends halfFailing 0 4 & q lends replicate 8 0 & tt) (word (plain 30) 0)
+  -- a summary of one byte too many taken
+  pub dead-long-summary : Never bcube-dead-switch.Post (roomOf 4 1 2 & o lends halfHealthy & q lends replicate 7 0 & tt) (word none 0)
+  -- a dead switch told beside a refusal
+  pub dead-beside-refusal : Never bcube-dead-switch.Post (roomOf 4 1 2 & o lends halfHealthy & q lends halfCounting 3 2 & tt) (word (plain 30) (16777216 + (65536 * 1 + 1)))
+  -- N as n to the power k + 1: a table of 16 bytes for (4,1,2)
+  pub dead-full-table : Never bcube-dead-switch.Post (roomOf 4 1 2 & o lends healthy & q lends halfUnmarked & tt) (word none 0)
+  -- ---- bcube_summarize
+  -- the old entries tested
+  pub fresh-old-entries-tested : Never bcube-summarize.Post (roomOf 4 1 2 & o lends halfHealthy & q lends set (halfCounting 0 9) 5 7 & tt) (word (plain 30) 0)
+  -- the marks of the room told in the value
+  pub fresh-marks-told : Never bcube-summarize.Post (roomOf 4 1 2 & o lends halfFailing 5 3 & q lends stale 6 & tt) (word none 2)
+  -- 30 tested before 6: a bit above k, a summary of 8 bytes
+  pub fresh-summary-before-table : Never bcube-summarize.Post (roomOf 4 1 2 & o lends halfFailing 0 4 & q lends replicate 8 0 & tt) (word (plain 30) 0)
+  -- a summary of one byte too many taken
+  pub fresh-long-summary : Never bcube-summarize.Post (roomOf 4 1 2 & o lends halfHealthy & q lends replicate 7 0 & tt) (word none 0)
+  -- the summary left as it was lent
+  pub fresh-not-written : NeverLeaves bcube-summarize.Post (roomOf 4 1 2 & o lends halfFailing 5 3 & q lends stale 6 & tt) third (stale 6)
+  -- the counts added to what was there
+  pub fresh-added : NeverLeaves bcube-summarize.Post (roomOf 4 1 2 & o lends halfFailing 5 2 & q lends halfCounting 3 1 & tt) third (halfCounting 3 2)
+  -- a link counted at the other level
+  pub fresh-other-level : NeverLeaves bcube-summarize.Post (roomOf 4 1 2 & o lends halfFailing 6 2 & q lends stale 6 & tt) third (halfCounting 1 1)
+  -- the place of an entry as level times n to the power k, plus number: 5 for 3
+  pub fresh-place-by-power : NeverLeaves bcube-summarize.Post (roomOf 4 1 2 & o lends halfFailing 5 2 & q lends stale 6 & tt) third (halfCounting 5 1)
+  -- m servers counted at a switch of level 0: the mark of server 3 missed
+  pub fresh-m-servers : NeverLeaves bcube-summarize.Post (roomOf 4 1 2 & o lends halfFailing 3 1 & q lends stale 6 & tt) third halfUnmarked
+  -- the summary touched on refusal 30, which its length is
+  pub fresh-touched : NeverLeaves bcube-summarize.Post (roomOf 4 1 2 & o lends halfHealthy & q lends stale 7 & tt) third (replicate 7 0)
+  -- the summary touched on refusal 6, which a bit above k is
+  pub fresh-touched-by-table : NeverLeaves bcube-summarize.Post (roomOf 4 1 2 & o lends halfFailing 0 4 & q lends stale 6 & tt) third halfUnmarked
   -- ---- bcube_path_byte
   -- the position in the low bits of the byte
   pub path-byte-position-low : Never bcube-path-byte.Post (roomOf 4 1 4 & 1 & 2 & tt) (word none 0x09)

@@ -18,6 +18,28 @@ healthy = replicate 16 0
 abbrev pub failing : ℕ → ℕ → List ℕ
 failing a b = set healthy a b
 
+-- the summary of `healthy`, an entry for each of its 8 switches, and the same with the entry c at place i: places 0 to 3 are those of
+-- level 0, and 4 to 7 those of level 1
+abbrev pub unmarked : List ℕ
+unmarked = replicate 8 0
+
+abbrev pub counting : ℕ → ℕ → List ℕ
+counting i c = set unmarked i c
+
+-- the same of the (4,1,2) room: its table with the byte b for server a, and its summary with the entry c at place i, of which 0 and 1
+-- are those of level 0, and 2 to 5 those of level 1
+abbrev pub halfHealthy : List ℕ
+halfHealthy = replicate 8 0
+
+abbrev pub halfFailing : ℕ → ℕ → List ℕ
+halfFailing a b = set halfHealthy a b
+
+abbrev pub halfUnmarked : List ℕ
+halfUnmarked = replicate 6 0
+
+abbrev pub halfCounting : ℕ → ℕ → List ℕ
+halfCounting i c = set halfUnmarked i c
+
 -- eight hops of the (4,1) room from 00, by 01, 11, 12, 22, 23, 33 and 30 to 20, over all its eight switches
 abbrev pub eightHops : List ℕ
 eightHops = 0x01 ∷ 0x41 ∷ 0x02 ∷ 0x42 ∷ 0x03 ∷ 0x43 ∷ 0x00 ∷ 0x42 ∷ []

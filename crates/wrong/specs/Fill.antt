@@ -22,10 +22,14 @@ use Rattle.room.proofs.level_between.Reads as level-between-reads
 use Rattle.links.proofs.table_refusal.Reads as table-refusal-reads
 use Rattle.links.proofs.room_refusal.Reads as room-refusal-reads
 use Rattle.links.proofs.failed_link.Reads as failed-link-reads
-use Rattle.links.proofs.mark_link.Reads as mark-link-reads
-use Rattle.links.proofs.clear_link.Reads as clear-link-reads
-use Rattle.links.proofs.mark_server.Reads as mark-server-reads
-use Rattle.links.proofs.clear_server.Reads as clear-server-reads
+use Rattle.links.proofs.table_link_refusal.Reads as table-link-refusal-reads
+use Rattle.links.proofs.table_server_refusal.Reads as table-server-refusal-reads
+use Rattle.summary.proofs.mark_link.Reads as mark-link-reads
+use Rattle.summary.proofs.clear_link.Reads as clear-link-reads
+use Rattle.summary.proofs.mark_server.Reads as mark-server-reads
+use Rattle.summary.proofs.clear_server.Reads as clear-server-reads
+use Rattle.summary.proofs.dead_switch.Reads as dead-switch-reads
+use Rattle.summary.proofs.summarize.Reads as summarize-reads
 use Rattle.path.proofs.byte_of.Reads as byte-of-reads
 use Rattle.path.proofs.parts_of.Reads as parts-of-reads
 use Rattle.path.proofs.hop_of.Reads as hop-of-reads
@@ -57,10 +61,12 @@ use Rattle.driver.proofs.bcube_server_at.Reads as bcube-server-at-reads
 use Rattle.driver.proofs.bcube_neighbour.Reads as bcube-neighbour-reads
 use Rattle.driver.proofs.bcube_between.Reads as bcube-between-reads
 use Rattle.driver.proofs.bcube_failed_link.Reads as bcube-failed-link-reads
-use Rattle.driver.proofs.bcube_mark_link.Reads as bcube-mark-link-reads
-use Rattle.driver.proofs.bcube_clear_link.Reads as bcube-clear-link-reads
-use Rattle.driver.proofs.bcube_mark_server.Reads as bcube-mark-server-reads
-use Rattle.driver.proofs.bcube_clear_server.Reads as bcube-clear-server-reads
+use Rattle.driver.proofs.bcube_mark.Reads as bcube-mark-reads
+use Rattle.driver.proofs.bcube_clear.Reads as bcube-clear-reads
+use Rattle.driver.proofs.bcube_mark_all.Reads as bcube-mark-all-reads
+use Rattle.driver.proofs.bcube_clear_all.Reads as bcube-clear-all-reads
+use Rattle.driver.proofs.bcube_dead_switch.Reads as bcube-dead-switch-reads
+use Rattle.driver.proofs.bcube_summarize.Reads as bcube-summarize-reads
 use Rattle.driver.proofs.bcube_path_byte.Reads as bcube-path-byte-reads
 use Rattle.driver.proofs.bcube_path_byte_parts.Reads as bcube-path-byte-parts-reads
 use Rattle.driver.proofs.bcube_read.Reads as bcube-read-reads
@@ -94,7 +100,7 @@ rooms =
 abbrev pub OfEach : {S : Type 0} → List (S × ℕ) → (S → ℕ → Type 0) → Type 0
 OfEach {S} xs P = (s : S) (v : ℕ) → In (s, v) xs → P s v
 
--- between servers 0 and 1, by path byte 01, over a table of no bytes
+-- between servers 0 and 1, by path byte 01, over a table of no bytes, and with a summary of none
 pub record Fill (o q b : Loan) : Type 0 where
   -- ---- from Rattle
   pub shape-refusal : OfEach shapes (λ s. NeverTells shape-refusal-reads.Post (s & tt) (λ y. y))
@@ -115,10 +121,14 @@ pub record Fill (o q b : Loan) : Type 0 where
   pub table-refusal : OfEach shapes (λ s. NeverTells table-refusal-reads.Post (s & o lends [] & tt) (λ y. y))
   pub room-refusal : OfEach shapes (λ s. NeverTells room-refusal-reads.Post (s & o lends [] & 0 & 1 & tt) (λ y. y))
   pub failed-link : OfEach shapes (λ s. NeverTells failed-link-reads.Post (s & o lends [] & 0 & 0 & tt) (λ y. y .refusal .number))
-  pub mark-link : OfEach shapes (λ s. NeverTells mark-link-reads.Post (s & o lends [] & 0 & 0 & tt) (λ y. y .number))
-  pub clear-link : OfEach shapes (λ s. NeverTells clear-link-reads.Post (s & o lends [] & 0 & 0 & tt) (λ y. y .number))
-  pub mark-server : OfEach shapes (λ s. NeverTells mark-server-reads.Post (s & o lends [] & 0 & tt) (λ y. y .number))
-  pub clear-server : OfEach shapes (λ s. NeverTells clear-server-reads.Post (s & o lends [] & 0 & tt) (λ y. y .number))
+  pub table-link-refusal : OfEach shapes (λ s. NeverTells table-link-refusal-reads.Post (s & o lends [] & 0 & 0 & tt) (λ y. y))
+  pub table-server-refusal : OfEach shapes (λ s. NeverTells table-server-refusal-reads.Post (s & o lends [] & 0 & tt) (λ y. y))
+  pub mark-link : OfEach shapes (λ s. NeverTells mark-link-reads.Post (s & o lends [] & q lends [] & 0 & 0 & tt) (λ y. y .number))
+  pub clear-link : OfEach shapes (λ s. NeverTells clear-link-reads.Post (s & o lends [] & q lends [] & 0 & 0 & tt) (λ y. y .number))
+  pub mark-server : OfEach shapes (λ s. NeverTells mark-server-reads.Post (s & o lends [] & q lends [] & 0 & tt) (λ y. y .number))
+  pub clear-server : OfEach shapes (λ s. NeverTells clear-server-reads.Post (s & o lends [] & q lends [] & 0 & tt) (λ y. y .number))
+  pub dead-switch : OfEach shapes (λ s. NeverTells dead-switch-reads.Post (s & o lends [] & q lends [] & tt) (λ y. y .refusal .number))
+  pub summarize : OfEach shapes (λ s. NeverTells summarize-reads.Post (s & o lends [] & q lends [] & tt) (λ y. y .number))
   pub byte-of : OfEach shapes (λ s. NeverTells byte-of-reads.Post (s & 0 & 1 & tt) (λ y. y .refusal .number))
   pub parts-of : OfEach shapes (λ s. NeverTells parts-of-reads.Post (s & 0x01 & tt) (λ y. y .refusal .number))
   pub hop-of : OfEach shapes (λ s. NeverTells hop-of-reads.Post (s & 0 & 0x01 & tt) (λ y. y .number))
@@ -147,10 +157,12 @@ pub record Fill (o q b : Loan) : Type 0 where
   pub bcube-neighbour : OfEach rooms (λ c. NeverTells bcube-neighbour-reads.Post (c & 0 & 0 & 1 & tt) (λ y. refusalIn y .number))
   pub bcube-between : OfEach rooms (λ c. NeverTells bcube-between-reads.Post (c & 0 & 1 & tt) (λ y. refusalIn y .number))
   pub bcube-failed-link : OfEach rooms (λ c. NeverTells bcube-failed-link-reads.Post (c & 0 & 0 & o lends [] & tt) (λ y. refusalIn y .number))
-  pub bcube-mark-link : OfEach rooms (λ c. NeverTells bcube-mark-link-reads.Post (c & 0 & 0 & b lends [] & tt) (λ y. refusalIn y .number))
-  pub bcube-clear-link : OfEach rooms (λ c. NeverTells bcube-clear-link-reads.Post (c & 0 & 0 & b lends [] & tt) (λ y. refusalIn y .number))
-  pub bcube-mark-server : OfEach rooms (λ c. NeverTells bcube-mark-server-reads.Post (c & 0 & b lends [] & tt) (λ y. refusalIn y .number))
-  pub bcube-clear-server : OfEach rooms (λ c. NeverTells bcube-clear-server-reads.Post (c & 0 & b lends [] & tt) (λ y. refusalIn y .number))
+  pub bcube-mark : OfEach rooms (λ c. NeverTells bcube-mark-reads.Post (c & 0 & 0 & o lends [] & q lends [] & tt) (λ y. refusalIn y .number))
+  pub bcube-clear : OfEach rooms (λ c. NeverTells bcube-clear-reads.Post (c & 0 & 0 & o lends [] & q lends [] & tt) (λ y. refusalIn y .number))
+  pub bcube-mark-all : OfEach rooms (λ c. NeverTells bcube-mark-all-reads.Post (c & 0 & o lends [] & q lends [] & tt) (λ y. refusalIn y .number))
+  pub bcube-clear-all : OfEach rooms (λ c. NeverTells bcube-clear-all-reads.Post (c & 0 & o lends [] & q lends [] & tt) (λ y. refusalIn y .number))
+  pub bcube-dead-switch : OfEach rooms (λ c. NeverTells bcube-dead-switch-reads.Post (c & o lends [] & q lends [] & tt) (λ y. refusalIn y .number))
+  pub bcube-summarize : OfEach rooms (λ c. NeverTells bcube-summarize-reads.Post (c & o lends [] & q lends [] & tt) (λ y. refusalIn y .number))
   pub bcube-path-byte : OfEach rooms (λ c. NeverTells bcube-path-byte-reads.Post (c & 0 & 1 & tt) (λ y. refusalIn y .number))
   pub bcube-path-byte-parts : OfEach rooms (λ c. NeverTells bcube-path-byte-parts-reads.Post (c & 0x01 & tt) (λ y. refusalIn y .number))
   pub bcube-read : OfEach rooms (λ c. NeverTells bcube-read-reads.Post (c & 0 & 1 & q lends array (0x01 ∷ []) & b lends stale 9 & tt) (λ y. refusalIn y .number))

@@ -12,6 +12,7 @@ use Rattle.room.proofs.server_count.Reads as server-count
 use Rattle.room.proofs.digit_bound.Reads as digit-bound
 use Rattle.room.proofs.pair_refusal.Reads as pair-refusal
 use Rattle.room.proofs.side_of.Reads as side-of
+use Rattle.room.proofs.side_at.Reads as side-at
 use Rattle.links.proofs.mark.Reads as mark
 use Rattle.links.proofs.clear.Reads as clear
 use Rattle.links.proofs.room_refusal.Reads as room-refusal
@@ -72,6 +73,23 @@ pub record Helpers (o : Loan) : Type 0 where
   pub m-servers-at-level-0 : Never side-of.Post (shapeOf 8 3 4 & 0 & 0 & tt) (aSide 0 1 4)
   -- weights to the base m
   pub stride-to-the-base-m : Never side-of.Post (shapeOf 8 3 4 & 0 & 3 & tt) (aSide 0 64 4)
+  -- ---- side_at
+  -- the switch's number for its first server: switch 1 of level 0 in (4,1)
+  pub number-for-first : Never side-at.Post (fullRoom 4 1 & 0 & 1 & tt) (aSide 1 1 4)
+  -- the number taken for a server: switch 5 of level 0 in (4,2)
+  pub number-for-server : Never side-at.Post (fullRoom 4 2 & 0 & 5 & tt) (aSide 4 1 4)
+  -- the digits of the number not moved up: switch 5 of level 1 in (4,2)
+  pub number-not-moved-up : Never side-at.Post (fullRoom 4 2 & 1 & 5 & tt) (aSide 5 4 4)
+  -- level and number exchanged: switch 0 of level 1 in (4,1)
+  pub level-and-number-exchanged : Never side-at.Post (fullRoom 4 1 & 1 & 0 & tt) (aSide 4 1 4)
+  -- n servers at a switch of level k: switch 5 in (8,3,4)
+  pub n-servers-by-number : Never side-at.Post (shapeOf 8 3 4 & 3 & 5 & tt) (aSide 5 512 8)
+  -- m servers at a switch of level 0
+  pub m-servers-by-number : Never side-at.Post (shapeOf 8 3 4 & 0 & 5 & tt) (aSide 40 1 4)
+  -- weights to the base m
+  pub stride-by-number-to-the-base-m : Never side-at.Post (shapeOf 8 3 4 & 3 & 5 & tt) (aSide 5 64 4)
+  -- a number that no room has
+  pub number-4096-taken : Never side-at.Post (fullRoom 8 3 & 0 & 4096 & tt) (aSide 32768 1 8)
   -- ---- mark
   -- nothing marked
   pub marks-nothing : NeverLeaves mark.Post (o lends failing 3 1 & 3 & 1 & tt) (λ x. now (x .0)) (failing 3 1)

@@ -10,6 +10,7 @@ side-of-spec =
     tie.close
     (tie.spec
     (λ c κs. search needs)
+    (λ c κs. search needs)
     (λ c. search side-none)
     (λ c. search needs)
     (λ c. search side-ports)

@@ -1,0 +1,12 @@
+pub mod PlaceLaws
+pub mod CountLaws
+pub mod RefusalLaws
+pub mod EntryLaws
+pub mod ServerLaws
+pub mod ChangeLaws
+pub mod AnswerLaws
+pub mod KeptLaws
+pub mod MostSwitches
+pub mod DeadLaws
+pub mod NumberLaws
+pub mod Unique
