@@ -154,6 +154,7 @@ WORD(switch, switch, (bcube_room room, uint64_t server, uint64_t level), (room, 
 WORD(server_at, server_at, (bcube_room room, uint64_t level, uint64_t number, uint64_t port), (room, 2, q->source / 8, 3))
 WORD(neighbour, neighbour, (bcube_room room, uint64_t server, uint64_t level, uint64_t value), (room, q->source, 2, 3))
 WORD(path_byte, path_byte, (bcube_room room, uint64_t level, uint64_t value), (room, 2, 3))
+WORD(hop_of, hop_of, (bcube_room room, uint64_t server, uint64_t byte), (room, q->source, q->list[0]))
 WORD(failed_link, failed_link, (bcube_room room, uint64_t server, uint64_t level, BYTES(table)), (room, q->source, 2, q->some, SERVERS))
 WORD(read, read, (ENDS, BYTES(path), uint64_t *servers), (THESE, q->list, 8, out.servers))
 WORD(write, write, (bcube_room room, const uint64_t *servers, size_t servers_len, uint8_t *path), (room, q->met, q->count, out.bytes))
@@ -199,8 +200,8 @@ static const struct {
     a_call *none, *plain, *proved;
 } rows[] = {
 #define NAMED(row) {#row, none_##row, plain_##row##_row, proved_##row}
-    NAMED(digit), NAMED(switch), NAMED(server_at), NAMED(neighbour), NAMED(path_byte), NAMED(failed_link),
-    NAMED(read), NAMED(write), NAMED(reverse), NAMED(check), NAMED(build),
+    NAMED(digit), NAMED(switch), NAMED(server_at), NAMED(neighbour), NAMED(path_byte), NAMED(hop_of),
+    NAMED(failed_link), NAMED(read), NAMED(write), NAMED(reverse), NAMED(check), NAMED(build),
     NAMED(select_whole), NAMED(select_broken), NAMED(pick), NAMED(step),
 #define IN(call, r, room) {#call ":" room, none_##call##r, tested_##call##r, proved_##call##r}
 #define IN_ROOMS(call) IN(call, 0, "8,3"), IN(call, 1, "64,1"), IN(call, 2, "12,3,2"), IN(call, 3, "8,3,4")

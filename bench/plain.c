@@ -8,8 +8,10 @@ static uint64_t mac_at(const uint8_t *entry) {
 
 static bcube_stepped refused(uint64_t word) { return (bcube_stepped){word, 0}; }
 
-static bcube_stepped taken(uint32_t next, uint64_t index, const uint8_t *entry) {
-    return (bcube_stepped){index << 24 | (uint64_t)next << 32 | (uint64_t)entry[6] << 48, mac_at(entry)};
+/* back is the path byte of the way back */
+static bcube_stepped taken(uint32_t next, uint64_t index, const uint8_t *entry, uint32_t back) {
+    uint64_t word = index << 24 | (uint64_t)next << 32 | (uint64_t)entry[6] << 48 | (uint64_t)back << 56;
+    return (bcube_stepped){word, mac_at(entry)};
 }
 
 /* with the tests of the rules, in their order */
@@ -35,7 +37,7 @@ bcube_stepped tested_step(STEP_ARGUMENTS) {
     if (own == value) return refused(10 + hop);
     const uint8_t *entry = neighbours + 8 * byte;
     if (entry[7] != 1) return refused(19 + hop);
-    return taken((uint32_t)here + (value - own) * weight, index + 1, entry);
+    return taken((uint32_t)here + (value - own) * weight, index + 1, entry, level << 6 | own);
 }
 
 /* with no test but the arrival */
@@ -44,7 +46,8 @@ bcube_stepped bare_step(STEP_ARGUMENTS) {
     if (here == destination) return refused(1 << 16);
     uint32_t n = (uint32_t)(room.number & 255), byte = path[index], level = byte >> 6, value = byte & 63, weight = 1;
     for (uint32_t i = 0; i < level; i++) weight *= n;
-    return taken((uint32_t)here + (value - (uint32_t)here / weight % n) * weight, index + 1, neighbours + 8 * byte);
+    uint32_t own = (uint32_t)here / weight % n;
+    return taken((uint32_t)here + (value - own) * weight, index + 1, neighbours + 8 * byte, level << 6 | own);
 }
 
 /* what a call alone costs */

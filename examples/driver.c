@@ -1,5 +1,6 @@
-/* A driver in small: one room, one failed link, and one packet brought from server 0 to server 7; then a server
- * dies, and comes back; and then a switch does, and is named to the field crew.
+/* A driver in small: one room, one failed link, and one packet brought from server 0 to server 7, with the trace that
+ * it leaves; then a server dies, a packet goes around it, and the server comes back; and then a switch dies, and is
+ * named to the field crew.
  *
  * To build and run it on x86-64 Linux, from the root of the repository:
  *
@@ -42,9 +43,9 @@ static uint32_t granted(bcube_answer answer) {
 }
 
 /* Prints a route as the servers that it meets. */
-static void print_route(const uint8_t *path) {
+static void print_route(uint32_t source, uint32_t destination, const uint8_t *path) {
     uint64_t met[BCUBE_ROUTE_SERVERS];
-    uint32_t count = granted(bcube_read(room, SOURCE, DESTINATION, path, BCUBE_PATH_BYTES, met));
+    uint32_t count = granted(bcube_read(room, source, destination, path, BCUBE_PATH_BYTES, met));
     for (uint32_t i = 0; i < count; i++) printf("%s%u", i == 0 ? "  " : " -> ", (unsigned)met[i]);
     printf("\n");
 }
@@ -53,7 +54,7 @@ static void print_route(const uint8_t *path) {
 static size_t select_routes(uint8_t list[BCUBE_LIST_BYTES]) {
     uint32_t count = granted(bcube_select(room, SOURCE, DESTINATION, failed, SERVERS, list));
     printf("%u routes from %d to %d:\n", count, SOURCE, DESTINATION);
-    for (uint32_t i = 0; i < count; i++) print_route(list + BCUBE_PATH_BYTES * i);
+    for (uint32_t i = 0; i < count; i++) print_route(SOURCE, DESTINATION, list + BCUBE_PATH_BYTES * i);
     return (size_t)BCUBE_PATH_BYTES * count;
 }
 
@@ -108,9 +109,26 @@ static void fill_table(uint32_t server, uint8_t table[BCUBE_NEIGHBOUR_TABLE_BYTE
         }
 }
 
+/* Fills the tables of all servers, by the links as they are now. */
+static void fill_tables(void) {
+    for (uint32_t server = 0; server < SERVERS; server++) fill_table(server, neighbours[server]);
+}
+
+/* Prints the path by which a delivered packet can be answered: its trace read backwards, with zeros after. bcube_reverse
+ * writes the same bytes from the packet's own path. */
+static void print_way_back(const uint8_t trace[BCUBE_PATH_BYTES], uint32_t hops) {
+    uint8_t back[BCUBE_PATH_BYTES] = {0};
+    for (uint32_t i = 0; i < hops; i++) back[i] = trace[hops - 1 - i];
+    printf("  the way back, by the trace:");
+    for (uint32_t i = 0; i < BCUBE_PATH_BYTES; i++) printf(" %02x", back[i]);
+    printf("\n");
+    print_route(DESTINATION, SOURCE, back);
+}
+
 /* Brings one packet to its destination. The loop stands for the servers on the way: each makes one step. */
 static void forward(const uint8_t path[BCUBE_PATH_BYTES]) {
     uint32_t here = SOURCE, index = 0; /* the index travels in the packet */
+    uint8_t trace[BCUBE_PATH_BYTES];   /* of each step the level and the value that its hop replaced, as one byte */
     for (;;) {
         bcube_stepped step = bcube_step(room, here, DESTINATION, index, path, BCUBE_PATH_BYTES, neighbours[here],
                                         BCUBE_NEIGHBOUR_TABLE_BYTES);
@@ -121,11 +139,14 @@ static void forward(const uint8_t path[BCUBE_PATH_BYTES]) {
         }
         if (bcube_step_delivered(step)) {
             printf("  delivered at %u\n", here);
+            print_way_back(trace, index);
             return;
         }
         printf("  %u sends it out of port %u to ", here, bcube_step_port(step));
         for (unsigned i = 0; i < 6; i++) printf("%s%02x", i == 0 ? "" : ":", bcube_mac_byte(step.mac, i));
         printf(", which is server %u\n", bcube_step_next(step));
+        printf("    trace: server %u, level %u, old value %u\n", here, bcube_step_level(step), bcube_step_old(step));
+        trace[index] = bcube_step_back(step);
         here = bcube_step_next(step);
         index = bcube_step_index(step);
     }
@@ -152,7 +173,7 @@ int main(void) {
     const uint8_t *path = list + bcube_pick_offset(picked);
     printf("\npicked: route %u of the %s list\n", bcube_pick_route(picked), list == fresh ? "fresh" : "kept");
 
-    for (uint32_t server = 0; server < SERVERS; server++) fill_table(server, neighbours[server]);
+    fill_tables();
     forward(path);
 
     printf("\nthe same packet by the broken route that was kept\n");
@@ -161,6 +182,9 @@ int main(void) {
     printf("\nserver 4 is dead\n");
     granted(bcube_mark_all(room, 4, failed, SERVERS, summary, switches));
     select_routes(fresh);
+    printf("a packet by the first of them\n");
+    fill_tables();
+    forward(fresh);
     printf("servers 3 and 4 are whole again\n");
     granted(bcube_clear_all(room, 3, failed, SERVERS, summary, switches));
     granted(bcube_clear_all(room, 4, failed, SERVERS, summary, switches));

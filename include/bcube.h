@@ -26,6 +26,12 @@
  * A list of routes is one array after another, at most k+1 of them. Two routes are parallel when they
  * share no switch, and no server but the ends.
  *
+ * THE WAY BACK. A hop's old value is the value that it replaces: the digit, at the hop's level, of the server hopped
+ * from. 64 times the level plus the old value is the path byte of the way back: a hop by it from the server that the
+ * hop led to leads back. bcube_step gives it with each step, and bcube_hop_of for a hop by itself. The bytes of the way
+ * back of a packet's steps, in turn, are its trace. Read backwards, with zeros after, the trace of a packet that came
+ * by a route is the array that bcube_reverse writes for that route.
+ *
  * THE FAILED-LINK TABLE has one byte a server, N in all (4,096 at most). Bit l of byte s is set while server
  * s's link at level l is failed. The driver owns it: begin with N zero bytes, and use bcube_mark and
  * bcube_clear, or bcube_mark_all and bcube_clear_all for all links of a server. Every call that
@@ -98,10 +104,12 @@ extern "C" {
 
 /* ---- the version: 10,000 times the first number, 100 times the second, and the third */
 
-#define BCUBE_VERSION 40000 /* 4.0.0; docs/CHANGES.md says what each version changed */
+#define BCUBE_VERSION 40100 /* 4.1.0; docs/CHANGES.md says what each version changed */
 
 /* The version of the library that the program runs with, to hold against BCUBE_VERSION, the header's. Another
- * first number says that the two may not fit: docs/CHANGES.md says what it changed. Cost: constant; 0 bytes of stack. */
+ * first number says that the two may not fit: docs/CHANGES.md says what it changed. A library of a lower version lacks
+ * what was added since: before 40100 bcube_step_level, bcube_step_old and bcube_step_back read 0 of every step.
+ * Cost: constant; 0 bytes of stack. */
 BCUBE_RESULT uint64_t bcube_version(void);
 
 /* ---- limits and sizes */
@@ -128,8 +136,8 @@ BCUBE_RESULT uint64_t bcube_version(void);
  *
  * Where one arises: 8 to 12 and 23 have the route and the hop at which they were found (a step's, and its
  * 19, the index + 1); 13 has hop 8; 14 the place of the first byte after the arrival that is not zero; 15 the
- * later route of the pair, and hop 0. A single array, a single byte, and the servers to write, are route 1.
- * All others have route 0 and hop 0. */
+ * later route of the pair, and hop 0. A single array, a single byte, a hop asked for by itself, and the servers to
+ * write, are route 1; a single byte and a hop by itself are its hop 1. All other refusals have route 0 and hop 0. */
 #define BCUBE_NOT_REFUSED 0
 #define BCUBE_REFUSED_PORTS 1
 #define BCUBE_REFUSED_LEVELS 2
@@ -205,7 +213,7 @@ typedef struct {
 
 typedef struct {
     uint64_t word; /* from the lowest byte: refusal, its hop, 1 if delivered, next index, next server (two bytes),
-                      OutPort, 0 */
+                      OutPort, and the path byte of the way back: 64 times the hop's level plus its old value */
     uint64_t mac;  /* the MAC as stored, its first byte highest (bits 40 to 47) */
 } bcube_stepped;
 
@@ -215,7 +223,8 @@ static inline uint32_t bcube_refusal(bcube_answer answer) { return (uint32_t)(an
 /* The route at which a refusal arose, counted from 1; 0 where the refusal has none, or where there is none. */
 static inline uint32_t bcube_route(bcube_answer answer) { return (uint32_t)(answer.word >> 8 & 255); }
 
-/* The hop at which a refusal arose, counted from 1; 0 where the refusal has none, or where there is none. */
+/* The hop at which a refusal arose, counted from 1; 0 where the refusal has none, or where there is none. (What
+ * bcube_hop_of answers is read by bcube_hop_next, bcube_hop_level, bcube_hop_old and bcube_hop_back.) */
 static inline uint32_t bcube_hop(bcube_answer answer) { return (uint32_t)(answer.word >> 16 & 255); }
 
 /* The answer as a number; 0 on a refusal. */
@@ -350,29 +359,49 @@ static inline uint32_t bcube_byte_level(bcube_answer parts) { return bcube_value
 /* The value of those parts; 0 on a refusal. */
 static inline uint32_t bcube_byte_value(bcube_answer parts) { return bcube_value(parts) & 255; }
 
+/* The hop by a path byte from a server: the server that it leads to, its level, and its old value, the one that it
+ * replaces, which is the digit of the server hopped from at that level. It looks at no failed links.
+ * Refuses 1, 2, 26, 3, 4; then, at route 1 and hop 1, 8 (a number above 255 too), 9, 10. Value: all three; read it by
+ * the four functions below. Cost: constant; 64 bytes of stack. */
+BCUBE_RESULT bcube_answer bcube_hop_of(bcube_room room, uint64_t server, uint64_t byte);
+
+/* The server to which that hop leads; 0 on a refusal. */
+static inline uint32_t bcube_hop_next(bcube_answer hop) { return bcube_value(hop) & 65535; }
+
+/* Its level; 0 on a refusal. */
+static inline uint32_t bcube_hop_level(bcube_answer hop) { return bcube_value(hop) >> 22 & 3; }
+
+/* Its old value; 0 on a refusal. */
+static inline uint32_t bcube_hop_old(bcube_answer hop) { return bcube_value(hop) >> 16 & 63; }
+
+/* The path byte of its way back, 64 times the level plus the old value; 0 on a refusal. (It may be 0 too where nothing
+ * is refused: ask bcube_refusal.) */
+static inline uint8_t bcube_hop_back(bcube_answer hop) { return (uint8_t)(bcube_value(hop) >> 16 & 255); }
+
 /* Reads one array as a route from source to destination. It looks at no failed links.
  * Refuses 1, 2, 26, 3, 4 (either end), 5, 7; then hop by hop 8, 9, 10, 12; 13 after the eighth hop; 14 on the
  * arrival. Value: how many servers the route has, its hops + 1. Written: those servers in order, the
- * source first; zeros after the last. Cost: constant; 704 bytes of stack. */
+ * source first; zeros after the last. Cost: constant; 448 bytes of stack. */
 BCUBE_BUFFER(6) BCUBE_RESULT bcube_answer bcube_read(bcube_room room, uint64_t source, uint64_t destination,
                                                      const uint8_t *path, size_t path_len, uint64_t servers[9]);
 
 /* Writes a route as path bytes: the servers in order, the source first, servers_len of them (2 to 9).
  * Refuses 1, 2, 26, 3, 22, 4 (any of them), 5 (the first is the last); then hop by hop 23, 12. Value: 0.
- * Written: the 8 path bytes, zeros after the last hop. Cost: constant; 384 bytes of stack. */
+ * Written: the 8 path bytes, zeros after the last hop. Cost: constant; 256 bytes of stack. */
 BCUBE_BUFFER(4) BCUBE_RESULT bcube_answer bcube_write(bcube_room room, const uint64_t *servers, size_t servers_len,
                                                       uint8_t path[8]);
 
 /* The same route backwards. `path` is a route from source to destination, and refusals are those of
  * bcube_read. Value: 0. Written: the path bytes of the route from destination to source that meets the same
- * servers. Twice gives the first bytes again. Cost: constant; 1024 bytes of stack. */
+ * servers: the bytes of the way back of its hops, the last hop's first. Twice gives the first bytes again.
+ * Cost: constant; 448 bytes of stack. */
 BCUBE_BUFFER(6) BCUBE_RESULT bcube_answer bcube_reverse(bcube_room room, uint64_t source, uint64_t destination,
                                                         const uint8_t *path, size_t path_len, uint8_t reversed[8]);
 
 /* Checks a list of 1 to k+1 routes from source to destination: each reads over live links, and every two are
  * parallel. Refuses 1, 2, 26, 3, 4 (either end), 5, 6, 7 (an empty list too); then route by route, hop by hop 8, 9, 10,
  * 11, 12, with 13 after the eighth hop and 14 on the arrival; then 15, by first, then by second route.
- * Value: 0. Cost: the table; 2368 bytes of stack. */
+ * Value: 0. Cost: the table; 2048 bytes of stack. */
 BCUBE_RESULT bcube_answer bcube_check(bcube_room room, uint64_t source, uint64_t destination, const uint8_t *table,
                                       size_t table_len, const uint8_t *list, size_t list_len);
 
@@ -399,7 +428,7 @@ BCUBE_BUFFER(6) BCUBE_RESULT bcube_answer bcube_find(bcube_room room, uint64_t s
  * Refuses 1, 2, 26, 3, 4 (either end), 5, 6; and last 16, when no route at all of eight hops or fewer crosses
  * only live links. Value: how many arrays are written, 1 to k+1. Written: the arrays in slot order, closed
  * up; zeros after them.
- * Cost: the table, and a search for each broken route; 45888 bytes of stack. */
+ * Cost: the table, and a search for each broken route; 45760 bytes of stack. */
 BCUBE_BUFFER(6) BCUBE_RESULT bcube_answer bcube_select(bcube_room room, uint64_t source, uint64_t destination,
                                                        const uint8_t *table, size_t table_len, uint8_t routes[32]);
 
@@ -409,7 +438,7 @@ BCUBE_BUFFER(6) BCUBE_RESULT bcube_answer bcube_select(bcube_room room, uint64_t
  * means that bcube_check would take it as a list of one. Either list may be empty. Refuses 1, 2, 26, 3, 4 (either
  * end), 5, 6, 7 (either list; an empty list is allowed); and last 16, when no route of either list is usable.
  * Value: which route it is; read it by the three functions below.
- * Cost: the table; 704 bytes of stack. */
+ * Cost: the table; 512 bytes of stack. */
 BCUBE_RESULT bcube_answer bcube_pick(bcube_room room, uint64_t source, uint64_t destination, const uint8_t *table,
                                      size_t table_len, const uint8_t *fresh, size_t fresh_len, const uint8_t *kept,
                                      size_t kept_len);
@@ -440,6 +469,7 @@ static inline size_t bcube_pick_offset(bcube_answer answer) {
  *     else if (bcube_step_delivered(step)) hand it up
  *     else {
  *         store bcube_step_index(step) as the packet's index,
+ *         for a trace, note bcube_step_level(step) and bcube_step_old(step), or the two as bcube_step_back(step),
  *         send it out of port bcube_step_port(step) to the address of which
  *         bcube_mac_byte(step.mac, 0) .. bcube_mac_byte(step.mac, 5) are the six bytes
  *     }
@@ -449,9 +479,14 @@ static inline size_t bcube_pick_offset(bcube_answer answer) {
  * indexed by path byte, each six bytes MAC, one OutPort, one StatusFlag. A flag of 1 is available, and every
  * other value is not. An entry whose byte leads to no other server is never looked at, and may hold anything.
  *
+ * The step also says what its hop leaves behind: the level, and the old value, which is the digit of here at that
+ * level; both in one byte, the path byte of the way back. Collected in turn, trace[index] = bcube_step_back(step), these bytes are
+ * the packet's trace. Once a packet that came by a route is delivered, after h steps, trace[h-1] .. trace[0] and then
+ * zeros are the array that bcube_reverse writes for its path.
+ *
  * Refuses 1, 2, 26, 3, 4 (here or the destination), 17, 7, 18, 8, 9, 10, 19. Between 7 and 18 it is asked whether the
  * packet has arrived, and an arrived packet is delivered with any index. On a refusal all but the refusal and
- * its hop is 0. At a delivery all but the 1 that says so is 0. A stored MAC may be 0 too.
+ * its hop is 0. At a delivery all but the 1 that says so is 0. A stored MAC may be 0 too, and a byte of the way back.
  * Cost: constant; 64 bytes of stack. */
 BCUBE_RESULT bcube_stepped bcube_step(bcube_room room, uint64_t here, uint64_t destination, uint64_t index,
                                       const uint8_t *path, size_t path_len, const uint8_t *neighbours,
@@ -477,6 +512,17 @@ static inline uint32_t bcube_step_next(bcube_stepped step) { return (uint32_t)(s
 
 /* The OutPort, as stored in the table. */
 static inline uint8_t bcube_step_port(bcube_stepped step) { return (uint8_t)(step.word >> 48 & 255); }
+
+/* The level of the hop; 0 at a delivery and on a refusal. */
+static inline uint32_t bcube_step_level(bcube_stepped step) { return (uint32_t)(step.word >> 62); }
+
+/* The old value of the hop, the one that it replaces: the digit of here at the level; 0 at a delivery and on a
+ * refusal. */
+static inline uint32_t bcube_step_old(bcube_stepped step) { return (uint32_t)(step.word >> 56 & 63); }
+
+/* The path byte of the way back, 64 times the level plus the old value, as a trace collects it; 0 at a delivery and on
+ * a refusal. */
+static inline uint8_t bcube_step_back(bcube_stepped step) { return (uint8_t)(step.word >> 56); }
 
 /* Byte i of a MAC, 0 to 5, in the order in which the table stores it; 0 where i is above 5. */
 static inline uint8_t bcube_mac_byte(uint64_t mac, uint64_t i) {

@@ -47,6 +47,7 @@ BOTH(a_word, neighbour, (ROOM, NUMBER(0), NUMBER(1), NUMBER(2)))
 BOTH(a_word, between, (ROOM, NUMBER(0), NUMBER(1)))
 BOTH(a_word, path_byte, (ROOM, NUMBER(0), NUMBER(1)))
 BOTH(a_word, path_byte_parts, (ROOM, NUMBER(0)))
+BOTH(a_word, hop_of, (ROOM, NUMBER(0), NUMBER(1)))
 BOTH(a_word, failed_link, (ROOM, NUMBER(0), NUMBER(1), LENT(0)))
 BOTH(a_word, mark, (ROOM, NUMBER(0), NUMBER(1), WRITTEN(0), WRITTEN(1)))
 BOTH(a_word, clear, (ROOM, NUMBER(0), NUMBER(1), WRITTEN(0), WRITTEN(1)))
@@ -101,6 +102,7 @@ static const struct {
     [BETWEEN] = {CALL(between, SHAPED | R(4), 0), {"one", "other"}, {0}},
     [PATH_BYTE] = {CALL(path_byte, SHAPED | R(20) | R(21), 0), {"level", "value"}, {0}},
     [PATH_BYTE_PARTS] = {CALL(path_byte_parts, SHAPED | R(8) | R(9), 0), {"byte"}, {0}},
+    [HOP_OF] = {CALL(hop_of, SHAPED | R(4) | R(8) | R(9) | R(10), 0), {"server", "byte"}, {0}},
     [FAILED_LINK] = {CALL(failed_link, SHAPED | R(4) | R(20) | R(6), 0), {"server", "level"}, {"table"}},
     [MARK] = {CALL(mark, SUMMED | R(4) | R(20), FIRST_TWO), {"server", "level"}, {"table", "summary"}},
     [CLEAR] = {CALL(clear, SUMMED | R(4) | R(20), FIRST_TWO), {"server", "level"}, {"table", "summary"}},
@@ -198,9 +200,10 @@ static void print_answer(const char *whose, answer given, enum call call) {
     bcube_answer word = {given.word};
     printf("  %s %016" PRIx64, whose, given.word);
     if (call == STEP)
-        printf(" %012" PRIx64 " (refusal %" PRIu32 ", hop %" PRIu32 ", delivered %d, index %" PRIu32 ", next %" PRIu32 ")",
+        printf(" %012" PRIx64 " (refusal %" PRIu32 ", hop %" PRIu32 ", delivered %d, index %" PRIu32 ", next %" PRIu32
+               ", level %" PRIu32 ", old value %" PRIu32 ")",
                given.mac, bcube_step_refusal(given), bcube_step_hop(given), bcube_step_delivered(given),
-               bcube_step_index(given), bcube_step_next(given));
+               bcube_step_index(given), bcube_step_next(given), bcube_step_level(given), bcube_step_old(given));
     else if (call > FILLED_ROOM)
         printf(" (refusal %" PRIu32 ", route %" PRIu32 ", hop %" PRIu32 ", value %" PRIu32 ")", bcube_refusal(word),
                bcube_route(word), bcube_hop(word), bcube_value(word));

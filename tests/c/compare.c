@@ -6,7 +6,9 @@
  * every room of at most 64 servers, full and half-filled: each server, level, value, switch and port, each link, each
  * ordered pair under several failed-link tables, each path byte as a hop; but only some of the one-level half-filled
  * rooms for links, pairs and path bytes, some of the two-level ones for pairs and path bytes, and some of the one-level
- * full rooms for path bytes; in half-filled rooms each vacant port.
+ * full rooms for path bytes; in half-filled rooms each vacant port. A hop by itself is asked in all these rooms, but
+ * in some of the one-level half-filled ones only: from each server and from numbers that are none, by each path byte
+ * and by numbers that are none; and each hop that is answered, back again.
  *
  * Then the summary: in rooms of few links every table, and every summary beside some tables; in every room of at most
  * 64 servers each switch dead, alone and beside others; there, but in some of the one-level half-filled ones only, each
@@ -373,6 +375,35 @@ static void worked_wiring(void) {
     worked(about(PATH_BYTE_PARTS, 256, 0, 0, 0), refused(8, 1, 1), "", 0);
 }
 
+/* a hop by itself: a number above 255 is no byte; a server that there is not comes first, and a room before it */
+static void worked_hops(void) {
+    static const struct {
+        uint32_t n, k, m, why;
+        uint64_t server, byte;
+        uint32_t next, level, old;
+    } hops[] = {
+        {8, 3, 8, 0, 1, 0xc1, 513, 3, 0},        {8, 3, 4, 0, 2047, 0xc0, 511, 3, 3},  {2, 0, 2, 0, 1, 0x00, 0, 0, 1},
+        {8, 3, 8, 0, 4095, 0x83, 3839, 2, 7},    {64, 1, 64, 0, 4095, 0x40, 63, 1, 63}, {64, 0, 2, 0, 0, 0x01, 1, 0, 0},
+        {45, 2, 2, 0, 4049, 0x80, 2024, 2, 1},   {8, 3, 4, 9, 2047, 0xc4, 0, 0, 0},    {4, 1, 4, 8, 0, 0x80, 0, 0, 0},
+        {4, 1, 4, 10, 7, 0x41, 0, 0, 0},         {4, 1, 4, 8, 0, 0xbf, 0, 0, 0},       {4, 1, 4, 9, 0, 0x04, 0, 0, 0},
+        {8, 3, 8, 8, 1, 256, 0, 0, 0},           {8, 3, 8, 8, 1, 256 + 0xc1, 0, 0, 0}, {8, 3, 8, 8, 1, UINT64_MAX, 0, 0, 0},
+        {8, 3, 8, 8, 1, (UINT64_C(1) << 32) + 0xc1, 0, 0, 0}, {8, 3, 4, 4, 2048, 0xc4, 0, 0, 0},
+        {4, 1, 4, 4, 16, 256, 0, 0, 0},          {4, 1, 4, 4, (UINT64_C(1) << 32) + 1, 0x41, 0, 0, 0},
+        {9, 3, 9, 3, 9999, 256, 0, 0, 0},        {8, 3, 9, 26, 9999, 256, 0, 0, 0},    {8, 4, 9, 2, 9999, 256, 0, 0, 0},
+        {65, 4, 9, 1, 9999, 256, 0, 0, 0}};
+    for (size_t i = 0; i < sizeof hops / sizeof *hops; i++) {
+        uint32_t placed = hops[i].why >= 8 && hops[i].why <= 10, back = 64 * hops[i].level + hops[i].old;
+        room = plain_filled_room(hops[i].n, hops[i].k, hops[i].m);
+        uint64_t word = hops[i].why ? refused(hops[i].why, placed, placed) : valued(65536 * back + hops[i].next);
+        bcube_answer hop = {word};
+        struct question q = about(HOP_OF, hops[i].server, hops[i].byte, 0, 0);
+        worked(q, word, "", 0);
+        if (bcube_hop_next(hop) != hops[i].next || bcube_hop_level(hop) != hops[i].level ||
+            bcube_hop_old(hop) != hops[i].old || bcube_hop_back(hop) != back)
+            not_as_worked(&q, (answer){word, 0}, (answer){word, 0});
+    }
+}
+
 /* a table of eight bytes and a summary of six, or of as many as are said, before a call and after it */
 struct worked_summary {
     enum call call;
@@ -536,6 +567,51 @@ static void worked_refusals(void) {
     worked(with(with(about(STEP, 0, 3, 8, 0), twice, 8), neighbours, BCUBE_NEIGHBOUR_TABLE_BYTES), 18, "", 0);
     enter_full(8, 3);
     worked(with(about(READ, 0, 3, 0, 0), eight, 8), refused(9, 1, 1), "", 0);
+}
+
+/* the steps of a packet: here, the index, and what has to be answered */
+struct worked_step {
+    uint32_t here, index, delivered, next, mac, port, level, old;
+};
+
+static void worked_packet(uint32_t destination, const uint8_t path[ARRAY], const struct worked_step *rows, size_t count) {
+    for (size_t i = 0; i < count; i++) {
+        const struct worked_step *row = &rows[i];
+        struct question q = with(about(STEP, row->here, destination, row->index, 0), path, ARRAY);
+        q = with(q, neighbours, BCUBE_NEIGHBOUR_TABLE_BYTES);
+        uint32_t back = 64 * row->level + row->old, index = row->delivered ? 0 : row->index + 1;
+        answer wanted = {(uint64_t)row->delivered << 16 | (uint64_t)index << 24 | (uint64_t)row->next << 32 |
+                             (uint64_t)row->port << 48 | (uint64_t)back << 56, row->mac};
+        answer given = ask(&q);
+        if (given.word != wanted.word || given.mac != wanted.mac || bcube_step_level(given) != row->level ||
+            bcube_step_old(given) != row->old || bcube_step_back(given) != back)
+            not_as_worked(&q, given, wanted);
+    }
+}
+
+/* packets whose steps say what each hop left behind, and the same backwards as the reversed path. Every neighbour is
+ * available; its MAC ends with the path byte, and its OutPort is the level */
+static void worked_steps(void) {
+    static const uint8_t figure4[ARRAY] = {0xc1, 0x41}, detour[ARRAY] = {0xc0, 0x41, 0xc3};
+    static const uint8_t figure4_back[ARRAY] = {0x40, 0xc0}, detour_back[ARRAY] = {0xc0, 0x40, 0xc3};
+    static const struct worked_step by_figure4[] = {{1, 0, 0, 513, 193, 3, 3, 0}, {513, 1, 0, 521, 65, 1, 1, 0},
+                                                    {521, 2, 1, 0, 0, 0, 0, 0}};
+    static const struct worked_step by_detour[] = {{1537, 0, 0, 1, 192, 3, 3, 3}, {1, 1, 0, 9, 65, 1, 1, 0},
+                                                   {9, 2, 0, 1545, 195, 3, 3, 0}, {1545, 3, 1, 0, 0, 0, 0, 0}};
+    memset(neighbours, 0, sizeof neighbours);
+    for (uint32_t byte = 0; byte < 256; byte++) {
+        uint8_t *entry = neighbours + BCUBE_NEIGHBOUR_ENTRY_BYTES * byte;
+        entry[5] = (uint8_t)byte;
+        entry[BCUBE_NEIGHBOUR_PORT] = (uint8_t)(byte / 64);
+        entry[BCUBE_NEIGHBOUR_FLAG] = BCUBE_NEIGHBOUR_AVAILABLE;
+    }
+    enter_full(8, 3);
+    worked_packet(521, figure4, by_figure4, 3);
+    worked(with(about(REVERSE, 1, 521, 0, 0), figure4, ARRAY), 0, figure4_back, ARRAY);
+    enter(8, 3, 4);
+    worked_packet(1545, detour, by_detour, 4);
+    worked(with(about(REVERSE, 1537, 1545, 0, 0), detour, ARRAY), 0, detour_back, ARRAY);
+    fill_neighbours();
 }
 
 static void picked(bcube_answer given, uint32_t list, uint32_t route, size_t offset) {
@@ -803,6 +879,31 @@ static void every_hop(void) {
     for (uint32_t a = 0; a < servers; a++) every_byte(a, another(a));
 }
 
+/* ---- one hop by itself, and back again */
+
+/* an answered hop goes at the level of its byte; by the byte of its way back a hop leads back, and has the first byte
+ * as its own way back */
+static void one_hop(uint64_t server, uint64_t byte) {
+    struct question q = about(HOP_OF, server, byte, 0, 0);
+    bcube_answer hop = ask_word(&q);
+    if (bcube_refusal(hop)) return;
+    uint32_t level = (uint32_t)byte / 64, back = bcube_hop_back(hop);
+    if (bcube_hop_level(hop) != level || bcube_hop_old(hop) != digit_of((uint32_t)server, level) ||
+        back != 64 * bcube_hop_level(hop) + bcube_hop_old(hop))
+        not_as_worked(&q, (answer){hop.word, 0}, (answer){hop.word, 0});
+    worked(about(HOP_OF, bcube_hop_next(hop), back, 0, 0), valued((uint32_t)(byte << 16 | server)), "", 0);
+}
+
+/* by every path byte, and by numbers that are none; */
+static void every_hop_from(uint64_t server) {
+    for (uint32_t byte = 0; byte < 256 + BEYOND; byte++) one_hop(server, beyond(byte, 256));
+}
+
+/* from every server, and from numbers that are none */
+static void every_hop_by_itself(void) {
+    for (uint32_t i = 0; i < servers + BEYOND; i++) every_hop_from(beyond(i, servers));
+}
+
 /* ---- half-filled rooms: the vacant ports of level k, m to n - 1, where a full room has servers */
 
 /* an array whose byte at this hop names a vacant port; all links are live */
@@ -834,6 +935,7 @@ static void vacant_port(uint32_t port) {
     worked(about(SERVER_AT, k, any(servers / m), port, 0), refused(21, 0, 0), "", 0);
     worked(about(PATH_BYTE, k, port, 0, 0), refused(21, 0, 0), "", 0);
     worked(about(PATH_BYTE_PARTS, byte, 0, 0, 0), refused(9, 1, 1), "", 0);
+    worked(about(HOP_OF, source, byte, 0, 0), refused(9, 1, 1), "", 0);
     vacant_hop(source, another(source), first, 1);
     if (servers == 2) return;
     met = after(source, second[0]);
@@ -1131,13 +1233,14 @@ static struct question any_question(enum call call) {
     uint32_t source = any_server(), destination = another(source);
     uint8_t routes[BCUBE_LIST_BYTES];
     struct question q = about(call, source, destination, 0, 0);
-    if (call <= PATH_BYTE_PARTS || call == BUILD) {
+    if (call <= HOP_OF || call == BUILD) {
         uint32_t level = any(k + 1);
         if (call == ROOM_OF || call == FILLED_ROOM) q.number[0] = any(70), q.number[1] = any(6), q.number[2] = any(70);
         if (call == BOUND || call == SWITCHES || call == SERVER_AT || call == PATH_BYTE) q.number[0] = level;
         if (call == SERVER_AT) q.number[1] = any(servers / bound(level)), q.number[2] = any(bound(level));
         if (call == PATH_BYTE) q.number[1] = any(bound(level));
         if (call == PATH_BYTE_PARTS) q.number[0] = any(256);
+        if (call == HOP_OF) q.number[1] = any(2) ? any_hop(source) : any(256);
         if (call == ADDRESS)
             for (uint32_t i = 0; i < 4; i++) q.number[i] = i <= k ? any(bound(i)) : 0;
         if (call == DIGIT || call == SWITCH || call == NEIGHBOUR) q.number[1] = level;
@@ -1315,6 +1418,8 @@ static void some_pairs(uint32_t pairs) {
     }
     make_table(0, 1);
     every_byte(any_server(), any_server());
+    every_hop_from(any_server());
+    every_hop_from(any(2) ? servers - 1 : servers + any(2));
 }
 
 /* lists in rooms of live links, most of them of routes that read: what is left is whether they are parallel */
@@ -1368,11 +1473,13 @@ int main(int count, char **words) {
     worked_half_filled();
     worked_half_filled_routes();
     worked_wiring();
+    worked_hops();
     worked_summaries();
     worked_places();
     worked_nothing();
     worked_routes();
     worked_refusals();
+    worked_steps();
     worked_picking();
     part("worked by hand");
     rooms_of_any_numbers();
@@ -1389,6 +1496,7 @@ int main(int count, char **words) {
     small_full_rooms(pairs_under_tables, 1);
     part("full rooms of at most 64 servers: every ordered pair");
     small_full_rooms(every_hop, 31);
+    small_full_rooms(every_hop_by_itself, 1);
     part("full rooms of at most 64 servers: every path byte");
     small_half_filled_rooms(every_server, 1, 1);
     small_half_filled_rooms(every_digit, 1, 1);
@@ -1400,6 +1508,7 @@ int main(int count, char **words) {
     pairs_under_tables();
     part("half-filled rooms of at most 64 servers: every ordered pair");
     small_half_filled_rooms(every_hop, 311, 7);
+    small_half_filled_rooms(every_hop_by_itself, 31, 1);
     part("half-filled rooms of at most 64 servers: every path byte");
     small_half_filled_rooms(every_vacant_port, 1, 1);
     for (uint32_t i = 0; i < CHOSEN; i++) enter_chosen(i), every_vacant_port();

@@ -9,9 +9,12 @@
  * link must be delivered after exactly its hops; any other must be refused with 19 at its first hop over one.
  * Then the library selects routes for the pair (in a large room, for one pair in eight) under the failed-link table,
  * and every selected route must be delivered after exactly its hops; where it has none to give, no built route may be
- * unbroken. Then paths are damaged, one byte at a time, and every step of each must be as the plain step
- * says; a hop to a vacant port of level k, m to n - 1, must be refused with 9. Last come steps with any numbers
- * and lengths. Prints what was done; status 1 if anything was not as it must be. */
+ * unbroken. Each step must say the level of its hop and the value that the hop replaces, and a hop by these two from
+ * the next server must lead back; each packet collects them as its trace, and when it is delivered the trace read
+ * backwards must be what bcube_reverse writes for its path. Then paths are damaged, one byte at a time, and every step
+ * of each must be as the plain step says; a hop to a vacant port of level k, m to n - 1, must be refused with 9; and
+ * the trace is held to the reversed path where a damaged path is a route and is delivered. Last come steps with any
+ * numbers and lengths. Prints what was done; status 1 if anything was not as it must be. */
 #include "plain.h"
 
 #include <inttypes.h>
@@ -155,7 +158,7 @@ static struct route taken(uint32_t source, uint32_t destination, const uint8_t *
 
 /* ---- forwarding */
 
-static unsigned long delivered, broken, selected, unreached, damaged, vacant;
+static unsigned long delivered, broken, selected, unreached, damaged, vacant, traced, led_back;
 
 /* the first hop over a failed link, counted from 1; 0 if there is none */
 static uint32_t first_failed(const struct route *r) {
@@ -164,9 +167,44 @@ static uint32_t first_failed(const struct route *r) {
     return 0;
 }
 
+/* what the steps of a packet leave behind: of each the byte of its way back */
+struct trace {
+    uint32_t hops;
+    uint8_t back[8];
+};
+
+/* one more step, from here: what it says of its hop has to be so, and a hop by that has to lead back */
+static void note(struct trace *trace, uint32_t here, uint8_t byte, bcube_stepped s) {
+    uint32_t level = bcube_step_level(s), old = bcube_step_old(s), next = bcube_step_next(s);
+    if (level != byte / 64u || old != digit_of(here, level) || bcube_step_back(s) != 64 * level + old)
+        wrong(room, here, next, trace->hops, "%016" PRIx64 ", level %" PRIu32 ", old value %" PRIu32 "; wanted %d and %" PRIu32,
+              s.word, level, old, byte / 64, digit_of(here, byte / 64));
+    bcube_answer back = bcube_hop_of(room, next, bcube_step_back(s)), on = bcube_hop_of(room, here, byte);
+    led_back++;
+    if (bcube_refusal(back) != 0 || bcube_hop_next(back) != here || bcube_hop_back(back) != byte)
+        wrong(room, next, here, trace->hops, "a hop back of %016" PRIx64, back.word);
+    if (bcube_refusal(on) != 0 || bcube_hop_next(on) != next || bcube_hop_level(on) != level || bcube_hop_old(on) != old)
+        wrong(room, here, next, trace->hops, "a hop of %016" PRIx64 " and a step of %016" PRIx64, on.word, s.word);
+    if (trace->hops < 8) trace->back[trace->hops] = bcube_step_back(s);
+    trace->hops++;
+}
+
+/* the trace of a delivered packet, read backwards, against the reversed path; a path that is no route has none */
+static void held_trace(const struct trace *trace, uint32_t source, uint32_t destination, const uint8_t *path, int is_route) {
+    uint8_t turned[8] = {0}, reversed[8];
+    bcube_answer answer = bcube_reverse(room, source, destination, path, 8, reversed);
+    if (bcube_refusal(answer) != 0 && !is_route) return;
+    for (uint32_t i = 0; i < trace->hops && i < 8; i++) turned[i] = trace->back[trace->hops - 1 - i];
+    traced++;
+    if (bcube_refusal(answer) != 0 || trace->hops > 8 || memcmp(turned, reversed, 8) != 0)
+        wrong(room, source, destination, trace->hops, "a trace that backwards is not the reversed path: %016" PRIx64,
+              answer.word);
+}
+
 /* forwards a packet until it is delivered (1) or refused (0), either of which has to be as the route says */
 static int forward(const struct route *r, uint32_t destination) {
     uint32_t first = first_failed(r), here = r->met[0], index = 0, count = 0;
+    struct trace trace = {0};
     for (;;) {
         bcube_stepped s = held_step(room, here, destination, index, r->path, 8, tables[here], BCUBE_NEIGHBOUR_TABLE_BYTES);
         if (bcube_step_refusal(s) != 0) {
@@ -180,8 +218,10 @@ static int forward(const struct route *r, uint32_t destination) {
                 wrong(room, here, destination, index,
                       "delivered after %" PRIu32 " hops, wanted after %" PRIu32 " (first failed link at hop %" PRIu32 ")", count,
                       r->hops, first);
+            held_trace(&trace, r->met[0], destination, r->path, 1);
             return 1;
         }
+        note(&trace, here, r->path[index], s);
         count++;
         here = bcube_step_next(s);
         index = bcube_step_index(s);
@@ -230,10 +270,13 @@ static void refused_vacant(bcube_stepped s, uint32_t here, uint32_t destination,
 /* Follows any path until it is refused or delivered, which it must be within nine steps. */
 static void follow(const uint8_t *path, uint32_t source, uint32_t destination) {
     uint32_t here = source, index = 0;
+    struct trace trace = {0};
     for (int i = 0; i < 9; i++) {
         bcube_stepped s = held_step(room, here, destination, index, path, 8, tables[here], BCUBE_NEIGHBOUR_TABLE_BYTES);
         if (here != destination && index < 8 && is_vacant(path[index])) refused_vacant(s, here, destination, index);
+        if (bcube_step_delivered(s)) held_trace(&trace, source, destination, path, 0);
         if (bcube_step_refusal(s) != 0 || bcube_step_delivered(s)) return;
+        note(&trace, here, path[index], s);
         here = bcube_step_next(s);
         index = bcube_step_index(s);
     }
@@ -434,9 +477,10 @@ int main(void) {
     printf("\nseven failed-link tables each, by %lu marks and clears; %lu of the tables name a dead switch by their summary;\n"
            "%lu packets on built routes delivered after exactly their hops, %lu refused at their first failed link;\n"
            "%lu packets on selected routes delivered after exactly their hops, %lu pairs with no route;\n"
+           "%lu traces of delivered packets read backwards as their reversed paths, %lu hops led back by a byte of a trace;\n"
            "%lu damaged paths followed, %lu to a vacant port and refused there, %lu steps; %lu steps of any numbers\n",
-           changes, named, delivered, broken, selected, unreached, damaged, vacant, routed, steps - routed);
+           changes, named, delivered, broken, selected, unreached, traced, led_back, damaged, vacant, routed, steps - routed);
     printf("%lu steps held to the rules, %lu wrong\n", steps, failures);
     free(tables);
-    return failures != 0 || vacant == 0 || named == 0;
+    return failures != 0 || vacant == 0 || named == 0 || traced == 0;
 }

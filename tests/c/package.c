@@ -74,6 +74,19 @@ static void switches(bcube_room room) {
     holds(bcube_dead_found(dead) && !bcube_dead_level(dead) && !bcube_dead_number(dead), "the first dead switch");
 }
 
+/* a hop by itself, and back again; a hop that is refused */
+static void hops(bcube_room room) {
+    bcube_answer hop = bcube_hop_of(room, 4095, 0x83), back = bcube_hop_of(room, 3839, bcube_hop_back(hop));
+    holds(bcube_refusal(hop) == BCUBE_NOT_REFUSED && bcube_hop_next(hop) == 3839, "hop_of");
+    holds(bcube_hop_level(hop) == 2 && bcube_hop_old(hop) == 7 && bcube_hop_back(hop) == 0x87, "what a hop leaves behind");
+    holds(bcube_hop_next(back) == 4095 && bcube_hop_old(back) == 3 && bcube_hop_back(back) == 0x83, "the way back");
+    hop = bcube_hop_of(room, 1, 0x01);
+    holds(bcube_refusal(hop) == BCUBE_REFUSED_NO_CHANGE && bcube_route(hop) == 1 && bcube_hop(hop) == 1, "a hop to where it starts");
+    holds(!bcube_hop_next(hop) && !bcube_hop_level(hop) && !bcube_hop_old(hop) && !bcube_hop_back(hop), "zeros on a refusal");
+    hop = bcube_hop_of(room, 1, (UINT64_C(1) << 32) + 0xc1);
+    holds(bcube_refusal(hop) == BCUBE_REFUSED_POSITION, "a path byte is cut");
+}
+
 static void paths(bcube_room room) {
     static const uint8_t table[BCUBE_MOST_SERVERS] = {0};
     uint8_t list[BCUBE_LIST_BYTES], path[BCUBE_PATH_BYTES];
@@ -107,9 +120,11 @@ static void steps(bcube_room room) {
     entry[BCUBE_NEIGHBOUR_FLAG] = BCUBE_NEIGHBOUR_AVAILABLE;
     step = bcube_step(room, 1, 521, 0, path, sizeof path, neighbours, sizeof neighbours);
     holds(bcube_step_next(step) == 513 && bcube_step_index(step) == 1 && bcube_step_port(step) == 3, "step");
+    holds(bcube_step_level(step) == 3 && bcube_step_old(step) == 0 && bcube_step_back(step) == 0xc0, "what a step leaves behind");
     holds(bcube_mac_byte(step.mac, 0) == 2 && bcube_mac_byte(step.mac, 5) == 7, "mac_byte");
     holds(bcube_mac_byte(step.mac, 6) == 0 && bcube_mac_byte(step.mac, (uint64_t)1 << 32) == 0 && bcube_mac_byte(step.mac, UINT64_MAX) == 0, "mac_byte is total");
-    holds(bcube_step_delivered(bcube_step(room, 521, 521, 9, path, sizeof path, neighbours, sizeof neighbours)), "delivered");
+    step = bcube_step(room, 521, 521, 9, path, sizeof path, neighbours, sizeof neighbours);
+    holds(bcube_step_delivered(step) && !bcube_step_level(step) && !bcube_step_old(step) && !bcube_step_back(step), "delivered");
 }
 
 /* every number has a sentence of its own, and every other number one that says so */
@@ -128,6 +143,7 @@ int main(void) {
     half_filled(bcube_filled_room(8, BCUBE_MOST_LEVEL, 4));
     links(room);
     switches(room);
+    hops(room);
     paths(room);
     steps(room);
     texts();

@@ -95,6 +95,12 @@ static uint32_t first_differing(const struct place *one, const struct place *oth
     return level;
 }
 
+/* the path byte of the hop from a place to its neighbour: where they differ, and the neighbour's digit there */
+static uint32_t byte_to(const struct place *from, const struct place *to) {
+    uint32_t level = first_differing(from, to);
+    return 64 * level + to->digit[level];
+}
+
 /* the digits with one struck out and the rest closed up, as a number */
 static uint32_t switch_number(const struct room *room, const struct place *place, uint32_t level) {
     uint32_t number = 0;
@@ -353,7 +359,7 @@ static int least_route(struct search *search, uint64_t source, struct route *rou
 
 /* ---- the calls: the room, addresses and switches */
 
-uint64_t plain_version(void) { return 40000; }
+uint64_t plain_version(void) { return 40100; }
 
 static uint64_t held(uint64_t number) { return number > 255 ? 255 : number; }
 
@@ -638,6 +644,22 @@ bcube_answer plain_path_byte_parts(bcube_room value, uint64_t byte) {
     return answered((uint32_t)(level << 8 | digit));
 }
 
+/* the way back is the hop from the place that is reached to the one that was left, and its byte is read off the two */
+bcube_answer plain_hop_of(bcube_room value, uint64_t server, uint64_t byte) {
+    struct room room;
+    uint32_t why = enter(&room, value);
+    if (!why && server >= room.servers) why = 4;
+    if (why) return refused(why);
+    if (byte > 255) return refused_at(8, 1, 1);
+    uint32_t level = (uint32_t)byte >> 6, digit = (uint32_t)byte & 63;
+    struct place from = place_of(&room, server);
+    if (level > room.k) return refused_at(8, 1, 1);
+    if (digit >= bound(&room, level)) return refused_at(9, 1, 1);
+    if (from.digit[level] == digit) return refused_at(10, 1, 1);
+    struct place to = moved(from, level, digit);
+    return answered(byte_to(&to, &from) << 16 | address_of(&room, &to));
+}
+
 /* what reading and reversal have in common: gives a refusal, or passes with the route */
 static bcube_answer read_single(bcube_room value, uint64_t source, uint64_t destination, const uint8_t *path,
                                 size_t path_len, struct room *room, struct route *route) {
@@ -830,6 +852,7 @@ bcube_stepped plain_step(bcube_room value, uint64_t here, uint64_t destination, 
     if (entry[7] != 1) return step_refused(19, index + 1);
     struct place to = moved(from, level, digit);
     bcube_stepped step = {(index + 1) << 24 | (uint64_t)address_of(&room, &to) << 32 | (uint64_t)entry[6] << 48, 0};
+    step.word |= (uint64_t)byte_to(&to, &from) << 56;
     for (uint32_t i = 0; i < 6; i++) step.mac = step.mac << 8 | entry[i];
     return step;
 }

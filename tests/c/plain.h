@@ -39,6 +39,7 @@ bcube_answer plain_summarize(bcube_room room, const uint8_t *table, size_t table
 
 bcube_answer plain_path_byte(bcube_room room, uint64_t level, uint64_t value);
 bcube_answer plain_path_byte_parts(bcube_room room, uint64_t byte);
+bcube_answer plain_hop_of(bcube_room room, uint64_t server, uint64_t byte);
 bcube_answer plain_read(bcube_room room, uint64_t source, uint64_t destination, const uint8_t *path,
                         size_t path_len, uint64_t servers[9]);
 bcube_answer plain_write(bcube_room room, const uint64_t *servers, size_t servers_len, uint8_t path[8]);

@@ -90,6 +90,7 @@ static void next_question(int i) {
     CALL(bcube_answer, summarize, (q.room, TABLE, counted, q.entries), (bcube_room, const BYTES, BYTES)) \
     CALL(bcube_answer, path_byte, (q.room, q.level, q.value), (bcube_room, uint64_t, uint64_t)) \
     CALL(bcube_answer, path_byte_parts, (q.room, q.path[0]), (bcube_room, uint64_t))   \
+    CALL(bcube_answer, hop_of, (q.room, q.source, q.path[0]), (bcube_room, uint64_t, uint64_t)) \
     CALL(bcube_answer, read, (q.room, ENDS, PATH, servers), (bcube_room, uint64_t, uint64_t, const uint8_t *, size_t, uint64_t *)) \
     CALL(bcube_answer, write, (q.room, q.met, 2 + q.value % 8, path), (bcube_room, const uint64_t *, size_t, uint8_t *)) \
     CALL(bcube_answer, reverse, (q.room, ENDS, PATH, path), (bcube_room, uint64_t, uint64_t, const uint8_t *, size_t, uint8_t *)) \

@@ -5,8 +5,10 @@
   tests/worked/model.py FILE..     the same for other files of rows
 
 A row is a question, ' = ' and an answer. A question names its room by (n,k) where the room is full, and by (n,k,m) where it is
-not. The model shares nothing with the library: digits are lists, switches are counted one by one, neighbours are found by
-comparing digits, an alternate is found by trying all routes in order, and failed links are counted by going through all
+not. A step names the bytes of its neighbour table and the one entry that is filled, or says 'all': the entry of each byte then
+has the byte as its MAC, the byte's level as its OutPort, and flag 1. The model shares nothing with the library: digits are
+lists, switches are counted one by one, neighbours are found by comparing digits, the level and the old value of a hop by comparing
+its two servers, an alternate is found by trying all routes in order, and failed links are counted by going through all
 servers of the room.
 """
 import collections
@@ -175,20 +177,49 @@ def differing(s, a, b):
     return [i for i, (x, y) in enumerate(zip(digits(s, a), digits(s, b))) if x != y]
 
 
+def parts(s, byte, route, hop):
+    """The level and the value that a path byte names."""
+    level, value = divmod(byte, 64)
+    if level > s.k:
+        raise Refused(8, route, hop)
+    if value >= bounds(s)[level]:
+        raise Refused(9, route, hop)
+    return level, value
+
+
+def land(s, a, byte, route, hop):
+    """The server to which a path byte leads."""
+    level, value = parts(s, byte, route, hop)
+    ds = digits(s, a)
+    if ds[level] == value:
+        raise Refused(10, route, hop)
+    ds[level] = value
+    return address(s, ds)
+
+
+def left(s, a, b):
+    """What the hop from a to b left behind: the one digit in which they differ, and its value in a."""
+    level, = differing(s, a, b)
+    return level, digits(s, a)[level]
+
+
+def back(s, a, b):
+    """The path byte of the way back, from b to a."""
+    level, old = left(s, a, b)
+    return 64 * level + old
+
+
+def hop(s, a, byte):
+    test_server(s, a)
+    return land(s, a, byte, 1, 1)
+
+
 def walk(s, table, a, d, path, route=1):
     """The servers met and the switches used."""
     met, used, here = [a], [], a
     for h, byte in enumerate(path, 1):
-        level, value = divmod(byte, 64)
-        if level > s.k:
-            raise Refused(8, route, h)
-        if value >= bounds(s)[level]:
-            raise Refused(9, route, h)
-        ds = digits(s, here)
-        if ds[level] == value:
-            raise Refused(10, route, h)
-        ds[level] = value
-        there = address(s, ds)
+        there = land(s, here, byte, route, h)
+        level, = differing(s, here, there)
         if not live(table, level, here, there):
             raise Refused(11, route, h)
         sw = switch(s, here, level)
@@ -238,6 +269,16 @@ def read(s, a, d, path):
     if len(path) != 8:
         raise Refused(7)
     return walk(s, [], a, d, path)[0]
+
+
+def reverse(s, a, d, path):
+    """The array of the servers backwards; the bytes of the way back, the last first, have to be the same."""
+    met = read(s, a, d, path)
+    turned = encode(s, met[::-1])
+    trace = [back(s, x, y) for x, y in zip(met, met[1:])]
+    if turned != trace[::-1] + [0] * (8 - len(trace)):
+        raise SystemExit(f'the trace read backwards is not the reversed array: {bytes(path).hex()}')
+    return turned
 
 
 def parallel(one, other):
@@ -360,23 +401,20 @@ def step(s, here, d, index, path, table):
     if len(path) != 8:
         raise Refused(7)
     if here == d:
-        return 'delivered'
+        return None
     if index >= 8:
         raise Refused(18)
     byte = path[index]
-    level, value = divmod(byte, 64)
-    ds = digits(s, here)
-    if level > s.k:
-        raise Refused(8, 1, index + 1)
-    if value >= bounds(s)[level]:
-        raise Refused(9, 1, index + 1)
-    if ds[level] == value:
-        raise Refused(10, 1, index + 1)
+    there = land(s, here, byte, 1, index + 1)
     entry = table[8 * byte:8 * byte + 8]
     if entry[7] != 1:
         raise Refused(19, 1, index + 1)
-    ds[level] = value
-    return f'next {address(s, ds)} index {index + 1} mac {bytes(entry[:6]).hex()} port {entry[6]}'
+    return there, index + 1, entry[:6], entry[6]
+
+
+def every_entry():
+    """A neighbour table in which each byte has an entry."""
+    return [x for byte in range(256) for x in (0, 0, 0, 0, 0, byte, byte // 64, 1)]
 
 
 def accepted_from(s, a):
@@ -400,12 +438,65 @@ def buffers(lent):
     return ' '.join(bytes(x).hex() for x in lent)
 
 
+def hop_shown(refused, a, level, old):
+    return f'{refused}next {a} level {level} old {old}'
+
+
+def step_shown(before, a, index, mac, port, level, old):
+    return f'{before}next {a} index {index} mac {bytes(mac).hex()} port {port} level {level} old {old}'
+
+
+def hopped(s, a, byte):
+    try:
+        there = hop(s, a, byte)
+    except Refused as r:
+        return hop_shown(f'{r} ', 0, 0, 0)
+    return hop_shown('', there, *left(s, a, there))
+
+
+def there_and_back(s, a, byte):
+    b = hop(s, a, byte)
+    c = hop(s, b, back(s, a, b))
+    return f'next {b} byte {back(s, a, b)} next {c} byte {back(s, b, c)}'
+
+
+def stepped(s, here, d, index, path, table):
+    try:
+        forward = step(s, here, d, index, path, table)
+    except Refused as r:
+        return step_shown(f'{r} ', 0, 0, [0] * 6, 0, 0, 0)
+    if not forward:
+        return step_shown('delivered ', 0, 0, [0] * 6, 0, 0, 0)
+    return step_shown('', *forward, *left(s, here, forward[0]))
+
+
+def traced(s, a, d, path):
+    """Step after step, each with its byte of the way back, and the reversed array."""
+    here, index, out, trace = a, 0, [], []
+    try:
+        while forward := step(s, here, d, index, path, every_entry()):
+            trace.append(back(s, here, forward[0]))
+            out.append(f'next {forward[0]} back {trace[-1]:02x}')
+            here, index = forward[:2]
+        out.append('delivered')
+    except Refused as r:
+        out.append(str(r))
+    try:
+        turned = reverse(s, a, d, path)
+        if turned[:len(trace)] != trace[::-1]:
+            raise SystemExit(f'the steps have another trace: {bytes(path).hex()}')
+        out.append('reversed ' + bytes(turned).hex())
+    except Refused as r:
+        out.append(f'reversed {r}')
+    return ' '.join(out)
+
+
 def shown(s, routes):
     return ' '.join(bytes(encode(s, r)).hex() for r in routes)
 
 
 # questions whose words are not all numbers
-MIXED = 'failed mark clear mark_server clear_server dead fresh read reverse check picked select step'.split()
+MIXED = 'failed mark clear mark_server clear_server dead fresh read reverse check picked select step trace'.split()
 
 
 def answer(name, s, words):
@@ -483,18 +574,16 @@ def answer(name, s, words):
         return 64 * num[0] + num[1]
     if name == 'parts':
         test_shape(s)
-        level, value = divmod(num[0], 64)
-        if level > s.k:
-            raise Refused(8, 1, 1)
-        if value >= bounds(s)[level]:
-            raise Refused(9, 1, 1)
-        return f'level {level} value {value}'
+        return 'level %d value %d' % parts(s, num[0], 1, 1)
+    if name == 'hop':
+        return hopped(s, num[0], num[1])
+    if name == 'back':
+        return there_and_back(s, num[0], num[1])
     if name == 'write':
         return bytes(write(s, num)).hex()
     if name in ('read', 'reverse'):
         a, d, path = int(words[0]), int(words[1]), hexed(words[2])
-        met = read(s, a, d, path)
-        return ' '.join(map(str, met)) if name == 'read' else bytes(encode(s, met[::-1])).hex()
+        return ' '.join(map(str, read(s, a, d, path))) if name == 'read' else bytes(reverse(s, a, d, path)).hex()
     if name == 'check':
         check(s, hexed(words[0]), int(words[1]), int(words[2]), hexed(words[3]))
         return 'accepted'
@@ -507,11 +596,16 @@ def answer(name, s, words):
     if name == 'select':
         return shown(s, select(s, hexed(words[0]), int(words[1]), int(words[2])))
     if name == 'step':
-        here, d, index, path, count, byte, entry = words
+        here, d, index, path, count, filled, *entry = words
         table = [0] * int(count)
-        at = 8 * int(byte)
-        table[at:at + 8] = hexed(entry)
-        return step(s, int(here), int(d), int(index), hexed(path), table[:int(count)])
+        if filled == 'all':
+            table = every_entry()
+        else:
+            at = 8 * int(filled)
+            table[at:at + 8] = hexed(entry[0])
+        return stepped(s, int(here), int(d), int(index), hexed(path), table[:int(count)])
+    if name == 'trace':
+        return traced(s, int(words[0]), int(words[1]), hexed(words[2]))
     raise SystemExit(f'no such question: {name}')
 
 

@@ -16,23 +16,27 @@ use Rattle.summary.specs.declared.DeadSwitch.{DeadSwitch}
 use Rattle.summary.specs.Answers.{linkAnswer, linkTable, linkSummary, changedServer, serverAnswer, serverTable, serverSummary, deadAnswer, freshAnswer, freshSummary}
 use Rattle.summary.proofs.AnswerLaws.{dead-small, dead-zeros}
 use Rattle.driver.proofs.SummarySmall.{link-fits, server-fits, fresh-fits, dead-with}
+use Rattle.path.specs.declared.Hop.{Hop}
+use Rattle.path.specs.Routes.{byteOf}
+use Rattle.path.specs.Answers.{hopAnswer}
+use Rattle.path.proofs.HopLaws.{byte-apart}
 use Rattle.step.specs.declared.Step.{Step}
 use Rattle.step.specs.Steps.{stepAnswer}
 use Rattle.driver.specs.declared.Answer.{Answer}
 use Rattle.driver.specs.Words.{word, refusalIn, Small, left, betweenWord, askedWord, deadWord}
 use Rattle.driver.proofs.WordLaws.{refusal-back, value-back, plain-small, left-given, left-lent}
 use Rattle.driver.proofs.RoomSmall.{servers-small, bound-small, switches-small, server-at-small, digit-small, address-small, neighbour-small, switch-small, between-level, between-fits, digits-fits, asked-fits}
-use Rattle.driver.proofs.PathSmall.{byte-small, parts-found, read-small, reverse-small, write-small, check-small}
+use Rattle.driver.proofs.PathSmall.{byte-small, parts-found, HopFit, hop-found, read-small, reverse-small, write-small, check-small}
 use Rattle.driver.proofs.RouteSmall.{build-small, find-small, select-small}
 use Rattle.driver.proofs.PickSmall.{pick-small}
-use Rattle.driver.specs.Packed.{flagOf, macNumber, stepWord, packed, stepIn, unpacked}
+use Rattle.driver.specs.Packed.{macNumber, packed, stepIn, unpacked}
 use Rattle.driver.proofs.PackLaws as packs
 use Rattle.driver.proofs.PackLaws.{word-fields, unpack-packed, mac-made, step-small, step-unpacks}
 use Rattle.room.proofs.RefusalLaws.{valid-of}
 use Rattle.driver.specs.declared.Room.{Room}
 use Rattle.driver.specs.Rooms.{roomOf, shapeIn}
 use Rattle.driver.proofs.ShapeLaws.{held-is, room-refused, room-shape}
-use Rattle.demands.specs.Buffers.{Holds, EveryBuffer, EveryRoom, Tells, TellsStep, DeadParts, EveryWord}
+use Rattle.demands.specs.Buffers.{Holds, EveryBuffer, EveryRoom, Tells, TellsStep, DeadParts, HopParts, EveryWord}
 
 -- ---- the rooms
 
@@ -75,9 +79,10 @@ bit-small false = lit< tt
 
 -- the bytes of a step's two numbers
 tells-step : (x : Step) → packs.Small x → TellsStep (packed x) x
-unfolding packed unpacked stepIn stepWord
+unfolding packed unpacked stepIn byteOf
 tells-step x h =
     let f = word-fields x h in
+    let b = byte-apart (x .level) (x .old) (h .fits .old) in
     let m = macNumber (x .mac) in
     record {
       number = f .number;
@@ -85,18 +90,14 @@ tells-step x h =
       delivered = f .delivered;
       index = f .index;
       next = f .next;
-      port = top (x .refusal .number) (x .refusal .hop) (flagOf (x .delivered)) (x .index) (x .next) (x .port) (h .fits .number) (h .fits .hop) (bit-small (x .delivered)) (h .fits .index) (h .fits .next);
+      port = f .port;
+      back = f .back;
+      level = ap (λ (y : ℕ). y / 64) (f .back) ∙ b .0;
+      old = ap (λ (y : ℕ). y % 64) (f .back) ∙ b .1;
       mac = ap (λ (y : ℕ). y ∷ m / 4294967296 % 256 ∷ m / 16777216 % 256 ∷ m / 65536 % 256 ∷ m / 256 % 256 ∷ m % 256 ∷ []) (high m (omega (arith, mac-made (x .mac) (h .long), h .mac .at 0, h .mac .at 1, h .mac .at 2, h .mac .at 3, h .mac .at 4, h .mac .at 5))) ∙ ap (λ (y : Step). y .mac) (unpack-packed x h);
       route = h .fits .route;
     }
   where
-    top : (a b c d e f : ℕ) → a < 256 → b < 256 → c < 256 → d < 256 → e < 65536 → (a + 256 * b + 65536 * c + 16777216 * d + 4294967296 * e + 281474976710656 * f) / 281474976710656 ≡ f
-    top a b c d e f p q r u v = omega arith
-
-    bit-small : (b : Bool) → flagOf b < 256
-    bit-small true = lit< tt
-    bit-small false = lit< tt
-
     high : (m : ℕ) → m < 281474976710656 → m / 1099511627776 ≡ m / 1099511627776 % 256
     high m p = omega arith
 
@@ -115,8 +116,13 @@ dead-parts x h k v e = go (x .found) refl e
     go true q f = record { found = ap (λ (y : ℕ). y / 16777216) f ∙ omega (arith, h .0, h .1) ∙ sym (ap (λ (y : Bool). cond y 1 0) q); level = omega (arith, h .0, h .1); number = omega (arith, h .0, h .1) }
     go false q f = let z = k q in record { found = omega arith ∙ sym (ap (λ (y : Bool). cond y 1 0) q); level = omega (arith, z .0); number = omega (arith, z .1) }
 
+-- what is read out of the number of a hop
+hop-parts : (x : Hop) → HopFit x → (v : ℕ) → v ≡ x .next + 65536 * (64 * x .level + x .old) → HopParts v x
+hop-parts x h v e =
+    record { next = omega (arith, e, h .next, h .level, h .old); level = omega (arith, e, h .next, h .level, h .old); old = omega (arith, e, h .next, h .level, h .old) }
+
 pub every-word : EveryWord
-unfolding betweenWord askedWord deadWord
+unfolding betweenWord askedWord deadWord byteOf
 every-word =
     record {
       shape = λ s. tells (plain-small (shapeRefusal s) (one-le 255 refl (shape-numbers s)));
@@ -126,6 +132,8 @@ every-word =
       server-at = λ s l w v. tells (server-at-small s l w v);
       path-byte = λ s l v. tells (byte-small s l v);
       path-byte-parts = λ s b. tells (parts-found s b _ refl .small);
+      hop-of = λ s a b. tells (hop-found s a b _ refl .small);
+      hop-parts = λ s a b. let f = hop-found s a b (hopAnswer s a b) refl in hop-parts (hopAnswer s a b) f _ (tells (f .small) .value);
       digits = λ s a. tells (digits-fits s a 0 (lit< tt) refl);
       one-digit = λ s a l. tells (digit-small s a l);
       address = λ s d0 d1 d2 d3. tells (address-small s (d0 ∷ d1 ∷ d2 ∷ d3 ∷ []) refl);

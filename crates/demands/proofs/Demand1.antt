@@ -1,9 +1,9 @@
 -- Demand 1, proved: what each call can refuse with, from what it refuses exactly.
-use Prim.Native.Nat.{ℕ, zero, suc, _+_, _-_, _/_, _≤_, _<_}
+use Prim.Native.Nat.{ℕ, suc, _+_, _-_, _/_, _≤_, _<_}
 use mathlib.Core.Path.{_≡_, refl, sym, ap, _∙_, subst}
 use mathlib.Core.Logic.{_≢_, inl, inr}
 use mathlib.Core.Bool.{Bool, true, false, cond}
-use mathlib.Core.List.{List, [], _∷_, _++_}
+use mathlib.Core.List.{List, [], _∷_}
 use native.Mathlib.Omega.{arith}
 use native.Mathlib.Decide.{decLt, ℕ-discrete}
 use lib.Dec.{eqb}
@@ -11,7 +11,7 @@ use lib.ListN.{length, getD, replicate, length-append, List·getD-eq-default}
 use Rattle.lists.specs.Lists.{isIn, inTurn}
 use Rattle.lists.proofs.ListLaws.{length-turn}
 use Rattle.refusals.specs.declared.Refusal.{Refusal}
-use Rattle.refusals.specs.Refusals.{none, plain, refusedAt, _or-else_, answer, OneOf, listed}
+use Rattle.refusals.specs.Refusals.{none, plain, refusedAt, OneOf, listed}
 use Rattle.room.specs.declared.Shape.{Shape}
 use Rattle.room.specs.Shapes.{serversOf}
 use Rattle.room.specs.Refusals.{shapeRefusal, levelRefusal, serverRefusal, pairRefusal, linkRefusal, valueRefusal, placesRefusal, endsRefusal}
@@ -24,10 +24,11 @@ use Rattle.summary.specs.Counts.{switchesIn}
 use Rattle.summary.specs.Refusals.{summaryRefusal}
 use Rattle.summary.specs.Answers.{deadAnswer}
 use Rattle.summary.proofs.AnswerLaws.{first-refusal}
+use Rattle.path.specs.declared.Hop.{Hop}
 use Rattle.path.specs.Bytes.{madeRefusal, byteAnswer, partsRefusal, noParts, someParts, partsAnswer}
 use Rattle.path.specs.Routes.{byteTo, switchesOf, encode, levelOf, valueOf}
-use Rattle.path.specs.Walks.{Walk, stopped, arrived, walk, hopTo, hopRefusal, fault}
-use Rattle.path.specs.Answers.{noHop, aHop, hopAnswer, arrayRefusal, noWalk, walked, walkAnswer, reading, readAnswer, noWriting, aWriting, reversed, reverseAnswer, writeRefusal, written, onTheWay, writeAnswer}
+use Rattle.path.specs.Walks.{Walk, stopped, arrived, walk, hopRefusal, fault}
+use Rattle.path.specs.Answers.{noHop, hopBy, hopFrom, hopAnswer, arrayRefusal, noWalk, walked, walkAnswer, reading, readAnswer, noWriting, aWriting, reversed, reverseAnswer, writeRefusal, written, onTheWay, writeAnswer}
 use Rattle.path.proofs.NumberLaws.{fault-numbers}
 use Rattle.verdict.specs.Checks.{checkAnswer}
 use Rattle.build.specs.Sets.{emptySet}
@@ -129,12 +130,17 @@ module _ (s : Shape) where
       (bare-answer (λ x. x .refusal) noWriting (λ r. refl) plain (arrayRefusal s a d bs) (reversed s (walk s [] a d bs)) (bare-reversed (walk s [] a d bs)))
 
   hop-one : (a b : ℕ) → HopOf (1 ∷ 2 ∷ 26 ∷ 3 ∷ 4 ∷ 8 ∷ 9 ∷ 10 ∷ []) (hopAnswer s a b)
-  unfolding hopAnswer
-  hop-one a b = record { number = one-listed (serverTests s a ++ hopTests s a b) _ (meets (refused-exactly .hop-of s a b)); nothing-else = go (serverRefusal s a or-else hopRefusal s a b) }
-    where
-      go : (q : ℕ) → answer q noHop (aHop (hopTo s a b)) .number ≢ 0 → answer q noHop (aHop (hopTo s a b)) .next ≡ 0
-      go zero n = absurd (n refl)
-      go (suc q) n = refl
+  unfolding hopAnswer hopFrom isIn
+  hop-one a b =
+      let Else : Refusal → Type 0 = Refused (λ n. refusedAt n 1 1) (hopTests s a b) (λ r. r ≡ none) in
+      let goes : Hop = hopBy s a b in
+      refuses _ _ (λ r. refl) 1 _ (hopAnswer s a b)
+      (whole-of 1 _ (serverTests s a) Else _ refl refl
+      (λ k. chain-of (λ n. refusedAt n 1 1) 1 _ (hopTests s a b) (λ r. r ≡ none) _
+      (λ n e. hop-of (8 ∷ 9 ∷ 10 ∷ []) (1 ∷ 2 ∷ 26 ∷ 3 ∷ 4 ∷ 8 ∷ 9 ∷ 10 ∷ []) n 1 1 refl refl e (omega arith) (omega arith) (omega arith) (omega arith)) (λ h. none-of))
+      (meets (refused-exactly .hop-of s a b)))
+      (bare-answer (λ x. x .refusal) noHop (λ r. refl) plain (serverRefusal s a) _
+      (bare-answer (λ x. x .refusal) noHop (λ r. refl) (λ r. refusedAt r 1 1) (hopRefusal s a b) goes (bare-none (λ x. x .refusal) noHop (λ r. refl) goes refl)))
 
   lay-route : (t : List ℕ) (a d : ℕ) (bs : List ℕ) (r : Refusal) (u : List ℕ) → Lays s t a d bs r u → RefusalOf 1 (1 ∷ 2 ∷ 26 ∷ 3 ∷ 4 ∷ 5 ∷ 6 ∷ 7 ∷ 8 ∷ 9 ∷ 10 ∷ 12 ∷ 13 ∷ 14 ∷ []) r
   unfolding isIn

@@ -1,6 +1,6 @@
 -- Demand 2, proved: path bytes, the failed-link table, one forwarding step.
 use Prim.Native.Nat.{ℕ, _+_, _*_, _/_, _%_, _^_, _≤_}
-use mathlib.Core.Path.{_≡_, refl, sym, ap, subst, _∙_}
+use mathlib.Core.Path.{_≡_, refl, sym, ap, ap₂, subst, _∙_}
 use mathlib.Core.Bool.{Bool, true, false, cond}
 use mathlib.Core.List.{List, [], _∷_, reverse}
 use native.Mathlib.Omega.{arith}
@@ -11,12 +11,12 @@ use lib.Seq.{take-take}
 use borrow.Author.Tests.{eq-eqb, ne-eqb, eqb-true}
 use Rattle.lists.specs.Lists.{filled}
 use Rattle.lists.proofs.ListLaws.{in-exactly, at-in, take-filled}
-use Rattle.refusals.specs.Refusals.{none, _or-else_}
-use Rattle.refusals.proofs.ChainLaws.{or-else-zero}
+use Rattle.refusals.specs.declared.Refusal.{Refusal}
+use Rattle.refusals.specs.Refusals.{none, plain}
 use Rattle.refusals.proofs.AnswerLaws.{answered}
 use Rattle.room.specs.declared.Shape.{Shape}
 use Rattle.room.specs.Shapes.{Server, Link}
-use Rattle.room.specs.Addresses.{switchOf}
+use Rattle.room.specs.Addresses.{withDigit, switchOf}
 use Rattle.room.specs.Refusals.{serverRefusal}
 use Rattle.room.proofs.RefusalLaws.{server-of}
 use Rattle.room.proofs.RoomLaws as rooms
@@ -29,17 +29,17 @@ use Rattle.summary.proofs.KeptLaws.{link-table-is, link-twice}
 use Rattle.links.proofs.TableLaws as tables
 use Rattle.path.specs.declared.Hop.{Hop}
 use Rattle.path.specs.declared.Reading.{Reading}
-use Rattle.path.specs.Routes.{byteOf, switchTo, byteTo}
+use Rattle.path.specs.Routes.{byteOf, levelOf, switchTo, byteTo}
 use Rattle.path.specs.Walks.{hopTo, hopRefusal}
-use Rattle.path.specs.Answers.{noHop, aHop, hopAnswer}
-use Rattle.path.proofs.HopLaws.{switch-id, hop-exactly, hop-server, hop-neighbours, level-only}
+use Rattle.path.specs.Answers.{noHop, hopBy, hopFrom, hopAnswer}
+use Rattle.path.proofs.HopLaws.{switch-id, hop-exactly, hop-number, hop-made, hop-server, hop-neighbours, level-only}
 use Rattle.path.proofs.CodecLaws as codec
 use Rattle.select.proofs.HeldLaws.{eight-bytes}
 use Rattle.select.proofs.SelectLaws as selected
 use Rattle.step.specs.declared.Step.{Step}
 use Rattle.step.specs.Steps.{entry, macAt, portAt, flagAt, stepRefusal, withPlace, noStep, delivery, forwarded, stepAnswer}
 use Rattle.step.proofs.StepLaws.{with-place-number, goes-of}
-use Rattle.demands.specs.Demand2.{BytesExactly, HopSwitches, LeadsTo, HopExactly, AmongExactly, RoutesAnswered, ReadExactly, WriteExactly, ReadThenWrite, WriteThenRead, ReverseThenRead, ReverseTwice, NoRouteExactly, FailedExactly, AskedExactly, LiveExactly, Changes, ChangesOwn, Marking, Clearing, Goes, StepGoes, StepDelivers}
+use Rattle.demands.specs.Demand2.{BytesExactly, HopSwitches, LeadsTo, HopExactly, HopIs, HopLeaves, AmongExactly, RoutesAnswered, ReadExactly, WriteExactly, ReadThenWrite, WriteThenRead, ReverseThenRead, ReverseTwice, NoRouteExactly, FailedExactly, AskedExactly, LiveExactly, Changes, ChangesOwn, Marking, Clearing, Goes, StepGoes, StepDelivers}
 
 -- ---- servers to bytes and bytes to servers
 
@@ -58,16 +58,53 @@ hop-switches s a b l c e m x y =
       λ p. i .1 (p .0, rooms.same-switch (x .2 .level) (p .1) ∙ ap (λ (j : ℕ). switchOf s j c) (p .0)),
     )
 
-hop-leads : {s : Shape} {a : ℕ} → Server s a → (b : ℕ) → hopRefusal s a b ≡ 0 → LeadsTo s a b (hopTo s a b)
+pub hop-leads : {s : Shape} {a : ℕ} → Server s a → (b : ℕ) → hopRefusal s a b ≡ 0 → LeadsTo s a b (hopTo s a b)
 unfolding hopTo
 hop-leads h b t = record { server = hop-server h b t; neighbour = hop-neighbours h b t; value = rooms.with-same (hop-exactly h b .0 t .0) }
 
-pub hop-exact : HopExactly
+-- a hop that is not refused is from a server of the room, by a byte that is a hop from it
+pub record Hopped (s : Shape) (a b : ℕ) : Type 0 where
+  pub here : Server s a
+  pub taken : hopRefusal s a b ≡ 0
+  pub made : hopAnswer s a b ≡ hopBy s a b
+
+pub hopped : (s : Shape) (a b : ℕ) → hopAnswer s a b .refusal .number ≡ 0 → Hopped s a b
 unfolding hopAnswer
+hopped s a b z =
+    let p = answered (λ (x : Hop). x .refusal .number) (λ r. noHop (plain r)) (λ r. refl) (serverRefusal s a) (hopAnswer s a b) (hopFrom s a b) refl z in
+    let q : hopFrom s a b .refusal .number ≡ 0 = ap (λ (x : Hop). x .refusal .number) (sym (p .1)) ∙ z in
+    record { here = server-of s a (p .0); taken = sym (hop-number s a b (hopFrom s a b) refl) ∙ q; made = p .1 ∙ hop-made s a b (hopFrom s a b) refl q }
+
+pub hop-exact : HopExactly
 hop-exact s a b z =
-    let p = answered (λ (x : Hop). x .number) noHop (λ r. refl) (serverRefusal s a or-else hopRefusal s a b) (hopAnswer s a b) (aHop (hopTo s a b)) refl z in
-    let q = or-else-zero (serverRefusal s a) (hopRefusal s a b) (p .0) in
-    subst (λ (x : Hop). LeadsTo s a b (x .next)) (sym (p .1)) (hop-leads (server-of s a (q .0)) b (q .1))
+    let h = hopped s a b z in
+    subst (λ (x : Hop). LeadsTo s a b (x .next)) (sym (h .made)) (hop-leads (h .here) b (h .taken))
+
+-- a byte leads to one server
+leads-one : {s : Shape} {a : ℕ} → Server s a → (b x y : ℕ) → LeadsTo s a b x → LeadsTo s a b y → x ≡ y
+leads-one {s} {a} h b x y p q =
+    let l : Link s a (levelOf b) = record { server = h; level = p .neighbour .level } in
+    sym (rooms.beside-with l (p .server) (p .neighbour .beside))
+    ∙ ap (λ (v : ℕ). withDigit s (levelOf b) v a) (p .value ∙ sym (q .value))
+    ∙ rooms.beside-with l (q .server) (q .neighbour .beside)
+
+hop-same : (x y : Hop) → x .refusal ≡ y .refusal → x .next ≡ y .next → x .level ≡ y .level → x .old ≡ y .old → x ≡ y
+hop-same x y p q l o =
+    ap₂ (λ (r : Refusal) (m : ℕ). record { refusal = r; next = m; level = x .level; old = x .old }) p q
+    ∙ ap₂ (λ (m v : ℕ). record { refusal = y .refusal; next = y .next; level = m; old = v }) l o
+
+pub hop-leaves : HopLeaves
+hop-leaves s a b x z = (λ e. subst (HopIs s a b) (sym e) so, one)
+  where
+    h : Hopped s a b
+    h = hopped s a b z
+
+    so : HopIs s a b (hopAnswer s a b)
+    so = subst (HopIs s a b) (sym (h .made)) (record { refusal = refl; leads = hop-leads (h .here) b (h .taken); level = refl; old = refl })
+
+    one : HopIs s a b x → x ≡ hopAnswer s a b
+    one p =
+        hop-same x (hopAnswer s a b) (p .refusal ∙ sym (so .refusal)) (leads-one (h .here) b (x .next) (hopAnswer s a b .next) (p .leads) (so .leads)) (p .level ∙ sym (so .level)) (p .old ∙ sym (so .old))
 
 pub among-exactly : AmongExactly
 among-exactly x xs = (λ e. let h = in-exactly x xs .0 e in (h .place, h .inside, h .there), λ p. at-in x xs (p .0) (p .1) (p .2))
@@ -150,7 +187,7 @@ clearing = changes-own false
 
 -- ---- one forwarding step
 
-step-answered : (s : Shape) (a d i : ℕ) (bs e : List ℕ) → stepAnswer s a d i bs e .refusal .number ≡ 0 → (stepRefusal s a d i bs e ≡ 0) × (stepAnswer s a d i bs e ≡ cond (eqb a d) delivery (forwarded s a i e (getD bs i 0)))
+pub step-answered : (s : Shape) (a d i : ℕ) (bs e : List ℕ) → stepAnswer s a d i bs e .refusal .number ≡ 0 → (stepRefusal s a d i bs e ≡ 0) × (stepAnswer s a d i bs e ≡ cond (eqb a d) delivery (forwarded s a i e (getD bs i 0)))
 unfolding stepAnswer
 step-answered s a d i bs e z =
     answered (λ (x : Step). x .refusal .number) (λ r. noStep (withPlace i r)) (λ r. with-place-number i r) (stepRefusal s a d i bs e) (stepAnswer s a d i bs e) _ refl z
@@ -178,6 +215,8 @@ step-goes s a d i bs e n z =
             mac = six (8 * b) e (omega (arith, h .valid .levels, g .given .table));
             port = refl;
             available = g .flag;
+            level = refl;
+            old = refl;
           }),
     )
 

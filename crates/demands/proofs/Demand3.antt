@@ -252,9 +252,10 @@ encoded-at s (vs ∷ vss) h (suc i) p =
     past (x ∷ xs) ys zero j l = let z : ⊥ = omega arith in absurd z
     past (x ∷ xs) ys (suc m) j l = rw (suc-add m j) (past xs ys m j (omega (arith, l)))
 
-pub delivery : Delivery
-delivery s t a d bs tables e h i p =
-    (rw (ap (λ (x : Reading). x .count) g) (v .route .route .some), long, subst (Delivers s d (arrayAt i bs) tables a) (sym same) (encoded-delivery s t a d (arrayAt i bs) vs tables v h))
+-- an array of an accepted list is that of a route over live links
+pub accepted-at : (s : Shape) (t : List ℕ) (a d : ℕ) (bs : List ℕ) → checkAnswer s t a d bs ≡ none → (i : ℕ) → i < length bs / 8 → (vs : List ℕ) × Encodes s t a d (arrayAt i bs) vs
+accepted-at s t a d bs e i p =
+    (getD (A .routes) i [], record { route = A .each i inside; bytes = ap (arrayAt i) (A .bytes) ∙ encoded-at s (A .routes) few i inside })
   where
     A : Accepted s t a d bs
     A = accepted-of s t a d bs e
@@ -262,17 +263,25 @@ delivery s t a d bs tables e h i p =
     few : (j : ℕ) → j < length (A .routes) → length (getD (A .routes) j []) ≤ 9
     few j q = A .each j q .route .few
 
-    vs : List ℕ
-    vs = getD (A .routes) i []
-
     inside : i < length (A .routes)
     inside = omega (arith, ap length (A .bytes) ∙ encoded-long s (A .routes) few)
 
+-- what reading answers for the bytes of a route
+pub encoded-read : {s : Shape} {t : List ℕ} {a d : ℕ} {bs vs : List ℕ} → Encodes s t a d bs vs → readAnswer s a d bs ≡ record { refusal = none; count = length vs; servers = filled 9 vs }
+encoded-read v = read-given (record { route = route-to-plain (v .route); bytes = v .bytes })
+
+pub delivery : Delivery
+delivery s t a d bs tables e h i p =
+    (rw (ap (λ (x : Reading). x .count) g) (v .route .route .some), long, subst (Delivers s d (arrayAt i bs) tables a) (sym same) (encoded-delivery s t a d (arrayAt i bs) vs tables v h))
+  where
+    vs : List ℕ
+    vs = accepted-at s t a d bs e i p .0
+
     v : Encodes s t a d (arrayAt i bs) vs
-    v = record { route = A .each i inside; bytes = ap (arrayAt i) (A .bytes) ∙ encoded-at s (A .routes) few i inside }
+    v = accepted-at s t a d bs e i p .1
 
     g : readAnswer s a d (arrayAt i bs) ≡ record { refusal = none; count = length vs; servers = filled 9 vs }
-    g = read-given (record { route = route-to-plain (v .route); bytes = v .bytes })
+    g = encoded-read v
 
     same : serversRead s a d (arrayAt i bs) ≡ vs
     same = ap (λ (x : Reading). take (x .count) (x .servers)) g ∙ take-filled 9 vs

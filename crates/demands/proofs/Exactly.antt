@@ -35,8 +35,8 @@ use Rattle.path.specs.declared.Parts.{Parts}
 use Rattle.path.specs.Bytes.{madeRefusal, byteAnswer, partsRefusal, noParts, someParts, partsAnswer}
 use Rattle.path.specs.declared.Walked.{Walked}
 use Rattle.path.specs.declared.Writing.{Writing}
-use Rattle.path.specs.Walks.{Walk, stopped, arrived, walk, hopTo, hopRefusal}
-use Rattle.path.specs.Answers.{noHop, aHop, hopAnswer, arrayRefusal, noWalk, walked, walkAnswer, readAnswer, noWriting, reversed, reverseAnswer}
+use Rattle.path.specs.Walks.{Walk, stopped, arrived, walk, hopRefusal}
+use Rattle.path.specs.Answers.{noHop, hopBy, hopFrom, hopAnswer, arrayRefusal, noWalk, walked, walkAnswer, readAnswer, noWriting, reversed, reverseAnswer}
 use Rattle.path.proofs.CodecLaws.{walk-exactly}
 use Rattle.build.specs.declared.Building.{Building}
 use Rattle.build.specs.Answers.{noBuilding, buildAnswer}
@@ -118,12 +118,13 @@ read-path : (s : Shape) (a d : ℕ) (bs : List ℕ) → Exactly (readAnswer s a 
 unfolding readAnswer
 read-path s a d bs = walk-path s [] a d bs
 
-hop-of : (s : Shape) (a b : ℕ) → Exactly (hopAnswer s a b .number) (Number (serverTests s a ++ hopTests s a b))
-unfolding hopAnswer
+hop-of : (s : Shape) (a b : ℕ) → Exactly (hopAnswer s a b .refusal) (Refused plain (serverTests s a) (Refused (λ n. refusedAt n 1 1) (hopTests s a b) (λ r. r ≡ none)))
+unfolding hopAnswer hopFrom
 hop-of s a b =
-    exactly (λ n. n) (λ r. r ≡ 0) (serverTests s a ++ hopTests s a b) (hopAnswer s a b .number) (λ y h f g. f ∙ sym g)
-    (answers (λ (x : Hop). x .number) noHop (λ n. n) (λ r. r ≡ 0) (serverTests s a ++ hopTests s a b) (serverRefusal s a or-else hopRefusal s a b) (aHop (hopTo s a b)) (λ r. refl) refl
-    (chain (serverTests s a) (hopTests s a b) (serverRefusal s a) (hopRefusal s a b) refl (server-number s a) (λ h. hop-number s a b)) (λ h. refl))
+    let Else : Refusal → Type 0 = Refused (λ n. refusedAt n 1 1) (hopTests s a b) (λ r. r ≡ none) in
+    exactly plain Else (serverTests s a) (hopAnswer s a b .refusal) (λ y h f g. same (λ n. refusedAt n 1 1) (λ r. r ≡ none) (hopTests s a b) _ y (λ k u v. u ∙ sym v) f g)
+    (answers (λ (x : Hop). x .refusal) (λ r. noHop (plain r)) plain Else (serverTests s a) (serverRefusal s a) _ (λ r. refl) refl (server-number s a)
+    (λ h. answers (λ (x : Hop). x .refusal) (λ r. noHop (refusedAt r 1 1)) (λ n. refusedAt n 1 1) (λ r. r ≡ none) (hopTests s a b) (hopRefusal s a b) (hopBy s a b) (λ r. refl) refl (hop-number s a b) (λ k. refl)))
 
 parts-of : (s : Shape) (b : ℕ) → Exactly (partsAnswer s b .refusal) (Refused plain (shapeTests s) (Refused (λ n. refusedAt n 1 1) (partsTests s b) (λ r. r ≡ none)))
 unfolding partsAnswer

@@ -26,3 +26,4 @@ pub mod TieRows
 pub mod Uniqueness
 pub mod Calls
 pub mod Helpers
+pub mod Traces

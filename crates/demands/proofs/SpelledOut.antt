@@ -5,6 +5,7 @@ use mathlib.Core.Logic.{_≢_, _↔_, inl, inr}
 use mathlib.Core.Bool.{true, not}
 use mathlib.Core.List.{List, [], _∷_}
 use native.Mathlib.Omega.{arith}
+use native.Mathlib.Decide.{ℕ-discrete}
 use lib.Dec.{eqb}
 use lib.ListN.{length, getD}
 use borrow.Author.Tests.{eqb-false, not-true}
@@ -18,12 +19,12 @@ use Rattle.room.specs.Addresses.{digit}
 use Rattle.summary.specs.Answers.{linkAnswer, deadAnswer}
 use Rattle.path.specs.Routes.{levelOf, valueOf}
 use Rattle.path.specs.Walks.{walk}
-use Rattle.path.specs.Answers.{walkAnswer}
+use Rattle.path.specs.Answers.{hopAnswer, walkAnswer}
 use Rattle.verdict.specs.Checks.{checkAnswer}
 use Rattle.step.specs.Steps.{flagAt, stepAnswer}
 use Rattle.demands.specs.Tests.{Tests, Refused, Hold, Others}
 use Rattle.demands.specs.Summaries.{switchTotal, EntryCounts, Summarizes}
-use Rattle.demands.specs.Refusals.{tableTests, tableLinkTests, roomTests, arrayTests, Arrays, readTests, FirstAfterArrival, Stops, hop-fails, never-arrives, goes-on, Reads, checkTests, FirstPair, Checks, givenTests, stepTests, Steps, SpelledOut}
+use Rattle.demands.specs.Refusals.{serverTests, hopTests, tableTests, tableLinkTests, roomTests, arrayTests, Arrays, readTests, FirstAfterArrival, Stops, hop-fails, never-arrives, goes-on, Reads, checkTests, FirstPair, Checks, givenTests, stepTests, Steps, SpelledOut}
 use Rattle.demands.proofs.Chains.{all, others, chain-means, numbersOf}
 use Rattle.demands.proofs.Places.{check-list}
 use Rattle.demands.proofs.Exactly.{refused-exactly}
@@ -61,6 +62,56 @@ seven s t a d bs =
     not-whole (inr (inl h)) = let z = ap (λ (r : Refusal). r .route) (h .here) in omega arith
     not-whole (inr (inr h)) = let z = ap (λ (r : Refusal). r .number) (h .here) in omega arith
 
+-- a chain that begins with a test of number 8 gives it only where this fails
+eight-first : (i : ℕ) (P : Type 0) (later : Tests) → all (λ n. not (eqb n 8)) (numbersOf later) ≡ true → Refused (λ n. refusedAt n 1 i) ((8, P) ∷ later) (λ r. r ≡ none) (refusedAt 8 1 i) → P → ⊥
+eight-first i P later u (inl h) p =
+    let w = others (λ n. refusedAt n 1 i) (λ r. r ≡ none) later (refusedAt 8 1 i) (other-numbers (λ n. refusedAt n 1 i) later (refusedAt 8 1 i) (λ n. refl) u) (h .1) in
+    let z = ap (λ (r : Refusal). r .number) (w .1) in omega arith
+eight-first i P later u (inr h) p = h .0 p
+
+module _ (s : Shape) (a b : ℕ) where
+  -- a number of the hop's own tests is given where the server is right, and they give it
+  means-hop : (n : ℕ) → all (λ m. not (eqb m n)) (1 ∷ 2 ∷ 26 ∷ 3 ∷ 4 ∷ []) ≡ true → (hopAnswer s a b .refusal ≡ refusedAt n 1 1) ↔ (Hold (serverTests s a) × Refused (λ m. refusedAt m 1 1) (hopTests s a b) (λ r. r ≡ none) (refusedAt n 1 1))
+  means-hop n u =
+      chain-means .otherwise plain (serverTests s a) (Refused (λ m. refusedAt m 1 1) (hopTests s a b) (λ r. r ≡ none)) (hopAnswer s a b .refusal) (refusedAt n 1 1) (refused-exactly .hop-of s a b)
+      (other-numbers plain (serverTests s a) (refusedAt n 1 1) (λ m. refl) u)
+
+  hop-eight : (hopAnswer s a b .refusal ≡ refusedAt 8 1 1) ↔ (Hold (serverTests s a) × (s .k < levelOf b))
+  hop-eight = (
+    λ q. let w = means-hop 8 refl .0 q in
+        let later : Tests = (9, valueOf b < bound s (levelOf b)) ∷ (10, digit s (levelOf b) a ≢ valueOf b) ∷ [] in
+        let n = eight-first 1 (levelOf b ≤ s .k) later refl (w .1) in (w .0, omega (arith, n)),
+    λ p. means-hop 8 refl .1 (p .0, inr (λ h. omega (arith, p .1), refl)),
+  )
+
+  no-byte : Hold (serverTests s a) → 255 < b → hopAnswer s a b .refusal ≡ refusedAt 8 1 1
+  no-byte h p = let k = h .1 .0 in hop-eight .1 (h, omega (arith, k))
+
+  nine-byte : Refused (λ m. refusedAt m 1 1) (hopTests s a b) (λ r. r ≡ none) (refusedAt 9 1 1) → (levelOf b ≤ s .k) × (bound s (levelOf b) ≤ valueOf b)
+  nine-byte (inr h) = let z = ap (λ (r : Refusal). r .number) (h .1) in let n : ⊥ = omega arith in absurd n
+  nine-byte (inl (p, inr h)) = let n = h .0 in (p, omega (arith, n))
+  nine-byte (inl (p, inl (q, inl h))) = let z = ap (λ (r : Refusal). r .number) (h .1) in let n : ⊥ = omega arith in absurd n
+  nine-byte (inl (p, inl (q, inr h))) = let z = ap (λ (r : Refusal). r .number) (h .1) in let n : ⊥ = omega arith in absurd n
+
+  hop-nine : (hopAnswer s a b .refusal ≡ refusedAt 9 1 1) ↔ (Hold (serverTests s a) × (levelOf b ≤ s .k) × (bound s (levelOf b) ≤ valueOf b))
+  hop-nine = (
+    λ q. let w = means-hop 9 refl .0 q in let v = nine-byte (w .1) in (w .0, v .0, v .1),
+    λ p. means-hop 9 refl .1 (p .0, inl (p .1, inr (λ h. omega (arith, p .2), refl))),
+  )
+
+  ten-byte : Refused (λ m. refusedAt m 1 1) (hopTests s a b) (λ r. r ≡ none) (refusedAt 10 1 1) → (levelOf b ≤ s .k) × (valueOf b < bound s (levelOf b)) × (digit s (levelOf b) a ≡ valueOf b)
+  ten-byte (inr h) = let z = ap (λ (r : Refusal). r .number) (h .1) in let n : ⊥ = omega arith in absurd n
+  ten-byte (inl (p, inr h)) = let z = ap (λ (r : Refusal). r .number) (h .1) in let n : ⊥ = omega arith in absurd n
+  ten-byte (inl (p, inl (q, inl h))) = let z = ap (λ (r : Refusal). r .number) (h .1) in let n : ⊥ = omega arith in absurd n
+  ten-byte (inl (p, inl (q, inr h))) =
+      (p, q, elim (ℕ-discrete (digit s (levelOf b) a) (valueOf b)) [ yes e ↦ e | no n ↦ absurd (h .0 n) ])
+
+  hop-ten : (hopAnswer s a b .refusal ≡ refusedAt 10 1 1) ↔ (Hold (serverTests s a) × (levelOf b ≤ s .k) × (valueOf b < bound s (levelOf b)) × (digit s (levelOf b) a ≡ valueOf b))
+  hop-ten = (
+    λ q. let w = means-hop 10 refl .0 q in let v = ten-byte (w .1) in (w .0, v .0, v .1, v .2),
+    λ p. means-hop 10 refl .1 (p .0, inl (p .1, inl (p .2, inr (λ n. n (p .3), refl)))),
+  )
+
 module _ (s : Shape) (a d i : ℕ) (bs e : List ℕ) where
   abbrev eightHere : Refusal
   eightHere = refusedAt 8 1 (i + 1)
@@ -69,11 +120,9 @@ module _ (s : Shape) (a d i : ℕ) (bs e : List ℕ) where
   above = s .k < levelOf (getD bs i 0)
 
   eight-byte : Refused (λ n. refusedAt n 1 (i + 1)) (stepTests s a e (getD bs i 0)) (λ r. r ≡ none) eightHere → above
-  eight-byte (inl h) =
+  eight-byte h =
       let later : Tests = (9, valueOf (getD bs i 0) < bound s (levelOf (getD bs i 0))) ∷ (10, digit s (levelOf (getD bs i 0)) a ≢ valueOf (getD bs i 0)) ∷ (19, flagAt e (getD bs i 0) ≡ 1) ∷ [] in
-      let w = others (λ n. refusedAt n 1 (i + 1)) (λ r. r ≡ none) later eightHere (other-numbers (λ n. refusedAt n 1 (i + 1)) later eightHere (λ n. refl) refl) (h .1) in
-      let z = ap (λ (r : Refusal). r .number) (w .1) in let n : ⊥ = omega arith in absurd n
-  eight-byte (inr h) = omega (arith, h .0)
+      let n = eight-first (i + 1) (levelOf (getD bs i 0) ≤ s .k) later refl h in omega (arith, n)
 
   eight-away : Steps s a d i bs e eightHere → (a ≢ d) × (i < 8) × above
   eight-away (inl h) = let z = ap (λ (r : Refusal). r .number) (h .1) in let n : ⊥ = omega arith in absurd n
@@ -128,4 +177,4 @@ fifteen s t a d bs j = (λ q. let w = means .0 q in (w .0, go (w .1)), λ h. mea
     go (inr (inr h)) = h
 
 pub spelled-out : SpelledOut
-spelled-out = record { twenty-six = twenty-six; thirty = thirty; asked-thirty = asked-thirty; seven = seven; eight = eight; fourteen = fourteen; fifteen = fifteen }
+spelled-out = record { twenty-six = twenty-six; thirty = thirty; asked-thirty = asked-thirty; seven = seven; eight = eight; hop-eight = hop-eight; no-byte = no-byte; hop-nine = hop-nine; hop-ten = hop-ten; fourteen = fourteen; fifteen = fifteen }

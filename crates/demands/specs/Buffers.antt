@@ -19,7 +19,8 @@ use Rattle.summary.specs.declared.DeadSwitch.{DeadSwitch}
 use Rattle.summary.specs.Counts.{summaryOf, recounted, recountedBelow}
 use Rattle.summary.specs.Answers.{allBits, linkAnswer, linkTable, linkSummary, serverAnswer, serverTable, serverSummary, deadAnswer, freshAnswer, freshSummary}
 use Rattle.path.specs.Bytes.{byteAnswer, partsAnswer}
-use Rattle.path.specs.Answers.{readAnswer, writeAnswer, reverseAnswer}
+use Rattle.path.specs.declared.Hop.{Hop}
+use Rattle.path.specs.Answers.{hopAnswer, readAnswer, writeAnswer, reverseAnswer}
 use Rattle.verdict.specs.Checks.{checkAnswer}
 use Rattle.build.specs.Answers.{buildAnswer}
 use Rattle.laying.specs.Answers.{Lays}
@@ -30,7 +31,7 @@ use Rattle.driver.specs.declared.Answer.{Answer}
 use Rattle.driver.specs.declared.Stepped.{Stepped}
 use Rattle.driver.specs.declared.Room.{Room}
 use Rattle.driver.specs.Rooms.{roomOf, shapeIn}
-use Rattle.driver.specs.Words.{word, refusalIn, valueIn, numberWord, digitsWord, digitsLeft, switchWord, betweenWord, askedWord, deadWord, partsWord, readingWord, readingLeft, writingWord, writingLeft, buildingWord, buildingLeft, placeWord}
+use Rattle.driver.specs.Words.{word, refusalIn, valueIn, numberWord, digitsWord, digitsLeft, switchWord, betweenWord, askedWord, deadWord, partsWord, hopWord, readingWord, readingLeft, writingWord, writingLeft, buildingWord, buildingLeft, placeWord}
 use Rattle.driver.specs.Routes.{FoundWord, SelectedWord}
 use Rattle.driver.specs.Packed.{packed, unpacked, Bytes}
 
@@ -89,14 +90,20 @@ pub record Tells (w : Answer) (r : Refusal) (v : ℕ) : Type 0 where
   pub between : w .word / 16777216 % 256 ≡ 0
 
 -- the two numbers of a step. The first, from its lowest byte: the refusal's number, its hop, 1 if delivered, the next index, the next server
--- in two bytes, the OutPort, and nothing above. The second: the MAC, its first byte highest. The route is 1 where there is a hop.
+-- in two bytes, the OutPort, and the path byte of the way back, which is 64 times the level plus the old value. The second: the MAC, its first
+-- byte highest. The refusal's route is 1 where its hop is
+-- not 0.
 pub record TellsStep (w : Stepped) (x : Step) : Type 0 where
   pub number : w .word % 256 ≡ x .refusal .number
   pub hop : w .word / 256 % 256 ≡ x .refusal .hop
   pub delivered : w .word / 65536 % 256 ≡ cond (x .delivered) 1 0
   pub index : w .word / 16777216 % 256 ≡ x .index
   pub next : w .word / 4294967296 % 65536 ≡ x .next
-  pub port : w .word / 281474976710656 ≡ x .port
+  pub port : w .word / 281474976710656 % 256 ≡ x .port
+  pub back : w .word / 72057594037927936 ≡ 64 * x .level + x .old
+  -- and so its two parts
+  pub level : w .word / 72057594037927936 / 64 ≡ x .level
+  pub old : w .word / 72057594037927936 % 64 ≡ x .old
   pub mac : w .mac / 1099511627776 ∷ w .mac / 4294967296 % 256 ∷ w .mac / 16777216 % 256 ∷ w .mac / 65536 % 256 ∷ w .mac / 256 % 256 ∷ w .mac % 256 ∷ [] ≡ x .mac
   pub route : x .refusal .route ≡ cond (eqb (x .refusal .hop) 0) 0 1
 
@@ -105,6 +112,12 @@ pub record DeadParts (v : ℕ) (x : DeadSwitch) : Type 0 where
   pub found : v / 16777216 ≡ cond (x .found) 1 0
   pub level : v / 65536 % 256 ≡ x .level
   pub number : v % 65536 ≡ x .number
+
+-- the next server of a hop, its level and its old value
+pub record HopParts (v : ℕ) (x : Hop) : Type 0 where
+  pub next : v % 65536 ≡ x .next
+  pub level : v / 65536 / 64 ≡ x .level
+  pub old : v / 65536 % 64 ≡ x .old
 
 -- the word of each call gives back the answer's refusal and number; the two numbers of a step, the whole step
 pub record EveryWord : Type 0 where
@@ -115,6 +128,10 @@ pub record EveryWord : Type 0 where
   pub server-at : (s : Shape) (l w v : ℕ) → (let x = serverAtAnswer s l w v in Tells (numberWord x) (x .refusal) (x .value))
   pub path-byte : (s : Shape) (l v : ℕ) → Tells (numberWord (byteAnswer s l v)) (byteAnswer s l v .refusal) (byteAnswer s l v .value)
   pub path-byte-parts : (s : Shape) (b : ℕ) → (let x = partsAnswer s b in Tells (partsWord x) (x .refusal) (256 * x .level + x .value))
+  -- the next server in two bytes of the number, and the path byte of the way back above them
+  pub hop-of : (s : Shape) (a b : ℕ) → (let x = hopAnswer s a b in Tells (hopWord x) (x .refusal) (x .next + 65536 * (64 * x .level + x .old)))
+  -- whose parts are read back
+  pub hop-parts : (s : Shape) (a b : ℕ) → (let x = hopAnswer s a b in HopParts (valueIn (hopWord x)) x)
   pub digits : (s : Shape) (a : ℕ) → Tells (digitsWord (digitsAnswer s a)) (digitsAnswer s a .refusal) 0
   pub one-digit : (s : Shape) (a l : ℕ) → Tells (numberWord (digitAnswer s a l)) (digitAnswer s a l .refusal) (digitAnswer s a l .value)
   pub address : (s : Shape) (d0 d1 d2 d3 : ℕ) → (let x = addressAnswer s (d0 ∷ d1 ∷ d2 ∷ d3 ∷ []) in Tells (numberWord x) (x .refusal) (x .value))

@@ -93,9 +93,12 @@ AskedOf = Refuses (λ x. x .refusal) (λ r. record { refusal = r; failed = false
 abbrev pub DeadOf : List ℕ → DeadSwitch → Type 0
 DeadOf = Refuses (λ x. x .refusal) (λ r. record { refusal = r; found = false; level = 0; number = 0 }) 0
 
--- a single byte and a single array are route 1
+-- a single byte, a single hop and a single array are route 1
 abbrev pub PartsOf : List ℕ → Parts → Type 0
 PartsOf = Refuses (λ x. x .refusal) (λ r. record { refusal = r; level = 0; value = 0 }) 1
+
+abbrev pub HopOf : List ℕ → Hop → Type 0
+HopOf = Refuses (λ x. x .refusal) (λ r. record { refusal = r; next = 0; level = 0; old = 0 }) 1
 
 abbrev pub WalkedOf : List ℕ → Walked → Type 0
 WalkedOf = Refuses (λ x. x .refusal) (λ r. record { refusal = r; count = 0; servers = replicate 9 0; switches = replicate 8 0 }) 1
@@ -119,12 +122,7 @@ abbrev pub PlaceOf : List ℕ → Place → Type 0
 PlaceOf = Refuses (λ x. x .refusal) (λ r. record { refusal = r; list = 0; route = 0 }) 0
 
 abbrev pub StepOf : List ℕ → Step → Type 0
-StepOf = Refuses (λ x. x .refusal) (λ r. record { refusal = r; delivered = false; next = 0; index = 0; mac = replicate 6 0; port = 0 }) 1
-
--- a hop's answer has a number and no place
-pub record HopOf (numbers : List ℕ) (x : Hop) : Type 0 where
-  pub number : OneOf numbers (x .number)
-  pub nothing-else : x .number ≢ 0 → x .next ≡ 0
+StepOf = Refuses (λ x. x .refusal) (λ r. record { refusal = r; delivered = false; next = 0; index = 0; mac = replicate 6 0; port = 0; level = 0; old = 0 }) 1
 
 -- ---- every call, for every input
 

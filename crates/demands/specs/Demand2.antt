@@ -19,6 +19,7 @@ use Rattle.room.specs.Answers.{serversAnswer, boundAnswer, digitsAnswer, digitA
 use Rattle.links.specs.Table.{failed, live, TableOf}
 use Rattle.links.specs.Answers.{failedAnswer}
 use Rattle.summary.specs.Answers.{linkAnswer, linkTable, linkSummary}
+use Rattle.path.specs.declared.Hop.{Hop}
 use Rattle.path.specs.Routes.{switchTo, byteTo, switchesOf, encode, Route, RouteTo, Encodes, levelOf, valueOf}
 use Rattle.path.specs.Answers.{hopAnswer, walkAnswer, readAnswer, writeAnswer, reverseAnswer}
 use Rattle.verdict.specs.Checks.{checkAnswer}
@@ -181,7 +182,19 @@ pub record LeadsTo (s : Shape) (a b next : ℕ) : Type 0 where
 
 -- and so does a hop that is not refused
 abbrev pub HopExactly : Type 0
-HopExactly = (s : Shape) (a b : ℕ) → hopAnswer s a b .number ≡ 0 → LeadsTo s a b (hopAnswer s a b .next)
+HopExactly = (s : Shape) (a b : ℕ) → hopAnswer s a b .refusal .number ≡ 0 → LeadsTo s a b (hopAnswer s a b .next)
+
+-- what the hop by byte b from server a leaves behind: it leads where the byte leads, its level is the byte's, and its old value, which it
+-- replaces, is the digit of the server hopped from at that level
+pub record HopIs (s : Shape) (a b : ℕ) (x : Hop) : Type 0 where
+  pub refusal : x .refusal ≡ none
+  pub leads : LeadsTo s a b (x .next)
+  pub level : x .level ≡ levelOf b
+  pub old : x .old ≡ digit s (levelOf b) a
+
+-- a hop that is not refused is so, and no other answer is
+abbrev pub HopLeaves : Type 0
+HopLeaves = (s : Shape) (a b : ℕ) (x : Hop) → hopAnswer s a b .refusal .number ≡ 0 → (x ≡ hopAnswer s a b) ↔ HopIs s a b x
 
 -- a number is among others exactly when it stands at one of their places
 abbrev pub AmongExactly : Type 0
@@ -386,7 +399,8 @@ Clearing = ChangesOwn false
 -- ---- one forwarding step
 
 -- the step by byte b at server a goes where the byte leads, with the next index
--- and the six bytes MAC and the OutPort of the byte's entry, eight bytes of the table, whose last is 1: the neighbour is available
+-- and the six bytes MAC and the OutPort of the byte's entry, eight bytes of the table, whose last is 1: the neighbour is available;
+-- its level is the byte's, and its old value the digit of the server hopped from at that level
 pub record Goes (s : Shape) (a i : ℕ) (e : List ℕ) (b : ℕ) (x : Step) : Type 0 where
   pub refusal : x .refusal ≡ none
   pub delivered : x .delivered ≡ false
@@ -395,6 +409,8 @@ pub record Goes (s : Shape) (a i : ℕ) (e : List ℕ) (b : ℕ) (x : Step) : Ty
   pub mac : x .mac ≡ take 6 (drop (8 * b) e)
   pub port : x .port ≡ getD e (8 * b + 6) 0
   pub available : getD e (8 * b + 7) 0 ≡ 1
+  pub level : x .level ≡ levelOf b
+  pub old : x .old ≡ digit s (levelOf b) a
 
 -- away from the destination a step that is not refused goes by the byte that its index names
 abbrev pub StepGoes : Type 0
@@ -410,4 +426,4 @@ StepDelivers =
     (s : Shape) (a d i : ℕ) (bs e : List ℕ) →
     a ≡ d →
     stepAnswer s a d i bs e .refusal .number ≡ 0 →
-    stepAnswer s a d i bs e ≡ record { refusal = none; delivered = true; next = 0; index = 0; mac = replicate 6 0; port = 0 }
+    stepAnswer s a d i bs e ≡ record { refusal = none; delivered = true; next = 0; index = 0; mac = replicate 6 0; port = 0; level = 0; old = 0 }

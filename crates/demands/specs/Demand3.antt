@@ -9,7 +9,9 @@ use lib.ListN.{length, getD, take}
 use Rattle.refusals.specs.Refusals.{none}
 use Rattle.room.specs.declared.Shape.{Shape}
 use Rattle.room.specs.Shapes.{Valid}
+use Rattle.room.specs.Addresses.{digit}
 use Rattle.links.specs.Table.{failed, TableOf}
+use Rattle.path.specs.Routes.{levelTo}
 use Rattle.path.specs.Answers.{readAnswer}
 use Rattle.verdict.specs.Checks.{checkAnswer}
 use Rattle.verdict.specs.Accepted.{Accepted}
@@ -55,10 +57,10 @@ SelectionAccepted =
     checkAnswer s t a d (held (r .routes)) ≡ none
 
 -- stepping an array of path bytes from server a with index 0, each step made where the one before it led, with that server's table:
--- at each hop no refusal, the next of these servers, the next index, and the MAC and OutPort that the table holds for the hop's byte;
--- after exactly their hops a delivery
+-- at each hop no refusal, the next of these servers, the next index, the MAC and OutPort that the table holds for the hop's byte, the level
+-- of the hop, and the digit there of the server hopped from; after exactly their hops a delivery
 pub record Delivers (s : Shape) (d : ℕ) (bs : List ℕ) (tables : ℕ → List ℕ) (a : ℕ) (vs : List ℕ) : Type 0 where
-  pub hop : (i : ℕ) → suc i < length vs → stepAfter s d bs tables i a 0 ≡ record { refusal = none; delivered = false; next = getD vs (suc i) 0; index = i + 1; mac = macAt (tables (getD vs i 0)) (getD bs i 0); port = portAt (tables (getD vs i 0)) (getD bs i 0) }
+  pub hop : (i : ℕ) → suc i < length vs → stepAfter s d bs tables i a 0 ≡ record { refusal = none; delivered = false; next = getD vs (suc i) 0; index = i + 1; mac = macAt (tables (getD vs i 0)) (getD bs i 0); port = portAt (tables (getD vs i 0)) (getD bs i 0); level = levelTo s (getD vs i 0) (getD vs (suc i) 0); old = digit s (levelTo s (getD vs i 0) (getD vs (suc i) 0)) (getD vs i 0) }
   pub delivered : stepAfter s d bs tables (length vs - 1) a 0 ≡ delivery
 
 -- for every failed-link table there are neighbour tables, of bytes, that agree with it

@@ -12,3 +12,4 @@ pub mod Uniqueness
 pub mod Calls
 pub mod Summaries
 pub mod Helpers
+pub mod Traces

@@ -308,10 +308,10 @@ pub record RefusedExactly : Type 0 where
   pub mark-or-clear-server : (s : Shape) (t c : List ℕ) (a : ℕ) → Exactly (serverAnswer s t c a) (Whole (countedServerTests s t c a))
   pub dead-switch : (s : Shape) (t c : List ℕ) → Exactly (deadAnswer s t c .refusal) (Whole (summaryTests s t c))
   pub summarize : (s : Shape) (t c : List ℕ) → Exactly (freshAnswer s t c) (Whole (entriesTests s t c))
-  -- path: a byte alone is hop 1 of route 1; plain reading and reversal are over the table with no bytes, in which no link is failed
+  -- path: a byte or a hop alone is hop 1 of route 1; plain reading and reversal are over the table with no bytes, in which no link is failed
   pub byte-of : (s : Shape) (l v : ℕ) → Exactly (byteAnswer s l v .refusal) (Whole (madeTests s l v))
   pub parts-of : (s : Shape) (b : ℕ) → Exactly (partsAnswer s b .refusal) (Refused plain (shapeTests s) (Refused (λ n. refusedAt n 1 1) (partsTests s b) (λ r. r ≡ none)))
-  pub hop-of : (s : Shape) (a b : ℕ) → Exactly (hopAnswer s a b .number) (Number (serverTests s a ++ hopTests s a b))
+  pub hop-of : (s : Shape) (a b : ℕ) → Exactly (hopAnswer s a b .refusal) (Refused plain (serverTests s a) (Refused (λ n. refusedAt n 1 1) (hopTests s a b) (λ r. r ≡ none)))
   pub walk : (s : Shape) (t : List ℕ) (a d : ℕ) (bs : List ℕ) → Exactly (walkAnswer s t a d bs .refusal) (Refused plain (arrayTests s a d bs) (Reads s t a d bs))
   pub read-path : (s : Shape) (a d : ℕ) (bs : List ℕ) → Exactly (readAnswer s a d bs .refusal) (Refused plain (arrayTests s a d bs) (Reads s [] a d bs))
   pub reverse-path : (s : Shape) (a d : ℕ) (bs : List ℕ) → Exactly (reverseAnswer s a d bs .refusal) (Refused plain (arrayTests s a d bs) (Reads s [] a d bs))
@@ -349,6 +349,16 @@ pub record SpelledOut : Type 0 where
   -- the level of that byte is above k
   pub eight : (s : Shape) (a d i : ℕ) (bs e : List ℕ)
       → (stepAnswer s a d i bs e .refusal ≡ refusedAt 8 1 (i + 1)) ↔ (Hold (givenTests s a d bs e) × (a ≢ d) × (i < 8) × (s .k < levelOf (getD bs i 0)))
+  -- a hop alone says 8, at hop 1 of route 1, exactly when the server is right and the level of its byte is above k
+  pub hop-eight : (s : Shape) (a b : ℕ) → (hopAnswer s a b .refusal ≡ refusedAt 8 1 1) ↔ (Hold (serverTests s a) × (s .k < levelOf b))
+  -- and so of every number that is no byte
+  pub no-byte : (s : Shape) (a b : ℕ) → Hold (serverTests s a) → 255 < b → hopAnswer s a b .refusal ≡ refusedAt 8 1 1
+  -- 9 exactly when the server is right, the level of the byte is the room's, and its value is not below the level's bound
+  pub hop-nine : (s : Shape) (a b : ℕ)
+      → (hopAnswer s a b .refusal ≡ refusedAt 9 1 1) ↔ (Hold (serverTests s a) × (levelOf b ≤ s .k) × (bound s (levelOf b) ≤ valueOf b))
+  -- 10 exactly when the server is right, the level and the value of the byte are the room's, and the value is the server's own
+  pub hop-ten : (s : Shape) (a b : ℕ)
+      → (hopAnswer s a b .refusal ≡ refusedAt 10 1 1) ↔ (Hold (serverTests s a) × (levelOf b ≤ s .k) × (valueOf b < bound s (levelOf b)) × (digit s (levelOf b) a ≡ valueOf b))
   -- 14 at hop p + 1, exactly when the byte at place p, counted from 0, is the first after arrival that is not zero
   pub fourteen : (s : Shape) (t : List ℕ) (a d : ℕ) (bs : List ℕ) (p : ℕ)
       → (walkAnswer s t a d bs .refusal ≡ refusedAt 14 1 (suc p)) ↔ (Hold (arrayTests s a d bs) × FirstAfterArrival s t a d bs p)

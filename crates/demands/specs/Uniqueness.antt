@@ -146,6 +146,8 @@ use Rattle.driver.proofs.bcube_path_byte.Reads as c-path-byte-reads
 use Rattle.driver.proofs.bcube_path_byte.Kinds as c-path-byte-kinds
 use Rattle.driver.proofs.bcube_path_byte_parts.Reads as c-path-byte-parts-reads
 use Rattle.driver.proofs.bcube_path_byte_parts.Kinds as c-path-byte-parts-kinds
+use Rattle.driver.proofs.bcube_hop_of.Reads as c-hop-of-reads
+use Rattle.driver.proofs.bcube_hop_of.Kinds as c-hop-of-kinds
 use Rattle.driver.proofs.bcube_room_of.Reads as c-room-of-reads
 use Rattle.driver.proofs.bcube_room_of.Kinds as c-room-of-kinds
 use Rattle.driver.proofs.bcube_filled_room.Reads as c-filled-room-reads
@@ -289,6 +291,7 @@ pub record EveryInput : Type 0 where
   pub c-server-at : Takes 0 c-server-at-kinds.ps c-server-at-reads.Pre
   pub c-path-byte : Takes 0 c-path-byte-kinds.ps c-path-byte-reads.Pre
   pub c-path-byte-parts : Takes 0 c-path-byte-parts-kinds.ps c-path-byte-parts-reads.Pre
+  pub c-hop-of : Takes 0 c-hop-of-kinds.ps c-hop-of-reads.Pre
   pub c-room-of : Takes 0 c-room-of-kinds.ps c-room-of-reads.Pre
   pub c-filled-room : Takes 0 c-filled-room-kinds.ps c-filled-room-reads.Pre
   pub c-shape : Takes 0 c-shape-kinds.ps c-shape-reads.Pre
@@ -419,6 +422,7 @@ pub record Uniqueness : Type 0 where
   pub c-server-at : Determined 0 c-server-at-kinds.ps c-server-at-kinds.r c-server-at-reads.Post
   pub c-path-byte : Determined 0 c-path-byte-kinds.ps c-path-byte-kinds.r c-path-byte-reads.Post
   pub c-path-byte-parts : Determined 0 c-path-byte-parts-kinds.ps c-path-byte-parts-kinds.r c-path-byte-parts-reads.Post
+  pub c-hop-of : Determined 0 c-hop-of-kinds.ps c-hop-of-kinds.r c-hop-of-reads.Post
   pub c-room-of : Determined 0 c-room-of-kinds.ps c-room-of-kinds.r c-room-of-reads.Post
   pub c-filled-room : Determined 0 c-filled-room-kinds.ps c-filled-room-kinds.r c-filled-room-reads.Post
   pub c-shape : Determined 0 c-shape-kinds.ps c-shape-kinds.r c-shape-reads.Post

@@ -12,7 +12,8 @@ use borrow.Author.Tests.{eq-eqb, ne-eqb}
 use Rattle.refusals.specs.Refusals.{plain, refusedAt, answer}
 use Rattle.refusals.proofs.NumberLaws.{one-le}
 use Rattle.room.specs.declared.Shape.{Shape}
-use Rattle.path.proofs.HopLaws.{hop-server}
+use Rattle.path.specs.Routes.{byteOf, levelOf, valueOf}
+use Rattle.path.proofs.HopLaws.{byte-apart, hop-level-low, hop-old-low, hop-server}
 use Rattle.step.specs.declared.Step.{Step}
 use Rattle.step.specs.Steps.{entry, macAt, portAt, stepRefusal, atHop, withPlace, noStep, delivery, forwarded, stepAnswer}
 use Rattle.step.proofs.NumberLaws.{step-numbers}
@@ -38,6 +39,8 @@ pub record Fits (x : Step) : Type 0 where
   pub route : x .refusal .route ≡ cond (eqb (x .refusal .hop) 0) 0 1
   pub index : x .index < 256
   pub next : x .next < 65536
+  pub level : x .level ≤ 3
+  pub old : x .old < 64
 
 -- and so do the bytes that come from the neighbour table
 pub record Small (x : Step) : Type 0 where
@@ -92,12 +95,12 @@ module _ (s : Shape) (a d i : ℕ) (bs e : List ℕ) where
       let m = one-le 255 refl (step-numbers s a d i bs e) in
       let k = hop-le s a d i bs e in
       let p = with-place-number i (stepRefusal s a d i bs e) in
-      record { number = omega arith; hop = omega arith; route = with-place-route s a d i bs e (stepRefusal s a d i bs e); index = lit< tt; next = lit< tt })
-      (λ h. record { number = lit< tt; hop = lit< tt; route = refl; index = lit< tt; next = lit< tt })
+      record { number = omega arith; hop = omega arith; route = with-place-route s a d i bs e (stepRefusal s a d i bs e); index = lit< tt; next = lit< tt; level = lit≤ tt; old = lit< tt })
+      (λ h. record { number = lit< tt; hop = lit< tt; route = refl; index = lit< tt; next = lit< tt; level = lit≤ tt; old = lit< tt })
       (λ z away.
       let g = goes-of s a d i bs e z away in
       let k = hop-server (g .given .here) (getD bs i 0) (g .taken) in
-      record { number = lit< tt; hop = lit< tt; route = refl; index = omega (arith, g .index); next = omega (arith, k .below, k .valid .small) })
+      record { number = lit< tt; hop = lit< tt; route = refl; index = omega (arith, g .index); next = omega (arith, k .below, k .valid .small); level = hop-level-low (g .given .here) (getD bs i 0) (g .taken); old = hop-old-low (g .given .here) (getD bs i 0) (g .taken) })
 
   pub step-small : Bytes e → Small (stepAnswer s a d i bs e)
   unfolding portAt macAt entry
@@ -144,16 +147,17 @@ flag-le : (t : Bool) → flagOf t ≤ 1
 flag-le true = lit≤ tt
 flag-le false = lit≤ tt
 
-step-same : (x y : Step) → x .refusal .number ≡ y .refusal .number → x .refusal .route ≡ y .refusal .route → x .refusal .hop ≡ y .refusal .hop → x .delivered ≡ y .delivered → x .next ≡ y .next → x .index ≡ y .index → x .mac ≡ y .mac → x .port ≡ y .port → x ≡ y
-step-same x y a b c d e f g h =
-    ap (λ (z : ℕ). record { refusal = record { number = z; route = x .refusal .route; hop = x .refusal .hop }; delivered = x .delivered; next = x .next; index = x .index; mac = x .mac; port = x .port }) a
-    ∙ ap (λ (z : ℕ). record { refusal = record { number = y .refusal .number; route = z; hop = x .refusal .hop }; delivered = x .delivered; next = x .next; index = x .index; mac = x .mac; port = x .port }) b
-    ∙ ap (λ (z : ℕ). record { refusal = record { number = y .refusal .number; route = y .refusal .route; hop = z }; delivered = x .delivered; next = x .next; index = x .index; mac = x .mac; port = x .port }) c
-    ∙ ap (λ (z : Bool). record { refusal = y .refusal; delivered = z; next = x .next; index = x .index; mac = x .mac; port = x .port }) d
-    ∙ ap (λ (z : ℕ). record { refusal = y .refusal; delivered = y .delivered; next = z; index = x .index; mac = x .mac; port = x .port }) e
-    ∙ ap (λ (z : ℕ). record { refusal = y .refusal; delivered = y .delivered; next = y .next; index = z; mac = x .mac; port = x .port }) f
-    ∙ ap (λ (z : List ℕ). record { refusal = y .refusal; delivered = y .delivered; next = y .next; index = y .index; mac = z; port = x .port }) g
-    ∙ ap (λ (z : ℕ). record { refusal = y .refusal; delivered = y .delivered; next = y .next; index = y .index; mac = y .mac; port = z }) h
+step-same : (x y : Step) → x .refusal .number ≡ y .refusal .number → x .refusal .route ≡ y .refusal .route → x .refusal .hop ≡ y .refusal .hop → x .delivered ≡ y .delivered → x .next ≡ y .next → x .index ≡ y .index → x .mac ≡ y .mac → x .port ≡ y .port → x .level ≡ y .level → x .old ≡ y .old → x ≡ y
+step-same x y a b c d e f g h k o =
+    ap (λ (z : ℕ). record { refusal = record { number = z; route = x .refusal .route; hop = x .refusal .hop }; delivered = x .delivered; next = x .next; index = x .index; mac = x .mac; port = x .port; level = x .level; old = x .old }) a
+    ∙ ap (λ (z : ℕ). record { refusal = record { number = y .refusal .number; route = z; hop = x .refusal .hop }; delivered = x .delivered; next = x .next; index = x .index; mac = x .mac; port = x .port; level = x .level; old = x .old }) b
+    ∙ ap (λ (z : ℕ). record { refusal = record { number = y .refusal .number; route = y .refusal .route; hop = z }; delivered = x .delivered; next = x .next; index = x .index; mac = x .mac; port = x .port; level = x .level; old = x .old }) c
+    ∙ ap (λ (z : Bool). record { refusal = y .refusal; delivered = z; next = x .next; index = x .index; mac = x .mac; port = x .port; level = x .level; old = x .old }) d
+    ∙ ap (λ (z : ℕ). record { refusal = y .refusal; delivered = y .delivered; next = z; index = x .index; mac = x .mac; port = x .port; level = x .level; old = x .old }) e
+    ∙ ap (λ (z : ℕ). record { refusal = y .refusal; delivered = y .delivered; next = y .next; index = z; mac = x .mac; port = x .port; level = x .level; old = x .old }) f
+    ∙ ap (λ (z : List ℕ). record { refusal = y .refusal; delivered = y .delivered; next = y .next; index = y .index; mac = z; port = x .port; level = x .level; old = x .old }) g
+    ∙ ap (λ (z : ℕ). record { refusal = y .refusal; delivered = y .delivered; next = y .next; index = y .index; mac = y .mac; port = z; level = x .level; old = x .old }) h
+    ∙ ap₂ (λ (z w : ℕ). record { refusal = y .refusal; delivered = y .delivered; next = y .next; index = y .index; mac = y .mac; port = y .port; level = z; old = w }) k o
 
 -- the fields of the word, from the lowest
 pub record Fields (x : Step) (p : ℕ) : Type 0 where
@@ -163,15 +167,17 @@ pub record Fields (x : Step) (p : ℕ) : Type 0 where
   pub index : p / 16777216 % 256 ≡ x .index
   pub next : p / 4294967296 % 65536 ≡ x .next
   pub port : p / 281474976710656 % 256 ≡ x .port
+  pub back : p / 72057594037927936 ≡ byteOf (x .level) (x .old)
 
 pub word-fields : (x : Step) → Small x → Fields x (stepWord x)
-unfolding stepWord
+unfolding stepWord byteOf
 word-fields x h =
-    let q = sum (x .refusal .number) (x .refusal .hop) (flagOf (x .delivered)) (x .index) (x .next) (x .port) (h .fits .number) (h .fits .hop) (flag-le (x .delivered)) (h .fits .index) (h .fits .next) (h .port) in
-    record { number = q .0; hop = q .1; delivered = q .2; index = q .3; next = q .4; port = q .5 }
+    let b : 64 * x .level + x .old < 256 = omega (arith, h .fits .level, h .fits .old) in
+    let q = sum (x .refusal .number) (x .refusal .hop) (flagOf (x .delivered)) (x .index) (x .next) (x .port) (64 * x .level + x .old) (h .fits .number) (h .fits .hop) (flag-le (x .delivered)) (h .fits .index) (h .fits .next) (h .port) b in
+    record { number = q .0; hop = q .1; delivered = q .2; index = q .3; next = q .4; port = q .5; back = q .6 }
   where
-    sum : (a b c d e f : ℕ) → a < 256 → b < 256 → c ≤ 1 → d < 256 → e < 65536 → f < 256 → (let p = a + 256 * b + 65536 * c + 16777216 * d + 4294967296 * e + 281474976710656 * f in (p % 256 ≡ a) × (p / 256 % 256 ≡ b) × (p / 65536 % 256 ≡ c) × (p / 16777216 % 256 ≡ d) × (p / 4294967296 % 65536 ≡ e) × (p / 281474976710656 % 256 ≡ f))
-    sum a b c d e f ha hb hc hd he hf = (omega arith, omega arith, omega arith, omega arith, omega arith, omega arith)
+    sum : (a b c d e f g : ℕ) → a < 256 → b < 256 → c ≤ 1 → d < 256 → e < 65536 → f < 256 → g < 256 → (let p = a + 256 * b + 65536 * c + 16777216 * d + 4294967296 * e + 281474976710656 * f + 72057594037927936 * g in (p % 256 ≡ a) × (p / 256 % 256 ≡ b) × (p / 65536 % 256 ≡ c) × (p / 16777216 % 256 ≡ d) × (p / 4294967296 % 65536 ≡ e) × (p / 281474976710656 % 256 ≡ f) × (p / 72057594037927936 ≡ g))
+    sum a b c d e f g ha hb hc hd he hf hg = (omega arith, omega arith, omega arith, omega arith, omega arith, omega arith, omega arith)
 
 pub unpack-packed : (x : Step) → Small x → unpacked (packed x) ≡ x
 unfolding packed unpacked stepIn
@@ -182,6 +188,8 @@ unpack-packed x h =
     (f .hop)
     (ap (λ (z : ℕ). eqb z 1) (f .delivered) ∙ flag-back (x .delivered))
     (f .next) (f .index) (mac-back (x .mac) (h .long) (h .mac)) (f .port)
+    (ap levelOf (f .back) ∙ byte-apart (x .level) (x .old) (h .fits .old) .0)
+    (ap valueOf (f .back) ∙ byte-apart (x .level) (x .old) (h .fits .old) .1)
 
 -- the step as a driver in C sees it is the step: for every input, over a table of bytes
 pub step-unpacks : (s : Shape) (a d i : ℕ) (bs e : List ℕ) → Bytes e → (let x = stepAnswer s a d i bs e in unpacked (packed x) ≡ x)
@@ -227,19 +235,19 @@ module _ (s : Shape) (a d i : ℕ) (bs e : List ℕ) (x : Step) (found : x ≡ s
     told y h = h ∙ ap packed (found ∙ ap (λ (z : Shape). stepAnswer z a d i bs e) shape)
 
     pub pack-refused : x .refusal .number ≢ 0 → _≡_ {A = Stepped} (record { word = x .refusal .number + 256 * x .refusal .hop; mac = 0 }) (packed (stepAnswer t a d i bs e))
-    unfolding packed stepWord macNumber bytesNumber
+    unfolding packed stepWord macNumber bytesNumber byteOf
     pack-refused h =
         let w : x .refusal .number + 256 * x .refusal .hop ≡ stepWord (noStep (x .refusal)) = omega arith in
         told _ (ap (λ (z : ℕ). record { word = z; mac = 0 }) w ∙ ap packed (sym (whole .refused h)))
 
     pub pack-here : x .delivered ≡ true → _≡_ {A = Stepped} (record { word = 65536; mac = 0 }) (packed (stepAnswer t a d i bs e))
-    unfolding packed stepWord macNumber bytesNumber
+    unfolding packed stepWord macNumber bytesNumber byteOf
     pack-here h = told _ (ap packed (sym (whole .arrived h)))
 
-    pub pack-goes : (p m : ℕ) → x .refusal .number ≡ 0 → x .delivered ≡ false → p ≡ x .port → m ≡ macNumber (x .mac) → _≡_ {A = Stepped} (record { word = 16777216 * x .index + 4294967296 * x .next + 281474976710656 * p; mac = m }) (packed (stepAnswer t a d i bs e))
-    unfolding packed stepWord
+    pub pack-goes : (p m : ℕ) → x .refusal .number ≡ 0 → x .delivered ≡ false → p ≡ x .port → m ≡ macNumber (x .mac) → _≡_ {A = Stepped} (record { word = 16777216 * x .index + 4294967296 * x .next + 281474976710656 * p + 72057594037927936 * (64 * x .level + x .old); mac = m }) (packed (stepAnswer t a d i bs e))
+    unfolding packed stepWord byteOf
     pack-goes p m z away hp hm =
         let f : flagOf (x .delivered) ≡ 0 = ap flagOf away in
         let q = whole .passed z in
-        let w : 16777216 * x .index + 4294967296 * x .next + 281474976710656 * p ≡ stepWord x = omega arith in
+        let w : 16777216 * x .index + 4294967296 * x .next + 281474976710656 * p + 72057594037927936 * (64 * x .level + x .old) ≡ stepWord x = omega arith in
         told _ (ap₂ (λ (u v : ℕ). record { word = u; mac = v }) w hm)

@@ -11,17 +11,21 @@ use Rattle.refusals.specs.declared.Refusal.{Refusal}
 use Rattle.refusals.specs.Refusals.{plain, refusedAt, answer}
 use Rattle.refusals.proofs.NumberLaws.{one-le}
 use Rattle.room.specs.declared.Shape.{Shape}
-use Rattle.room.specs.Refusals.{shapeRefusal}
-use Rattle.room.proofs.NumberLaws.{shape-numbers}
+use Rattle.room.specs.Addresses.{digit}
+use Rattle.room.specs.Refusals.{shapeRefusal, serverRefusal}
+use Rattle.room.proofs.NumberLaws.{shape-numbers, server-numbers}
+use Rattle.room.proofs.RefusalLaws.{server-of}
 use Rattle.room.proofs.RoomLaws.{bound-le}
 use Rattle.path.specs.declared.Walked.{Walked}
 use Rattle.path.specs.declared.Writing.{Writing}
 use Rattle.path.specs.declared.Parts.{Parts}
+use Rattle.path.specs.declared.Hop.{Hop}
 use Rattle.path.specs.Bytes.{madeRefusal, byteAnswer, partsRefusal, noParts, someParts, partsAnswer}
 use Rattle.path.specs.Routes.{byteOf, switchAt, switchTo, levelOf, valueOf}
-use Rattle.path.specs.Walks.{Walk, stopped, arrived, hopTo, fault, ended, walkFrom, walk, writeFault, writeFrom}
-use Rattle.path.specs.Answers.{arrayRefusal, noWalk, walked, walkAnswer, readAnswer, noWriting, reversed, reverseAnswer, writeRefusal, written, onTheWay, writeAnswer}
-use Rattle.path.proofs.NumberLaws.{made-numbers, parts-numbers, fault-numbers, array-numbers, write-numbers, write-fault-numbers}
+use Rattle.path.specs.Walks.{Walk, stopped, arrived, hopTo, hopRefusal, fault, ended, walkFrom, walk, writeFault, writeFrom}
+use Rattle.path.specs.Answers.{noHop, hopBy, hopFrom, hopAnswer, arrayRefusal, noWalk, walked, walkAnswer, readAnswer, noWriting, reversed, reverseAnswer, writeRefusal, written, onTheWay, writeAnswer}
+use Rattle.path.proofs.HopLaws.{hop-level-low, hop-old-low, hop-server}
+use Rattle.path.proofs.NumberLaws.{hop-numbers, made-numbers, parts-numbers, fault-numbers, array-numbers, write-numbers, write-fault-numbers}
 use Rattle.path.proofs.ByteLaws.{made-of, parts-of}
 use Rattle.path.proofs.CodecLaws.{array-of, listed-of}
 use Rattle.verdict.specs.Checks.{arrays, parallel, firstStop, firstMeeting, firstOf, firstPair, listRefusal, walksOf, checkAnswer}
@@ -71,6 +75,36 @@ parts-small s b =
 
 pub parts-found : (s : Shape) (b : ℕ) (x : Parts) → x ≡ partsAnswer s b → PartsFit x
 parts-found s b x e = subst PartsFit (sym e) (parts-small s b)
+
+-- ---- one hop
+
+-- the value of the word is the next server plus 65536 times the path byte of the way back
+pub record HopFit (x : Hop) : Type 0 where
+  pub next : x .next < 65536
+  pub level : x .level ≤ 3
+  pub old : x .old < 64
+  pub small : Small (x .refusal) (x .next + 65536 * byteOf (x .level) (x .old))
+
+hop-small : (s : Shape) (a b : ℕ) → HopFit (hopAnswer s a b)
+unfolding hopAnswer hopFrom byteOf
+hop-small s a b =
+    answer-so HopFit (serverRefusal s a) (λ r. noHop (plain r)) _
+    (λ r h. record { next = lit< tt; level = lit≤ tt; old = lit< tt; small = plain-small r h })
+    (one-le 255 refl (server-numbers s a))
+    (λ v.
+    answer-so HopFit (hopRefusal s a b) (λ r. noHop (refusedAt r 1 1)) (hopBy s a b)
+    (λ r h. record { next = lit< tt; level = lit≤ tt; old = lit< tt; small = at-small r 1 1 h (lit< tt) (lit< tt) })
+    (one-le 255 refl (hop-numbers s a b))
+    (λ z.
+    let here = server-of s a v in
+    let there = hop-server here b z in
+    let n : hopTo s a b < 65536 = omega (arith, there .below, there .valid .small) in
+    let l = hop-level-low here b z in
+    let o = hop-old-low here b z in
+    record { next = n; level = l; old = o; small = none-small (hopTo s a b + 65536 * (64 * levelOf b + digit s (levelOf b) a)) (omega arith) }))
+
+pub hop-found : (s : Shape) (a b : ℕ) (x : Hop) → x ≡ hopAnswer s a b → HopFit x
+hop-found s a b x e = subst HopFit (sym e) (hop-small s a b)
 
 -- ---- a walk
 

@@ -22,6 +22,8 @@ use Rattle.driver.proofs.rooms.bcube_server_at.Reads as bcube-server-at
 use Rattle.driver.proofs.rooms.bcube_server_at.Kinds as bcube-server-at-kinds
 use Rattle.driver.proofs.paths.bcube_path_byte.Reads as bcube-path-byte
 use Rattle.driver.proofs.paths.bcube_path_byte.Kinds as bcube-path-byte-kinds
+use Rattle.driver.proofs.paths.bcube_hop_of.Reads as bcube-hop-of
+use Rattle.driver.proofs.paths.bcube_hop_of.Kinds as bcube-hop-of-kinds
 use Rattle.driver.proofs.paths.bcube_path_byte_parts.Reads as bcube-path-byte-parts
 use Rattle.driver.proofs.paths.bcube_path_byte_parts.Kinds as bcube-path-byte-parts-kinds
 use Rattle.driver.proofs.shapes.bcube_version.Reads as bcube-version
@@ -186,6 +188,9 @@ bcube-summarize-leaves κs a x y s t e f = e .1 ∙ sym (f .1)
 
 pub bcube-path-byte-unique : Determined 0 bcube-path-byte-kinds.ps bcube-path-byte-kinds.r bcube-path-byte.Post
 bcube-path-byte-unique κs a x y s t e f = e ∙ sym f
+
+pub bcube-hop-of-unique : Determined 0 bcube-hop-of-kinds.ps bcube-hop-of-kinds.r bcube-hop-of.Post
+bcube-hop-of-unique κs a x y s t e f = e ∙ sym f
 
 pub bcube-path-byte-parts-unique : Determined 0 bcube-path-byte-parts-kinds.ps bcube-path-byte-parts-kinds.r bcube-path-byte-parts.Post
 bcube-path-byte-parts-unique κs a x y s t e f = e ∙ sym f

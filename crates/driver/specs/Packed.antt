@@ -4,6 +4,7 @@ use mathlib.Core.List.{List, [], _∷_}
 use mathlib.Core.Bool.{Bool, cond}
 use lib.Dec.{eqb}
 use lib.ListN.{getD}
+use Rattle.path.specs.Routes.{byteOf, levelOf, valueOf}
 use Rattle.step.specs.declared.Step.{Step}
 use Rattle.driver.specs.declared.Stepped.{Stepped}
 
@@ -19,15 +20,15 @@ unfoldable pub macNumber : List ℕ → ℕ
 macNumber bs = bytesNumber 0 bs
 
 -- the word, from the lowest byte: the refusal's number, its hop, 1 if delivered, the next index, the next server (two bytes), the
--- OutPort, 0
+-- OutPort, and the path byte of the way back, which is 0 where there is no hop
 unfoldable pub stepWord : Step → ℕ
 stepWord x =
-    x .refusal .number + 256 * x .refusal .hop + 65536 * flagOf (x .delivered) + 16777216 * x .index + 4294967296 * x .next + 281474976710656 * x .port
+    x .refusal .number + 256 * x .refusal .hop + 65536 * flagOf (x .delivered) + 16777216 * x .index + 4294967296 * x .next + 281474976710656 * x .port + 72057594037927936 * byteOf (x .level) (x .old)
 
 unfoldable pub packed : Step → Stepped
 packed x = record { word = stepWord x; mac = macNumber (x .mac) }
 
--- what a driver reads back of the two numbers w and m. The route is 1 where there is a hop.
+-- what a driver reads back of the two numbers w and m. The refusal's route is 1 where its hop is not 0.
 unfoldable pub stepIn : ℕ → ℕ → Step
 stepIn w m =
     record {
@@ -37,6 +38,8 @@ stepIn w m =
       index = w / 16777216 % 256;
       mac = m / 1099511627776 % 256 ∷ m / 4294967296 % 256 ∷ m / 16777216 % 256 ∷ m / 65536 % 256 ∷ m / 256 % 256 ∷ m % 256 ∷ [];
       port = w / 281474976710656 % 256;
+      level = levelOf (w / 72057594037927936);
+      old = valueOf (w / 72057594037927936);
     }
 
 unfoldable pub unpacked : Stepped → Step

@@ -10,8 +10,10 @@ use Rattle.room.specs.declared.Between.{Between}
 use Rattle.links.specs.declared.Asked.{Asked}
 use Rattle.summary.specs.declared.DeadSwitch.{DeadSwitch}
 use Rattle.path.specs.declared.Parts.{Parts}
+use Rattle.path.specs.declared.Hop.{Hop}
 use Rattle.path.specs.declared.Reading.{Reading}
 use Rattle.path.specs.declared.Writing.{Writing}
+use Rattle.path.specs.Routes.{byteOf}
 use Rattle.build.specs.declared.Building.{Building}
 use Rattle.pick.specs.declared.Place.{Place}
 use Rattle.driver.specs.declared.Answer.{Answer}
@@ -70,6 +72,10 @@ deadWord x = word (x .refusal) (cond (x .found) (16777216 + 65536 * x .level + x
 -- the level of a path byte and its value
 abbrev pub partsWord : Parts → Answer
 partsWord x = word (x .refusal) (256 * x .level + x .value)
+
+-- the next server of a hop in two bytes, and the path byte of its way back in the byte above
+abbrev pub hopWord : Hop → Answer
+hopWord x = word (x .refusal) (x .next + 65536 * byteOf (x .level) (x .old))
 
 -- the count of the servers in the word, the servers in the buffer
 abbrev pub readingWord : Reading → Answer

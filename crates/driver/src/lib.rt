@@ -4,7 +4,7 @@
 // it was lent.
 // marks.rt: the failed-link table, marked and cleared with its summary
 mod marks;
-// paths.rt: path bytes read, written and reversed, and lists checked
+// paths.rt: one hop; path bytes read, written and reversed; lists checked
 mod paths;
 // picks.rt: picking a usable route
 mod picks;
@@ -27,6 +27,7 @@ pub use marks::bcube_failed_link;
 pub use marks::bcube_mark;
 pub use marks::bcube_mark_all;
 pub use paths::bcube_check;
+pub use paths::bcube_hop_of;
 pub use paths::bcube_path_byte;
 pub use paths::bcube_path_byte_parts;
 pub use paths::bcube_read;

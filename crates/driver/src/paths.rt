@@ -1,10 +1,10 @@
-// Path bytes made, taken apart, read, written and reversed; lists of arrays checked.
+// Path bytes made, taken apart, hopped by, read, written and reversed; lists of arrays checked.
 ghost use mathlib.Core.Path.{_≡_};
-ghost use Rattle.path.specs.Answers.{readAnswer, writeAnswer, reverseAnswer};
+ghost use Rattle.path.specs.Answers.{hopAnswer, readAnswer, writeAnswer, reverseAnswer};
 ghost use Rattle.path.specs.Bytes.{byteAnswer, partsAnswer};
 ghost use Rattle.verdict.specs.Checks.{checkAnswer};
 ghost use Rattle.driver.specs.Rooms.{shapeIn};
-ghost use Rattle.driver.specs.Words.{word, numberWord, partsWord, readingWord, readingLeft, writingWord, writingLeft};
+ghost use Rattle.driver.specs.Words.{word, numberWord, partsWord, hopWord, readingWord, readingLeft, writingWord, writingLeft};
 use crate::Answer;
 use crate::Room;
 use crate::shapes::shape_in;
@@ -27,6 +27,17 @@ pub extern "C" fn bcube_path_byte_parts(room: Room, byte: usize) -> Answer
 {
     let parts = path::parts_of(shape_in(room), byte);
     result_word(parts.refusal, 256 * parts.level + parts.value)
+}
+
+// The hop by a byte from a server, in one value: the next server, and 65,536 times the path byte of the way
+// back, which is 64 times the level plus the value that the hop replaces. Refusals 1, 2, 26, 3, 4, then
+// 8, 9, 10 at a hop.
+#[no_mangle]
+pub extern "C" fn bcube_hop_of(room: Room, server: usize, byte: usize) -> Answer
+    ensures { λ r. ⌜ r ≡ hopWord (hopAnswer (shapeIn room) server byte) ⌝ }
+{
+    let hop = path::hop_of(shape_in(room), server, byte);
+    result_word(hop.refusal, hop.next + 65536 * (64 * hop.level + hop.old))
 }
 
 // The servers that an array meets, source first, into nine places with zeros past them; the value is

@@ -55,7 +55,8 @@ pub extern "C" fn bcube_step(
     Stepped {
         word: 16777216 * (step.index as u64)
             + 4294967296 * (step.next as u64)
-            + 281474976710656 * wide(step.port),
+            + 281474976710656 * wide(step.port)
+            + 72057594037927936 * (64 * step.level + step.old) as u64,
         mac: mac_number(mac),
     }
 }

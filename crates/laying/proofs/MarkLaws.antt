@@ -3,7 +3,7 @@ use Prim.Native.Nat.{ℕ, suc, _+_, _-_, _*_, _≤_, _<_}
 use mathlib.Core.Path.{_≡_, refl, sym, ap, ap₂, _∙_, subst}
 use mathlib.Core.Logic.{_⊎_, inl, inr, ⊎-elim}
 use mathlib.Core.Bool.{Bool, true, false, cond, _&&_, _||_, and-true, and-false, or-true, or-false, or-assoc, and-or-distrib-left}
-use mathlib.Core.List.{List, [], _∷_, _++_}
+use mathlib.Core.List.{List, []}
 use native.Mathlib.Omega.{arith}
 use native.Mathlib.Numerals.{add-one}
 use native.Mathlib.Nat.{add-mul}
@@ -13,7 +13,7 @@ use lib.ListN.{length, getD, take, drop}
 use lib.Seq.{take-suc, take-all}
 use borrow.Author.Tests.{eq-eqb, ne-eqb, lt-ltb, le-ltb}
 use Rattle.lists.specs.Lists.{isIn, middle}
-use Rattle.lists.proofs.ListLaws.{length-turn, turn-at, length-middle, middle-at}
+use Rattle.lists.proofs.ListLaws.{in-snoc, length-turn, turn-at, length-middle, middle-at}
 use Rattle.room.specs.declared.Shape.{Shape}
 use Rattle.room.specs.Shapes.{bound, Server, Link, Value}
 use Rattle.room.specs.declared.Side.{Side}
@@ -219,11 +219,6 @@ module _ {t : List ℕ} {y m : ℕ} {side : Side} where
       }
 
 -- ---- list after list: what f gives is in the part that was gone through
-
-in-snoc : (x : ℕ) (xs : List ℕ) (y : ℕ) → isIn x (xs ++ (y ∷ [])) ≡ isIn x xs || eqb x y
-unfolding isIn
-in-snoc x [] y = or-false (eqb x y)
-in-snoc x (z ∷ zs) y = ap (λ (b : Bool). eqb x z || b) (in-snoc x zs y) ∙ sym (or-assoc (eqb x z) (isIn x zs) (eqb x y))
 
 in-more : (x i : ℕ) (xs : List ℕ) → i < length xs → isIn x (take (i + 1) xs) ≡ isIn x (take i xs) || eqb x (getD xs i 0)
 in-more x i xs h =

@@ -3,14 +3,14 @@
 use Prim.Native.Nat.{ℕ, zero, suc, _+_, _-_, _≤_, _<_, zero-le, suc-le-suc}
 use mathlib.Core.Path.{_≡_, refl, sym, ap, ap₂, _∙_}
 use mathlib.Core.Logic.{_≢_, _↔_}
-use mathlib.Core.Bool.{Bool, true, false, false≢true, _&&_}
+use mathlib.Core.Bool.{Bool, true, false, false≢true, _&&_, _||_, or-false, or-assoc}
 use mathlib.Core.List.{List, [], _∷_, _++_, map, reverse, reverse-append, reverse-cons}
 use native.Mathlib.Nat.{le-of-suc-le-suc}
 use native.Mathlib.Numerals.{add-one}
 use native.Mathlib.Omega.{arith}
 use native.Mathlib.Decide.{ℕ-discrete}
 use lib.ListN.{length, getD, set, take, drop, replicate, length-append, length-drop, length-replicate, length-reverse, drop-of-length-le, take-append-drop, List·getD-append, List·getD-eq-default}
-use lib.Seq.{ext-getD, getD-append-seam, getD-append-add, getD-take, getD-drop, take-append-seam, length-take-le, take-suc, take-suc-set, drop-cons, drop-drop, drop-set-lt}
+use lib.Seq.{ext-getD, getD-append-seam, getD-append-add, getD-take, getD-drop, take-append-seam, length-take-le, take-suc-set, drop-cons, drop-drop, drop-set-lt}
 use lib.Dec.{eqb}
 use borrow.Author.Tests.{eq-eqb, ne-eqb, eqb-true}
 use Rattle.lists.specs.Lists.{isIn, same, Once, Apart, inTurn, middle, filled, downFrom}
@@ -210,6 +210,11 @@ snoc-last xs x =
 pub snoc-at : (xs : List ℕ) (x i : ℕ) → i < length xs → getD (xs ++ (x ∷ [])) i 0 ≡ getD xs i 0
 snoc-at xs x i h = List·getD-append xs (x ∷ []) 0 i h
 
+pub in-snoc : (x : ℕ) (xs : List ℕ) (y : ℕ) → isIn x (xs ++ (y ∷ [])) ≡ isIn x xs || eqb x y
+unfolding isIn
+in-snoc x [] y = or-false (eqb x y)
+in-snoc x (z ∷ zs) y = ap (λ (b : Bool). eqb x z || b) (in-snoc x zs y) ∙ sym (or-assoc (eqb x z) (isIn x zs) (eqb x y))
+
 pub once-snoc : (xs : List ℕ) (x : ℕ) → Once (xs ++ (x ∷ [])) ↔ (Once xs × (isIn x xs ≡ false))
 once-snoc xs x = (there, λ p. back (p .0) (p .1))
   where
@@ -249,10 +254,6 @@ reverse-at (x ∷ xs) i h =
           let f : suc (length xs) - suc i ≡ suc (length xs - suc i) = omega arith in
           snoc-at (reverse xs) x i (omega (arith, length-reverse xs)) ∙ reverse-at xs i q ∙ ap (λ (j : ℕ). getD (x ∷ xs) j 0) (sym f)
     ]
-
--- the last of some comes first
-pub last-first : (l : List ℕ) (m : ℕ) → m < length l → reverse (take (suc m) l) ≡ getD l m 0 ∷ reverse (take m l)
-last-first l m h = ap reverse (take-suc l m 0 h) ∙ reverse-append (take m l) (getD l m 0 ∷ [])
 
 pub once-reverse : (xs : List ℕ) → Once xs → Once (reverse xs)
 once-reverse xs h =
@@ -357,6 +358,11 @@ unfolding middle
 middle-at xs i h =
     let e : 1 + i ≡ suc i = omega arith in
     getD-take (length xs - 2) (drop 1 xs) i 0 h ∙ getD-drop 1 xs i 0 ∙ ap (λ (k : ℕ). getD xs k 0) e
+
+-- one element more at the end is one more in turn at the beginning of the way back
+pub turn-back : (f : ℕ → ℕ → ℕ) (xs : List ℕ) (x y : ℕ) → inTurn f (reverse ((xs ++ (x ∷ [])) ++ (y ∷ []))) ≡ f y x ∷ inTurn f (reverse (xs ++ (x ∷ [])))
+unfolding inTurn
+turn-back f xs x y = rw (reverse-append (xs ++ (x ∷ [])) (y ∷ []), reverse-append xs (x ∷ []))
 
 pub middle-reverse : (xs : List ℕ) → middle (reverse xs) ≡ reverse (middle xs)
 middle-reverse xs =

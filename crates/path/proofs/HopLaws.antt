@@ -7,13 +7,15 @@ use mathlib.Core.Bool.{Bool, true, false, not, _&&_}
 use mathlib.Core.List.{List, [], _∷_}
 use native.Mathlib.Omega.{arith}
 use native.Mathlib.Decide.{ℕ-discrete}
+use native.Mathlib.Nat.{mod-lt}
 use lib.ListN.{getD}
-use mir.Syntax.{w64}
+use mir.Syntax.{w32, w64}
 use mir.Val.{Fits}
 use lib.Dec.{ltb, leb, eqb}
 use borrow.Author.Tests.{lt-ltb, le-ltb, le-leb, lt-leb, ltb-true, leb-true, eqb-true, eqb-false, eq-eqb, ne-eqb, not-true, not-false}
 use Rattle.lists.proofs.ListLaws.{both-held}
-use Rattle.refusals.specs.Refusals.{_or-else_, _unless_}
+use Rattle.refusals.specs.declared.Refusal.{Refusal}
+use Rattle.refusals.specs.Refusals.{none, plain, refusedAt, _or-else_, _unless_}
 use Rattle.refusals.proofs.ChainLaws.{or-else-zero, test-held, at-most-holds, below-holds}
 use Rattle.refusals.proofs.AnswerLaws.{answer-refused, answer-given, answer-number, answered}
 use Rattle.room.specs.declared.Shape.{Shape}
@@ -25,6 +27,7 @@ use Rattle.room.specs.Addresses.{digits, digit, withDigit, switchOf, differing,
 use Rattle.room.specs.Refusals.{serverRefusal}
 use Rattle.room.specs.Answers.{digitAnswer, switchAnswer}
 use Rattle.room.proofs.PowerLaws.{power-within}
+use Rattle.room.proofs.DigitLaws.{pow-small}
 use Rattle.room.proofs.RefusalLaws.{server-of, server-none}
 use Rattle.room.proofs.AnswerLaws.{digit-answered, switch-answered}
 use Rattle.room.proofs.RoomLaws.{bound-le, digit-lt, digit-closed-at, with-server, with-same, with-beside, beside-with, same-switch, switch-small, neighbours-exactly, weight-pos}
@@ -32,8 +35,7 @@ use Rattle.room.proofs.SideLaws.{Moved, moved, power-link}
 use Rattle.path.specs.declared.Hop.{Hop}
 use Rattle.path.specs.Routes.{byteOf, levelOf, valueOf, switchAt, levelTo, switchTo, byteTo}
 use Rattle.path.specs.Walks.{hopTo, hopRefusal}
-use Rattle.path.specs.Answers.{noHop, aHop, hopAnswer}
-use Rattle.path.specs.Inside.{hopFrom}
+use Rattle.path.specs.Answers.{noHop, hopBy, hopFrom, hopAnswer}
 
 -- ---- what the calls of the room found
 
@@ -74,6 +76,11 @@ differ-sym o (d ∷ ds) (e ∷ es) = rw (eqb-sym d e, differ-sym (suc o) ds es)
 pub level-sym : (s : Shape) (a b : ℕ) → levelTo s a b ≡ levelTo s b a
 unfolding levelTo differing
 level-sym s a b = ap (λ (x : List ℕ). getD x 0 0) (differ-sym 0 (digits s a) (digits s b))
+
+-- the path byte of the way back is that of the hop's level and of the value that it replaced
+pub byte-back : (s : Shape) (a b : ℕ) → byteTo s b a ≡ byteOf (levelTo s a b) (digit s (levelTo s a b) a)
+unfolding byteTo
+byte-back s a b = ap (λ (l : ℕ). byteOf l (digit s l a)) (level-sym s b a)
 
 -- the hop back uses the same switch
 pub switch-sym : {s : Shape} {a b : ℕ} → Neighbours s (levelTo s a b) a b → switchTo s a b ≡ switchTo s b a
@@ -117,23 +124,31 @@ hop-exactly {s} {a} h b = (there, λ p. back (p .0) (p .1))
     back : Value s a l v → digit s l a ≢ v → hopRefusal s a b ≡ 0
     back k q = rw (le-leb l (s .k) (k .link .level), lt-ltb v (bound s l) (k .value), ne-eqb (digit s l a) v q)
 
--- ---- one hop as the program makes it: the level l and the value v of its byte, the bound m of the level, the power p of n, and t,
--- what it found of the tests in one go
+-- ---- one hop as the program makes it: the level l and the value v of its byte, the bound m of the level, the power p of n, the own
+-- value o, and t, what it found of the tests in one go
 
 abbrev pub hopFits : ℕ → ℕ → ℕ → ℕ → ℕ → Bool
 hopFits k l v m o = leb l k && (ltb v m && not (eqb o v))
 
-module _ (s : Shape) (a b l v : ℕ) (el : l ≡ levelOf b) (ev : v ≡ valueOf b) where
-  refuses : (r : ℕ) (x : Hop) → suc r ≡ hopRefusal s a b → x ≡ noHop (suc r) → x ≡ hopFrom s a b
-  unfolding hopFrom
-  refuses r x e f = answer-refused (suc r) _ noHop x _ f e (λ z. omega arith)
+-- no hop, with its number at hop 1 of route 1
+abbrev pub stopsHop : ℕ → Hop
+stopsHop r = noHop (refusedAt r 1 1)
 
-  pub hop-eight : (x : Hop) → s .k < l → x ≡ noHop 8 → x ≡ hopFrom s a b
+-- a digit is a number of 64 bits
+pub digit-fits : (a p n : ℕ) → 0 < n → Fits w32 n → Fits w64 (a / p % n)
+digit-fits a p n h f = omega (arith, mod-lt (a / p) h)
+
+module _ (s : Shape) (a b l v : ℕ) (el : l ≡ levelOf b) (ev : v ≡ valueOf b) where
+  refuses : (r : ℕ) (x : Hop) → suc r ≡ hopRefusal s a b → x ≡ stopsHop (suc r) → x ≡ hopFrom s a b
+  unfolding hopFrom
+  refuses r x e f = answer-refused (suc r) _ stopsHop x _ f e (λ z. omega arith)
+
+  pub hop-eight : (x : Hop) → s .k < l → x ≡ stopsHop 8 → x ≡ hopFrom s a b
   unfolding hopRefusal _or-else_
   hop-eight x h = refuses 7 x (rw (← el) (simp (lt-leb l (s .k) h)))
 
   module _ (m : ℕ) (most : m ≡ bound s l) where
-    pub hop-nine : (x : Hop) → l ≤ s .k → m ≤ v → x ≡ noHop 9 → x ≡ hopFrom s a b
+    pub hop-nine : (x : Hop) → l ≤ s .k → m ≤ v → x ≡ stopsHop 9 → x ≡ hopFrom s a b
     unfolding hopRefusal _or-else_
     hop-nine x level h = let q : bound s l ≤ v = omega arith in refuses 8 x (rw (← el, ← ev) (simp (le-leb l (s .k) level, le-ltb v (bound s l) q)))
 
@@ -145,93 +160,134 @@ module _ (s : Shape) (a b l v : ℕ) (el : l ≡ levelOf b) (ev : v ≡ valueOf 
       hop-ports = let k = here .valid in omega arith
 
       -- a byte names no level above 3
-      pub hop-weight : b < 256 → 0 < p
-      hop-weight h =
+      within : b < 256 → p ≡ s .n ^ l
+      within h =
           let k = here .valid in
           let low : l ≤ 3 = omega arith in
-          weight-pos k l p (power ∙ power-within (s .n) l hop-ports (k .ports) low)
+          power ∙ power-within (s .n) l hop-ports (k .ports) low
 
-      module _ (level : l ≤ s .k) (q : v < m) where
-        sets : Value s a l v
-        sets = record { link = record { server = here; level = level }; value = omega arith }
+      pub hop-weight : b < 256 → 0 < p
+      hop-weight h = weight-pos (here .valid) l p (within h)
 
-        weight : p ≡ s .n ^ l
-        weight = power ∙ power-link (sets .link)
+      -- server, power and n are numbers of 32 bits
+      pub hop-server-fits : a < 4294967296
+      hop-server-fits = omega (arith, here .below, here .valid .small)
 
-        own : a / p % s .n ≡ digit s l a
-        own = digit-closed-at (sets .link) p weight
+      pub hop-weight-fits : b < 256 → p < 4294967296
+      hop-weight-fits h = let k = here .valid in omega (arith, within h, pow-small (s .n) l (k .ports) (omega arith))
 
-        fits : Moved s a l v p
-        fits = moved sets p weight
+      pub hop-ports-fit : s .n < 4294967296
+      hop-ports-fit = let k = here .valid in omega arith
 
-        goes : a / p % s .n ≢ v → aHop (a - a / p % s .n * p + v * p) ≡ hopFrom s a b
-        unfolding hopFrom hopTo
-        goes e =
-            let n : Named s a b = (rw (← el, ← ev) sets, rw (← el, ← ev) (λ z. e (own ∙ z))) in
-            answer-given 0 _ noHop _ _ (sym (hop-exactly here b .1 n)) refl (ap aHop (fits .whole ∙ ap₂ (λ (x y : ℕ). withDigit s x y a) el ev))
+      module _ (o : ℕ) (eo : o ≡ a / p % s .n) where
+        module _ (level : l ≤ s .k) (q : v < m) where
+          sets : Value s a l v
+          sets = record { link = record { server = here; level = level }; value = omega arith }
 
-        same : (x : Hop) → a / p % s .n ≡ v → x ≡ noHop 10 → x ≡ hopFrom s a b
-        unfolding hopRefusal _or-else_
-        same x e =
-            refuses 9 x (rw (← el, ← ev) (simp (le-leb l (s .k) level, lt-ltb v (bound s l) (sets .value), eq-eqb (digit s l a) v (sym own ∙ e))))
+          weight : p ≡ s .n ^ l
+          weight = power ∙ power-link (sets .link)
 
-      -- what is taken off and put on
-      abbrev pub Own : ℕ
-      Own = a / p % s .n * p
+          own : o ≡ digit s l a
+          own = eo ∙ digit-closed-at (sets .link) p weight
 
-      module _ (t : Bool) (g : t ≡ hopFits (s .k) l v m (a / p % s .n)) where
-        module _ (h : t ≡ true) where
-          passed : (l ≤ s .k) × (v < m) × (a / p % s .n ≢ v)
-          passed =
-              let x = both-held (leb l (s .k)) _ (sym g ∙ h) in
-              let y = both-held (ltb v m) _ (x .1) in
-              (leb-true l (s .k) (x .0), ltb-true v m (y .0), eqb-false (a / p % s .n) v (not-true _ (y .1)))
+          fits : Moved s a l v p
+          fits = moved sets p weight
 
-          pub own-there : Own ≤ a
-          own-there = fits (passed .0) (passed .1) .own
+          goes : o ≢ v → (r : Refusal) → r ≡ none → record { refusal = r; next = a - o * p + v * p; level = l; old = o } ≡ hopFrom s a b
+          unfolding hopFrom hopTo
+          goes e r er =
+              let n : Named s a b = (rw (← el, ← ev) sets, rw (← el, ← ev) (λ z. e (own ∙ z))) in
+              let w : a - o * p + v * p ≡ withDigit s (levelOf b) (valueOf b) a =
+              ap (λ (x : ℕ). a - x * p + v * p) eo ∙ fits .whole ∙ ap₂ (λ (x y : ℕ). withDigit s x y a) el ev in
+              answer-given 0 _ stopsHop _ _ (sym (hop-exactly here b .1 n)) refl
+              (rw (er, w, own, el))
 
-          pub own-fits : Fits w64 Own
-          own-fits = omega (arith, own-there, here .below, here .valid .small)
+          same : (x : Hop) → o ≡ v → x ≡ stopsHop 10 → x ≡ hopFrom s a b
+          unfolding hopRefusal _or-else_
+          same x e =
+              refuses 9 x (rw (← el, ← ev) (simp (le-leb l (s .k) level, lt-ltb v (bound s l) (sets .value), eq-eqb (digit s l a) v (sym own ∙ e))))
 
-          pub new-fits : Fits w64 (v * p)
-          new-fits = let f = fits (passed .0) (passed .1) in omega (arith, f .new)
+        module _ (t : Bool) (g : t ≡ hopFits (s .k) l v m o) where
+          module _ (h : t ≡ true) where
+            passed : (l ≤ s .k) × (v < m) × (o ≢ v)
+            passed =
+                let x = both-held (leb l (s .k)) _ (sym g ∙ h) in
+                let y = both-held (ltb v m) _ (x .1) in
+                (leb-true l (s .k) (x .0), ltb-true v m (y .0), eqb-false o v (not-true _ (y .1)))
 
-          pub next-fits : Fits w64 (a - Own + v * p)
-          next-fits = let f = fits (passed .0) (passed .1) in omega (arith, f .new, here .below, here .valid .small)
+            -- what is taken off and put on
+            pub own-there : o * p ≤ a
+            own-there = subst (λ (x : ℕ). x * p ≤ a) (sym eo) (fits (passed .0) (passed .1) .own)
 
-          pub hop-goes : aHop (a - Own + v * p) ≡ hopFrom s a b
-          hop-goes = goes (passed .0) (passed .1) (passed .2)
+            pub own-fits : Fits w64 (o * p)
+            own-fits = omega (arith, own-there, here .below, here .valid .small)
 
-        pub hop-ten : t ≡ false → l ≤ s .k → v < m → (x : Hop) → x ≡ noHop 10 → x ≡ hopFrom s a b
-        hop-ten h level q x f =
-            let e = at-most-holds l (s .k) _ level _ (below-holds v m _ q _ refl) ∙ sym g ∙ h in
-            same level q x (eqb-true (a / p % s .n) v (not-false _ e)) f
+            pub new-fits : Fits w64 (v * p)
+            new-fits = let f = fits (passed .0) (passed .1) in omega (arith, f .new)
+
+            pub next-fits : Fits w64 (a - o * p + v * p)
+            next-fits = let f = fits (passed .0) (passed .1) in omega (arith, f .new, here .below, here .valid .small)
+
+            pub hop-goes : (r : Refusal) → r ≡ none → record { refusal = r; next = a - o * p + v * p; level = l; old = o } ≡ hopFrom s a b
+            hop-goes = goes (passed .0) (passed .1) (passed .2)
+
+          pub hop-ten : t ≡ false → l ≤ s .k → v < m → (x : Hop) → x ≡ stopsHop 10 → x ≡ hopFrom s a b
+          hop-ten h level q x f =
+              let e = at-most-holds l (s .k) _ level _ (below-holds v m _ q _ refl) ∙ sym g ∙ h in
+              same level q x (eqb-true o v (not-false _ e)) f
 
 -- ---- for a caller: the number is that of the byte, and with none the hop leads where it says
 
 module _ (s : Shape) (a b : ℕ) (x : Hop) (e : x ≡ hopFrom s a b) where
-  pub hop-number : x .number ≡ hopRefusal s a b
+  pub hop-number : x .refusal .number ≡ hopRefusal s a b
   unfolding hopFrom
-  hop-number = ap (λ (y : Hop). y .number) e ∙ answer-number (λ (y : Hop). y .number) noHop (λ r. refl) (hopRefusal s a b) (aHop (hopTo s a b)) refl
+  hop-number =
+      ap (λ (y : Hop). y .refusal .number) e
+      ∙ answer-number (λ (y : Hop). y .refusal .number) stopsHop (λ r. refl) (hopRefusal s a b) (hopBy s a b) refl
 
-  pub hop-next : x .number ≡ 0 → x .next ≡ hopTo s a b
+  pub hop-made : x .refusal .number ≡ 0 → x ≡ hopBy s a b
   unfolding hopFrom
-  hop-next z =
-      ap (λ (y : Hop). y .next) (answered (λ (y : Hop). y .number) noHop (λ r. refl) (hopRefusal s a b) x (aHop (hopTo s a b)) e z .1)
+  hop-made z =
+      answered (λ (y : Hop). y .refusal .number) stopsHop (λ r. refl) (hopRefusal s a b) x (hopBy s a b) e z .1
 
 -- of a server of the room, the tests of the server refuse nothing
 pub hop-tested : {s : Shape} {a : ℕ} → Server s a → (b : ℕ) → hopFrom s a b ≡ hopAnswer s a b
-unfolding hopFrom hopAnswer _or-else_
+unfolding hopAnswer
 hop-tested h b = rw (← server-none h)
 
 pub hop-known : {s : Shape} {a : ℕ} → Server s a → (b : ℕ) (x : Hop) → x ≡ hopAnswer s a b → x ≡ hopFrom s a b
 hop-known h b x e = e ∙ sym (hop-tested h b)
+
+-- ---- the hop as a call of its own, r being what the server's tests found
+
+module _ (s : Shape) (a b r : ℕ) (e : r ≡ serverRefusal s a) where
+  pub hop-refused : r ≢ 0 → (q : Refusal) → q ≡ plain r → (x : Hop) → x ≡ noHop q → x ≡ hopAnswer s a b
+  unfolding hopAnswer
+  hop-refused n q f x k = answer-refused r _ (λ (y : ℕ). noHop (plain y)) x _ (k ∙ ap noHop f) e n
+
+  module _ (z : r ≡ 0) where
+    pub hop-tried : (x : Hop) → x ≡ hopFrom s a b → x ≡ hopAnswer s a b
+    unfolding hopAnswer
+    hop-tried x k = answer-given r _ (λ (y : ℕ). noHop (plain y)) x _ e z k
+
+    -- a number above 255 is no byte: 8
+    pub hop-no-byte : 255 < b → (x : Hop) → x ≡ stopsHop 8 → x ≡ hopAnswer s a b
+    hop-no-byte h x k =
+        let v = server-of s a (sym e ∙ z) .valid in
+        hop-tried x (hop-eight s a b (levelOf b) (valueOf b) refl refl x (omega (arith, v .levels)) k)
 
 -- ---- where a hop leads
 
 module _ {s : Shape} {a : ℕ} (h : Server s a) (b : ℕ) (none : hopRefusal s a b ≡ 0) where
   pub hop-value : Value s a (levelOf b) (valueOf b)
   hop-value = hop-exactly h b .0 none .0
+
+  -- its level and its old value are small
+  pub hop-level-low : levelOf b ≤ 3
+  hop-level-low = omega (arith, hop-value .link .level, h .valid .levels)
+
+  pub hop-old-low : digit s (levelOf b) a < 64
+  hop-old-low = omega (arith, digit-lt h (levelOf b) (hop-value .link .level), bound-le (h .valid) (levelOf b), h .valid .ports)
 
   pub hop-server : Server s (hopTo s a b)
   unfolding hopTo
@@ -249,6 +305,9 @@ module _ {s : Shape} {a : ℕ} (h : Server s a) (b : ℕ) (none : hopRefusal s a
   pub hop-level : levelTo s a (hopTo s a b) ≡ levelOf b
   unfolding levelTo
   hop-level = ap (λ (x : List ℕ). getD x 0 0) (neighbours-exactly h hop-server (levelOf b) .1 hop-neighbours)
+
+  pub hop-byte-back : byteTo s (hopTo s a b) a ≡ byteOf (levelOf b) (digit s (levelOf b) a)
+  hop-byte-back = byte-back s a (hopTo s a b) ∙ ap (λ (l : ℕ). byteOf l (digit s l a)) hop-level
 
   pub hop-byte : byteTo s a (hopTo s a b) ≡ b
   unfolding byteTo byteOf

@@ -1,103 +1,154 @@
--- Laws of reversal, as the program turns a list round; and what a walk that is not refused has met.
-use Prim.Native.Nat.{ℕ, zero, suc, _+_, _-_, _≤_, _<_}
+-- Laws of what a walk answers: reading and reversal take it from the way, and the way back is the number's bytes.
+use Prim.Native.Nat.{ℕ, zero, suc, _+_, _-_, _*_, _/_, _%_, _≤_, _<_}
 use mathlib.Core.Path.{_≡_, refl, sym, ap, ap₂, _∙_}
-use mathlib.Core.List.{List, [], _++_, append-nil, reverse}
+use mathlib.Core.Logic.{_≢_}
+use mathlib.Core.List.{List, [], _∷_, _++_, reverse}
 use native.Mathlib.Omega.{arith}
-use lib.ListN.{length, getD, set, take, drop, replicate, length-set, length-take, length-reverse}
-use lib.Seq.{append-snoc}
-use Rattle.lists.specs.Lists.{filled}
-use Rattle.lists.proofs.ListLaws.{last-first, filled-is, rest-on, taken-on, take-filled}
+use native.Mathlib.Nat.{div-div-eq-div-mul}
+use lib.ListN.{length, getD, replicate, length-reverse}
+use mir.Syntax.{w64}
+use mir.Val.{Fits}
+use Rattle.lists.specs.Lists.{inTurn, filled}
+use Rattle.lists.proofs.ListLaws.{turn-at, length-turn}
+use Rattle.refusals.specs.declared.Refusal.{Refusal}
 use Rattle.refusals.specs.Refusals.{plain, answer}
+use Rattle.refusals.proofs.AnswerLaws.{answer-none}
 use Rattle.room.specs.declared.Shape.{Shape}
 use Rattle.path.specs.declared.Walked.{Walked}
+use Rattle.path.specs.declared.Way.{Way}
+use Rattle.path.specs.declared.Reading.{Reading}
 use Rattle.path.specs.declared.Writing.{Writing}
-use Rattle.path.specs.Routes.{encode, Route, Encodes}
+use Rattle.path.specs.Routes.{byteTo, encode, Route, Encodes}
 use Rattle.path.specs.Walks.{Walk, stopped, arrived, walk}
-use Rattle.path.specs.Answers.{arrayRefusal, noWalk, walked, walkAnswer, noWriting, aWriting, reversed, reverseAnswer}
+use Rattle.path.specs.Answers.{arrayRefusal, noWalk, walked, walkAnswer, reading, readAnswer, noWriting, reversed, reverseAnswer}
+use Rattle.path.specs.Inside.{noReading, lowFirst, lowBytes, backOver, noWay, aWay, wayOf, wayAnswer, WalkLeaves}
+use Rattle.path.proofs.HopLaws.{byte-small}
 use Rattle.path.proofs.ReverseLaws.{route-reverse}
-use Rattle.path.proofs.CodecLaws.{walk-exactly, walk-given, reverse-given}
+use Rattle.path.proofs.CodecLaws.{encodes-none, encodes-walk, walk-exactly, walk-given, reverse-given}
 
--- ---- a list backwards, one place at a time
+-- ---- bytes of a number, the lowest first
 
--- the loop's invariant: what is turned so far and the rest backwards are the whole backwards
-pub record Turning (l : List ℕ) (count : ℕ) (turned : List ℕ) (i : ℕ) : Type 0 where
-  pub within : i ≤ count
-  pub long : length turned ≡ 9
-  pub blank : drop i turned ≡ replicate (9 - i) 0
-  pub same : take i turned ++ reverse (take (count - i) l) ≡ reverse (take count l)
+-- what bytes were put together gives them back, with zeros past them
+pub low-bytes : (m : ℕ) (bs : List ℕ) → ((i : ℕ) → i < length bs → getD bs i 0 < 256) → length bs ≤ m → lowBytes m (lowFirst bs) ≡ filled m bs
+unfolding lowBytes lowFirst filled
+low-bytes zero [] h few = refl
+low-bytes zero (b ∷ bs) h few = let z : ⊥ = omega arith in absurd z
+low-bytes (suc m) [] h few =
+    let e : suc (m - 0) ≡ suc m - 0 = omega arith in
+    ap (λ (xs : List ℕ). 0 ∷ xs) (low-bytes m [] (λ i p. let z : ⊥ = omega arith in absurd z) (omega arith)) ∙ ap (λ (n : ℕ). replicate n 0) e
+low-bytes (suc m) (b ∷ bs) h few =
+    let first = h 0 (omega arith) in
+    let e : (b + 256 * lowFirst bs) % 256 ≡ b = omega arith in
+    let f : (b + 256 * lowFirst bs) / 256 ≡ lowFirst bs = omega arith in
+    let g : m - length bs ≡ suc m - suc (length bs) = omega arith in
+    ap₂ (λ (x : ℕ) (xs : List ℕ). x ∷ xs) e (ap (lowBytes m) f ∙ low-bytes m bs (λ i p. h (suc i) (omega arith)) (omega arith) ∙ ap (λ (n : ℕ). bs ++ replicate n 0) g)
 
-pub turn-start : (l : List ℕ) (count : ℕ) → Turning l count (replicate 9 0) 0
-turn-start l count =
-    let e : count - 0 ≡ count = omega arith in
-    record { within = omega arith; long = refl; blank = refl; same = ap (λ (m : ℕ). reverse (take m l)) e }
+-- the eight bytes as the program takes them
+pub low-eight : (x : ℕ) (b c d e f g h i : ℕ) → b ≡ x % 256 → c ≡ x / 256 % 256 → d ≡ x / 65536 % 256 → e ≡ x / 16777216 % 256 → f ≡ x / 4294967296 % 256 → g ≡ x / 1099511627776 % 256 → h ≡ x / 281474976710656 % 256 → i ≡ x / 72057594037927936 % 256 → (b ∷ c ∷ d ∷ e ∷ f ∷ g ∷ h ∷ i ∷ []) ≡ lowBytes 8 x
+unfolding lowBytes
+low-eight x b c d e f g h i eb ec ed ee ef eg eh ei =
+    let q2 : x / 65536 ≡ x / 256 / 256 = sym (div-div-eq-div-mul x 256 256) in
+    let q3 : x / 16777216 ≡ x / 256 / 256 / 256 = sym (div-div-eq-div-mul x 65536 256) ∙ on q2 in
+    let q4 : x / 4294967296 ≡ x / 256 / 256 / 256 / 256 = sym (div-div-eq-div-mul x 16777216 256) ∙ on q3 in
+    let q5 : x / 1099511627776 ≡ x / 256 / 256 / 256 / 256 / 256 = sym (div-div-eq-div-mul x 4294967296 256) ∙ on q4 in
+    let q6 : x / 281474976710656 ≡ x / 256 / 256 / 256 / 256 / 256 / 256 = sym (div-div-eq-div-mul x 1099511627776 256) ∙ on q5 in
+    let q7 : x / 72057594037927936 ≡ x / 256 / 256 / 256 / 256 / 256 / 256 / 256 = sym (div-div-eq-div-mul x 281474976710656 256) ∙ on q6 in
+    rw (eb, ec, ed ∙ low q2, ee ∙ low q3, ef ∙ low q4, eg ∙ low q5, eh ∙ low q6, ei ∙ low q7)
+  where
+    on : {y z : ℕ} → y ≡ z → y / 256 ≡ z / 256
+    on = ap (λ (n : ℕ). n / 256)
 
-pub turn-next : {l : List ℕ} {count : ℕ} {turned : List ℕ} {i : ℕ} → Turning l count turned i → i < count → count ≤ 9 → length l ≡ 9 → Turning l count (set turned i (getD l (count - 1 - i) 0)) (i + 1)
-turn-next {l} {count} {turned} {i} g h few long =
-    let m = count - 1 - i in
-    let x = getD l (count - 1 - i) 0 in
-    let e : count - i ≡ suc (count - 1 - i) = omega arith in
-    let f : count - (i + 1) ≡ count - 1 - i = omega arith in
-    record {
-      within = omega arith;
-      long = length-set turned i x ∙ g .long;
-      blank = rest-on 9 turned i x (g .blank);
-      same =
-          rw (taken-on turned i x (omega arith), append-snoc, f)
-          (ap (λ (xs : List ℕ). take i turned ++ xs) (sym (ap (λ (y : ℕ). reverse (take y l)) e ∙ last-first l (count - 1 - i) (omega arith))) ∙ g .same);
-    }
+    low : {y z : ℕ} → y ≡ z → y % 256 ≡ z % 256
+    low = ap (λ (n : ℕ). n % 256)
 
-pub turn-end : {l : List ℕ} {count : ℕ} {turned : List ℕ} {i : ℕ} → Turning l count turned i → count ≤ i → count ≤ 9 → turned ≡ filled 9 (reverse (take count l))
-turn-end {l} {count} {turned} {i} g h few =
-    let z : count - i ≡ 0 = omega arith in
-    let e : take i turned ≡ reverse (take count l) = sym (append-nil (take i turned)) ∙ ap (λ (m : ℕ). take i turned ++ reverse (take m l)) (sym z) ∙ g .same in
-    sym (filled-is 9 turned i (omega arith) (g .long) (g .blank)) ∙ ap (filled 9) e
+-- ---- the way of a route
 
--- ---- the answer
+way-given : {s : Shape} {t : List ℕ} {a d : ℕ} {bs vs : List ℕ} → Encodes s t a d bs vs → wayAnswer s t a d bs ≡ aWay (length vs - 1) (backOver s vs)
+unfolding wayAnswer
+way-given {s} h = answer-none _ _ _ (encodes-none h) ∙ ap (wayOf s) (encodes-walk h)
 
--- w is the walk that was found
-module _ (s : Shape) (a d : ℕ) (bs : List ℕ) (w : Walked) (e : w ≡ walkAnswer s [] a d bs) where
-  pub reverse-refused : (w .refusal .number ≡ 0 → ⊥) → (x : Writing) → x ≡ noWriting (w .refusal) → x ≡ reverseAnswer s a d bs
-  unfolding walkAnswer reverseAnswer
-  reverse-refused n x f =
-      f ∙ ap (λ (x : Walked). noWriting (x .refusal)) e ∙ go (arrayRefusal s a d bs) (walk s [] a d bs) (λ z. n (ap (λ (x : Walked). x .refusal .number) e ∙ z))
+-- the bytes of the way back are those of the route backwards
+way-back : {s : Shape} {t vs : List ℕ} → Route s t vs → lowBytes 8 (backOver s vs) ≡ encode s (reverse vs)
+unfolding backOver encode
+way-back {s} {t} {vs} r =
+    low-bytes 8 (inTurn (byteTo s) (reverse vs))
+    (λ i p.
+    let q : suc i < length (reverse vs) = omega (arith, length-turn (byteTo s) (reverse vs)) in
+    rw (turn-at (byteTo s) (reverse vs) i q) (byte-small (b .servers i (omega arith)) (b .servers (suc i) q) (b .hops i q)))
+    (omega (arith, length-turn (byteTo s) (reverse vs), length-reverse vs, r .few))
+  where
+    b : Route s t (reverse vs)
+    b = route-reverse r
+
+-- ---- what is answered of a walk, from its way w and what it left
+
+module _ (s : Shape) (t : List ℕ) (a d : ℕ) (bs : List ℕ) (w : Way) {met used : List ℕ} (g : WalkLeaves s t a d bs w met used) where
+  way-refusal : w .refusal ≡ walkAnswer s t a d bs .refusal
+  unfolding wayAnswer walkAnswer
+  way-refusal = ap (λ (x : Way). x .refusal) (g .way) ∙ go (arrayRefusal s a d bs) (walk s t a d bs)
     where
-      go : (q : ℕ) (k : Walk) → (answer q (λ r. noWalk (plain r)) (walked k) .refusal .number ≡ 0 → ⊥) → noWriting (answer q (λ r. noWalk (plain r)) (walked k) .refusal) ≡ answer q (λ r. noWriting (plain r)) (reversed s k)
-      go zero (stopped r h) f = refl
-      go zero (arrived vs ws) f = absurd (f refl)
-      go (suc q) k f = refl
+      go : (q : ℕ) (k : Walk) → answer q (λ r. noWay (plain r)) (wayOf s k) .refusal ≡ answer q (λ r. noWalk (plain r)) (walked k) .refusal
+      go zero (stopped r h) = refl
+      go zero (arrived vs ws) = refl
+      go (suc q) k = refl
+
+  -- a walk that is refused answers zeros
+  stopped-walk : w .refusal .number ≢ 0 → noWalk (w .refusal) ≡ walkAnswer s t a d bs
+  unfolding walkAnswer
+  stopped-walk n = ap noWalk way-refusal ∙ go (arrayRefusal s a d bs) (walk s t a d bs) (λ z. n (ap (λ (x : Refusal). x .number) way-refusal ∙ z))
+    where
+      go : (q : ℕ) (k : Walk) → answer q (λ r. noWalk (plain r)) (walked k) .refusal .number ≢ 0 → noWalk (answer q (λ r. noWalk (plain r)) (walked k) .refusal) ≡ answer q (λ r. noWalk (plain r)) (walked k)
+      go zero (stopped r h) n = refl
+      go zero (arrived vs ws) n = absurd (n refl)
+      go (suc q) k n = refl
+
+  pub walk-refuses : w .refusal .number ≢ 0 → (x : Walked) → x ≡ noWalk (w .refusal) → x ≡ walkAnswer s t a d bs
+  walk-refuses n x e = e ∙ stopped-walk n
 
   module _ (z : w .refusal .number ≡ 0) where
-    -- the route that it walked, and its servers in the form of the answer
-    abbrev found : (vs : List ℕ) × Encodes s [] a d bs vs
-    found = walk-exactly s [] a d bs .0 (sym (ap (λ (x : Walked). x .refusal .number) e) ∙ z)
+    abbrev found : (vs : List ℕ) × Encodes s t a d bs vs
+    found = walk-exactly s t a d bs .0 (sym (ap (λ (x : Refusal). x .number) way-refusal) ∙ z)
 
-    abbrev vs : List ℕ
-    vs = found .0
+    made : w ≡ aWay (length (found .0) - 1) (backOver s (found .0))
+    made = g .way ∙ way-given (found .1)
 
-    counted : w .count ≡ length vs
-    counted = ap (λ (x : Walked). x .count) (e ∙ walk-given (found .1))
+    walk-count : w .hops + 1 ≡ walkAnswer s t a d bs .count
+    walk-count =
+        omega (arith, ap (λ (x : Way). x .hops) made, ap (λ (x : Walked). x .count) (walk-given (found .1)), found .1 .route .route .some)
 
-    held : take (w .count) (w .servers) ≡ vs
-    held = ap₂ (λ (n : ℕ) (xs : List ℕ). take n xs) counted (ap (λ (x : Walked). x .servers) (e ∙ walk-given (found .1))) ∙ take-filled 9 vs
+    pub walk-fits : Fits w64 (w .hops + 1)
+    walk-fits = omega (arith, ap (λ (x : Way). x .hops) made, found .1 .route .route .few)
 
-    pub turn-few : w .count ≤ 9
-    turn-few = omega (arith, counted, found .1 .route .route .few)
+    pub walk-answers : record { refusal = w .refusal; count = w .hops + 1; servers = met; switches = used } ≡ walkAnswer s t a d bs
+    walk-answers = rw (way-refusal, walk-count, g .servers z, g .switches z)
 
-    -- t is the list turned round: its first places are the servers backwards
-    module _ (t : List ℕ) (f : t ≡ filled 9 (reverse (take (w .count) (w .servers)))) where
-      turned : take (w .count) t ≡ reverse vs
-      turned =
-          ap₂ (λ (n : ℕ) (xs : List ℕ). take n xs) (counted ∙ sym (length-reverse vs)) (f ∙ ap (λ (xs : List ℕ). filled 9 (reverse xs)) held)
-          ∙ take-filled 9 (reverse vs)
+-- ---- plain reading and reversal
 
-      pub turn-long : w .count ≡ length (take (w .count) t)
-      turn-long = counted ∙ sym (length-reverse vs) ∙ ap (λ (xs : List ℕ). length xs) (sym turned)
+module _ (s : Shape) (a d : ℕ) (bs : List ℕ) (w : Way) {met used : List ℕ} (g : WalkLeaves s [] a d bs w met used) where
+  pub read-refuses : w .refusal .number ≢ 0 → (x : Reading) → x ≡ noReading (w .refusal) → x ≡ readAnswer s a d bs
+  unfolding readAnswer
+  read-refuses n x e = e ∙ ap reading (stopped-walk s [] a d bs w g n)
 
-      pub turn-within : w .count ≤ length t
-      turn-within = omega (arith, turn-long, length-take (w .count) t)
+  pub read-answers : w .refusal .number ≡ 0 → record { refusal = w .refusal; count = w .hops + 1; servers = met } ≡ readAnswer s a d bs
+  unfolding readAnswer
+  read-answers z = ap reading (walk-answers s [] a d bs w g z)
 
-      pub turn-route : Route s [] (take (w .count) t)
-      turn-route = rw turned (route-reverse (found .1 .route .route))
+  pub reverse-refuses : w .refusal .number ≢ 0 → (x : Writing) → x ≡ noWriting (w .refusal) → x ≡ reverseAnswer s a d bs
+  unfolding walkAnswer reverseAnswer
+  reverse-refuses n x e =
+      e ∙ ap noWriting r ∙ go (arrayRefusal s a d bs) (walk s [] a d bs) (λ z. n (ap (λ (x : Refusal). x .number) r ∙ z))
+    where
+      r : w .refusal ≡ walkAnswer s [] a d bs .refusal
+      r = way-refusal s [] a d bs w g
 
-      pub turn-written : (x : Writing) → x ≡ aWriting (encode s (take (w .count) t)) → x ≡ reverseAnswer s a d bs
-      turn-written x k = k ∙ ap (λ (xs : List ℕ). aWriting (encode s xs)) turned ∙ sym (reverse-given (found .1))
+      go : (q : ℕ) (k : Walk) → answer q (λ r. noWalk (plain r)) (walked k) .refusal .number ≢ 0 → noWriting (answer q (λ r. noWalk (plain r)) (walked k) .refusal) ≡ answer q (λ r. noWriting (plain r)) (reversed s k)
+      go zero (stopped r h) n = refl
+      go zero (arrived vs ws) n = absurd (n refl)
+      go (suc q) k n = refl
+
+  pub reverse-answers : w .refusal .number ≡ 0 → (ys : List ℕ) → ys ≡ lowBytes 8 (w .back) → record { refusal = w .refusal; bytes = ys } ≡ reverseAnswer s a d bs
+  reverse-answers z ys e =
+      let f = found s [] a d bs w g z in
+      let m = made s [] a d bs w g z in
+      let y = e ∙ ap (λ (x : Way). lowBytes 8 (x .back)) m ∙ way-back (f .1 .route .route) in
+      rw (ap (λ (x : Way). x .refusal) m, y) (sym (reverse-given (f .1)))

@@ -226,7 +226,7 @@ module _ (s : Shape) (met used : List ℕ) (a b : ℕ) (x : Tried) (e : x ≡ tr
   unfolding triedTo
   to-switch z =
       ap (λ (y : Tried). y .switch)
-      (answered (λ (y : Tried). y .number) noTry (λ r. refl) (writeFault s met used a b) x (adds b (switchTo s a b)) e z .1)
+      (answered (λ (y : Tried). y .number) noTry (λ r. refl) (writeFault s met used a b) x (adds (switchTo s a b)) e z .1)
 
 -- ---- one turn of the way
 

@@ -8,24 +8,34 @@ use Rattle.lists.specs.Lists.{filled}
 use Rattle.refusals.specs.declared.Refusal.{Refusal}
 use Rattle.refusals.specs.Refusals.{none, plain, refusedAt, _or-else_, _unless_, answer}
 use Rattle.room.specs.declared.Shape.{Shape}
+use Rattle.room.specs.Addresses.{digit}
 use Rattle.room.specs.Refusals.{shapeRefusal, shapeNumbers, serverRefusal, endsRefusal, endsNumbers}
 use Rattle.path.specs.declared.Hop.{Hop}
 use Rattle.path.specs.declared.Walked.{Walked}
 use Rattle.path.specs.declared.Reading.{Reading}
 use Rattle.path.specs.declared.Writing.{Writing}
-use Rattle.path.specs.Routes.{encode}
+use Rattle.path.specs.Routes.{levelOf, encode}
 use Rattle.path.specs.Walks.{Walk, stopped, arrived, hopTo, hopRefusal, walk, writeFrom}
 
--- ---- one hop: 1, 2, 26, 3, 4, 8, 9, 10
+-- ---- one hop: where it leads, its level, and the old value, which is the digit of the server hopped from at that level
 
-abbrev pub noHop : ℕ → Hop
-noHop r = record { number = r; next = 0 }
+abbrev pub noHop : Refusal → Hop
+noHop r = record { refusal = r; next = 0; level = 0; old = 0 }
 
-abbrev pub aHop : ℕ → Hop
-aHop a = record { number = 0; next = a }
+abbrev pub aHop : ℕ → ℕ → ℕ → Hop
+aHop a l v = record { refusal = none; next = a; level = l; old = v }
 
+-- by byte b from server a, where nothing refuses it
+abbrev pub hopBy : Shape → ℕ → ℕ → Hop
+hopBy s a b = aHop (hopTo s a b) (levelOf b) (digit s (levelOf b) a)
+
+-- from a server of the room: 8, 9, 10, at hop 1 of route 1
+unfoldable pub hopFrom : Shape → ℕ → ℕ → Hop
+hopFrom s a b = answer (hopRefusal s a b) (λ r. noHop (refusedAt r 1 1)) (hopBy s a b)
+
+-- before them 1, 2, 26, 3, 4
 unfoldable pub hopAnswer : Shape → ℕ → ℕ → Hop
-hopAnswer s a b = answer (serverRefusal s a or-else hopRefusal s a b) noHop (aHop (hopTo s a b))
+hopAnswer s a b = answer (serverRefusal s a) (λ r. noHop (plain r)) (hopFrom s a b)
 
 -- ---- walking an array: 1, 2, 26, 3, 4, 5, 7, then hop after hop
 

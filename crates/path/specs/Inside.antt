@@ -1,44 +1,98 @@
 -- What the private functions of this crate answer and ask. No public contract cites this file.
-use Prim.Native.Nat.{ℕ}
-use mathlib.Core.List.{List}
-use mathlib.Core.Bool.{not, _&&_}
-use Rattle.lists.specs.Lists.{isIn}
-use Rattle.refusals.specs.Refusals.{_unless_, answer}
+use Prim.Native.Nat.{ℕ, zero, suc, _+_, _-_, _*_, _/_, _%_}
+use mathlib.Core.Path.{_≡_}
+use mathlib.Core.List.{List, [], _∷_, reverse}
+use mathlib.Core.Bool.{not, cond, _&&_}
+use lib.Dec.{eqb}
+use lib.ListN.{length, replicate}
+use Rattle.lists.specs.Lists.{isIn, inTurn}
+use Rattle.refusals.specs.declared.Refusal.{Refusal}
+use Rattle.refusals.specs.Refusals.{none, plain, refusedAt, _unless_, answer}
 use Rattle.room.specs.declared.Shape.{Shape}
 use Rattle.room.specs.Shapes.{Server}
 use Rattle.room.specs.Addresses.{Neighbours}
+use Rattle.links.specs.Table.{live}
 use Rattle.path.specs.declared.Hop.{Hop}
 use Rattle.path.specs.declared.Tried.{Tried}
-use Rattle.path.specs.Routes.{levelOf, levelTo, switchAt, switchTo}
-use Rattle.path.specs.Walks.{hopTo, hopRefusal, fault, writeFault}
-use Rattle.path.specs.Answers.{noHop, aHop}
-
--- one hop, of a server of the room: 8, 9, 10
-unfoldable pub hopFrom : Shape → ℕ → ℕ → Hop
-hopFrom s a b = answer (hopRefusal s a b) noHop (aHop (hopTo s a b))
+use Rattle.path.specs.declared.Way.{Way}
+use Rattle.path.specs.declared.Reading.{Reading}
+use Rattle.path.specs.Routes.{levelTo, switchAt, switchTo, byteTo}
+use Rattle.path.specs.Walks.{Walk, stopped, arrived, walk, writeFault}
+use Rattle.path.specs.Answers.{arrayRefusal, walkAnswer}
 
 -- ---- what a hop adds to a route that has met these servers and used these switches
 
 abbrev pub noTry : ℕ → Tried
-noTry r = record { number = r; next = 0; switch = 0 }
+noTry r = record { number = r; switch = 0 }
 
-abbrev pub adds : ℕ → ℕ → Tried
-adds b w = record { number = 0; next = b; switch = w }
+abbrev pub adds : ℕ → Tried
+adds w = record { number = 0; switch = w }
 
 -- server b and switch w: 12
 unfoldable pub newly : List ℕ → List ℕ → ℕ → ℕ → Tried
-newly met used b w = answer (12 unless (not (isIn b met) && not (isIn w used))) noTry (adds b w)
+newly met used b w = answer (12 unless (not (isIn b met) && not (isIn w used))) noTry (adds w)
 
--- the hop by byte b from server a, when an array is walked
-unfoldable pub tried : Shape → List ℕ → List ℕ → List ℕ → ℕ → ℕ → Tried
-tried s t met used a b = answer (fault s t met used a b) noTry (adds (hopTo s a b) (switchAt s (levelOf b) a))
+-- the hop h from server a, when an array is walked: what refuses the hop, 11, 12
+unfoldable pub tried : Shape → List ℕ → List ℕ → List ℕ → ℕ → Hop → Tried
+tried s t met used a h =
+    answer (h .refusal .number) noTry (answer (11 unless live t (h .level) a (h .next)) noTry (newly met used (h .next) (switchAt s (h .level) a)))
 
 -- the hop from server a to server b, when servers are written
 unfoldable pub triedTo : Shape → List ℕ → List ℕ → ℕ → ℕ → Tried
-triedTo s met used a b = answer (writeFault s met used a b) noTry (adds b (switchTo s a b))
+triedTo s met used a b = answer (writeFault s met used a b) noTry (adds (switchTo s a b))
 
 -- servers a and b of the room are neighbours
 pub record Next (s : Shape) (a b : ℕ) : Type 0 where
   pub from : Server s a
   pub to : Server s b
   pub hop : Neighbours s (levelTo s a b) a b
+
+abbrev pub noReading : Refusal → Reading
+noReading r = record { refusal = r; count = 0; servers = replicate 9 0 }
+
+-- ---- the way of an array, and back
+
+-- bytes as one number, the first lowest
+unfoldable pub lowFirst : List ℕ → ℕ
+lowFirst [] = 0
+lowFirst (b ∷ bs) = b + 256 * lowFirst bs
+
+-- so many bytes of a number, the lowest first
+unfoldable pub lowBytes : ℕ → ℕ → List ℕ
+lowBytes zero x = []
+lowBytes (suc m) x = x % 256 ∷ lowBytes m (x / 256)
+
+-- the path bytes of the way back over these servers
+unfoldable pub backOver : Shape → List ℕ → ℕ
+backOver s vs = lowFirst (inTurn (byteTo s) (reverse vs))
+
+abbrev pub noWay : Refusal → Way
+noWay r = record { refusal = r; hops = 0; back = 0 }
+
+abbrev pub aWay : ℕ → ℕ → Way
+aWay h x = record { refusal = none; hops = h; back = x }
+
+-- arrived after h hops, with the way back x; the bytes left begin at place i, counted from 0: 14
+unfoldable pub endedWay : ℕ → ℕ → ℕ → List ℕ → Way
+endedWay h x i [] = aWay h x
+endedWay h x i (b ∷ bs) = cond (eqb b 0) (endedWay h x (i + 1) bs) (noWay (refusedAt 14 1 (i + 1)))
+
+abbrev pub wayOf : Shape → Walk → Way
+wayOf s (stopped r h) = noWay (refusedAt r 1 h)
+wayOf s (arrived vs ws) = aWay (length vs - 1) (backOver s vs)
+
+unfoldable pub wayAnswer : Shape → List ℕ → ℕ → ℕ → List ℕ → Way
+wayAnswer s t a d bs = answer (arrayRefusal s a d bs) (λ r. noWay (plain r)) (wayOf s (walk s t a d bs))
+
+-- arrays of zeros, in which a walk puts down servers and switches; their lengths are said for arithmetic
+pub record Blank (met used : List ℕ) : Type 0 where
+  pub met-long : length met ≡ 9
+  pub used-long : length used ≡ 8
+  pub met-zeros : met ≡ replicate 9 0
+  pub used-zeros : used ≡ replicate 8 0
+
+-- what a walk leaves: way w, and on arrival the servers met and the switches used; on a refusal the arrays may hold anything
+pub record WalkLeaves (s : Shape) (t : List ℕ) (a d : ℕ) (bs : List ℕ) (w : Way) (met used : List ℕ) : Type 0 where
+  pub way : w ≡ wayAnswer s t a d bs
+  pub servers : w .refusal .number ≡ 0 → met ≡ walkAnswer s t a d bs .servers
+  pub switches : w .refusal .number ≡ 0 → used ≡ walkAnswer s t a d bs .switches

@@ -1,11 +1,12 @@
 // One hop, by its byte.
 ghost use mathlib.Core.Path.{_≡_};
+ghost use Prim.Native.Nat.{_/_, _%_, _<_};
 ghost use mathlib.Core.Bool.{not, _&&_};
 ghost use lib.Dec.{ltb, leb, eqb};
+ghost use Rattle.refusals.specs.Refusals.{refusedAt};
 ghost use Rattle.room.specs.Refusals.{serverRefusal};
 ghost use Rattle.path.specs.Routes.{levelOf, valueOf};
-ghost use Rattle.path.specs.Answers.{noHop, hopAnswer};
-ghost use Rattle.path.specs.Inside.{hopFrom};
+ghost use Rattle.path.specs.Answers.{noHop, hopFrom, hopAnswer};
 use crate::Hop;
 use refusals::Refusal;
 use room::Shape;
@@ -27,10 +28,30 @@ pub fn value_of(byte: usize) -> usize
     byte % 64
 }
 
-fn no_hop(number: usize) -> Hop
-    ensures { λ r. ⌜ r ≡ noHop number ⌝ }
+fn no_hop(refusal: Refusal) -> Hop
+    ensures { λ r. ⌜ r ≡ noHop refusal ⌝ }
 {
-    Hop { number, next: 0 }
+    Hop {
+        refusal,
+        next: 0,
+        level: 0,
+        old: 0,
+    }
+}
+
+// No hop, by a number that is refused at hop 1 of route 1.
+fn refused_hop(number: usize) -> Hop
+    ensures { λ r. ⌜ r ≡ noHop (refusedAt number 1 1) ⌝ }
+{
+    no_hop(Refusal::at(number, 1, 1))
+}
+
+// The digit of a server at the level of this weight, by divisions of 32 bits.
+fn digit_by(server: u32, weight: u32, n: u32) -> usize
+    requires { ⌜ (0 < weight) × (0 < n) ⌝ }
+    ensures { λ r. ⌜ r ≡ server / weight % n ⌝ }
+{
+    (server / weight % n) as usize
 }
 
 // Whether a level is at most k, a value below its bound, and the own value another, in one go.
@@ -40,7 +61,7 @@ fn is_hop(k: usize, level: usize, value: usize, bound: usize, own: usize) -> boo
     level <= k && (value < bound && own != value)
 }
 
-// Where the hop by a byte leads from a server of the room, by one power of n. Refusals 8, 9, 10.
+// The hop by a byte from a server of the room, by one power of n. Refusals 8, 9, 10.
 pub(crate) fn hop_from(shape: Shape, server: usize, byte: u8) -> Hop
     requires { ⌜ serverRefusal shape server ≡ 0 ⌝ }
     ensures { λ r. ⌜ r ≡ hopFrom shape server byte ⌝ }
@@ -49,29 +70,35 @@ pub(crate) fn hop_from(shape: Shape, server: usize, byte: u8) -> Hop
     let value = value_of(byte as usize);
     let bound = digit_bound(shape, level);
     let weight = power(shape.n, level);
-    let own = server / weight % shape.n;
+    let own = digit_by(server as u32, weight as u32, shape.n as u32);
     if is_hop(shape.k, level, value, bound, own) {
         return Hop {
-            number: 0,
+            refusal: Refusal::none(),
             next: server - own * weight + value * weight,
+            level,
+            old: own,
         };
     }
     if shape.k < level {
-        return no_hop(Refusal::POSITION);
+        return refused_hop(Refusal::POSITION);
     }
     if bound <= value {
-        return no_hop(Refusal::VALUE);
+        return refused_hop(Refusal::VALUE);
     }
-    no_hop(Refusal::NO_CHANGE)
+    refused_hop(Refusal::NO_CHANGE)
 }
 
-// Where the hop by a byte leads from a server. Refusals 1, 2, 26, 3, 4, 8, 9, 10.
-pub fn hop_of(shape: Shape, server: usize, byte: u8) -> Hop
+// The hop by a byte from a server. Refusals 1, 2, 26, 3, 4; then, as at hop 1 of route 1, 8, 9, 10.
+pub fn hop_of(shape: Shape, server: usize, byte: usize) -> Hop
     ensures { λ r. ⌜ r ≡ hopAnswer shape server byte ⌝ }
 {
     let number = server_refusal(shape, server);
     if number != 0 {
-        return no_hop(number);
+        return no_hop(Refusal::plain(number));
     }
-    hop_from(shape, server, byte)
+    // a number above 255 is no byte, and the level that it names is in no room
+    if 255 < byte {
+        return refused_hop(Refusal::POSITION);
+    }
+    hop_from(shape, server, byte as u8)
 }

@@ -33,17 +33,26 @@ pub struct Parts {
     pub value: usize,
 }
 
-// Where a hop leads; or the number of its refusal, whose place the caller knows, and 0.
+// Where a hop leads, its level, and the value that it replaces there; or a refusal and zeros.
 pub struct Hop {
-    pub number: usize,
+    pub refusal: Refusal,
     pub next: usize,
+    pub level: usize,
+    pub old: usize,
 }
 
-// The server and the switch that a hop adds to a route; or the number of its refusal and zeros.
+// The switch that a hop adds to a route; or the number of its refusal and 0.
 pub(crate) struct Tried {
     pub(crate) number: usize,
-    pub(crate) next: usize,
     pub(crate) switch: usize,
+}
+
+// The number of hops that an array makes, and the path bytes of its way back as one number, the first
+// byte lowest; or a refusal and zeros.
+pub(crate) struct Way {
+    pub(crate) refusal: Refusal,
+    pub(crate) hops: usize,
+    pub(crate) back: u64,
 }
 
 // The servers that an array meets, source first, and the switches that it uses; or a refusal and

@@ -12,11 +12,7 @@ use room::switch_of;
 pub(crate) fn no_try(number: usize) -> Tried
     ensures { λ r. ⌜ r ≡ noTry number ⌝ }
 {
-    Tried {
-        number,
-        next: 0,
-        switch: 0,
-    }
+    Tried { number, switch: 0 }
 }
 
 // Whether x is in a list.
@@ -42,7 +38,7 @@ pub(crate) fn switch_at(shape: Shape, level: usize, server: usize) -> usize
     Shape::MOST_SERVERS * level + switch.number
 }
 
-// A server and a switch that a route adds to those that it has. Refusal 12.
+// The switch of a hop to this server, which a route adds to those that it has. Refusal 12.
 pub(crate) fn add_hop(met: &[usize], used: &[usize], next: usize, switch: usize) -> Tried
     ensures { λ r. ⌜ r ≡ newly (now (met .entry)) (now (used .entry)) next switch ⌝ }
 {
@@ -52,9 +48,5 @@ pub(crate) fn add_hop(met: &[usize], used: &[usize], next: usize, switch: usize)
     if is_among(used, switch) {
         return no_try(Refusal::REPEATED);
     }
-    Tried {
-        number: 0,
-        next,
-        switch,
-    }
+    Tried { number: 0, switch }
 }

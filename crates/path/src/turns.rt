@@ -1,42 +1,58 @@
 // Reversal.
 ghost use mathlib.Core.Path.{_≡_};
-ghost use mathlib.Core.List.{reverse};
-ghost use Prim.Native.Nat.{_≤_};
-ghost use lib.ListN.{take};
-ghost use Rattle.lists.specs.Lists.{filled};
+ghost use Prim.Native.Nat.{_%_};
 ghost use Rattle.path.specs.Answers.{reverseAnswer};
+ghost use Rattle.path.specs.Inside.{lowBytes};
 use crate::Writing;
 use crate::readings::plain_walk;
-use crate::writings::a_writing;
 use crate::writings::no_writing;
 use room::Shape;
 
-// The first `count` of a list, the last first, and zeros after them.
-fn backwards(servers: [usize; 9], count: usize) -> [usize; 9]
-    requires { ⌜ count ≤ 9 ⌝ }
-    ensures { λ r. ⌜ r ≡ filled 9 (reverse (take count servers)) ⌝ }
+// The lowest byte of a number.
+fn low(number: u64) -> u8
+    ensures { λ r. ⌜ r ≡ number % 256 ⌝ }
 {
-    let mut turned: [usize; 9] = [0; 9];
-    let mut i: usize = 0;
-    while i < count {
-        turned[i] = servers[count - 1 - i];
-        i += 1;
-    }
-    turned
+    (number % 256) as u8
 }
 
-// The bytes of the route backwards: the same servers, from the destination.
+// The eight bytes of a number, the lowest first.
+fn bytes_of(number: u64) -> [u8; 8]
+    ensures { λ r. ⌜ r ≡ lowBytes 8 number ⌝ }
+{
+    [
+        low(number),
+        low(number / 256),
+        low(number / 65536),
+        low(number / 16777216),
+        low(number / 4294967296),
+        low(number / 1099511627776),
+        low(number / 281474976710656),
+        low(number / 72057594037927936),
+    ]
+}
+
+// The bytes of the route backwards: the same servers, from the destination. They are those that the walk
+// put together, 64 times the level plus the old value of each hop, the last hop first.
 // Refusals 1, 2, 26, 3, 4, 5, 7, 8, 9, 10, 12, 13, 14.
 pub fn reverse_path(shape: Shape, source: usize, destination: usize, path: &[u8]) -> Writing
     ensures { λ r. ⌜ r ≡ reverseAnswer shape source destination (now (path .entry)) ⌝ }
 {
-    let walked = plain_walk(shape, source, destination, path);
-    let refusal = walked.refusal;
+    let mut met: [usize; 9] = [0; 9];
+    let mut used: [usize; 8] = [0; 8];
+    let way = plain_walk(
+        shape,
+        source,
+        destination,
+        path,
+        &mut met[..],
+        &mut used[..],
+    );
+    let refusal = way.refusal;
     if refusal.number != 0 {
         return no_writing(refusal);
     }
-    let count = walked.count;
-    let servers = walked.servers;
-    let turned = backwards(servers, count);
-    a_writing(shape, &turned[..count])
+    Writing {
+        refusal,
+        bytes: bytes_of(way.back),
+    }
 }

@@ -1,16 +1,15 @@
 // Walking an array, hop after hop.
 ghost use mathlib.Core.Path.{_≡_};
-ghost use Prim.Native.Nat.{_+_, _≤_};
-ghost use lib.ListN.{length, take, drop};
-ghost use Rattle.lists.specs.Lists.{filled};
-ghost use Rattle.room.specs.Refusals.{serverRefusal};
-ghost use Rattle.path.specs.Walks.{ended, walk};
-ghost use Rattle.path.specs.Answers.{arrayRefusal, noWalk, walked, walkAnswer};
-ghost use Rattle.path.specs.Inside.{tried};
+ghost use Prim.Native.Nat.{_≤_};
+ghost use lib.ListN.{length, drop};
+ghost use Rattle.room.specs.Refusals.{linkRefusal};
+ghost use Rattle.path.specs.Answers.{arrayRefusal, noWalk, walkAnswer};
+ghost use Rattle.path.specs.Inside.{tried, noWay, endedWay, Blank, WalkLeaves};
+use crate::Hop;
 use crate::Tried;
 use crate::Walked;
+use crate::Way;
 use crate::hops::hop_from;
-use crate::hops::level_of;
 use crate::repeats::add_hop;
 use crate::repeats::no_try;
 use crate::repeats::switch_at;
@@ -44,74 +43,96 @@ fn no_walk(refusal: Refusal) -> Walked
     }
 }
 
-// The hop by a byte from the last server of a route. Refusals 8, 9, 10, 11, 12.
+// What a hop adds to a route that has come to this server, after the servers met before it and the switches used.
+// The server itself is not looked for: a hop never leads to where it starts. Refusals of the hop itself, 11, 12.
 fn try_hop(
     shape: Shape,
     table: &[u8],
     met: &[usize],
     used: &[usize],
     server: usize,
-    byte: u8,
+    hop: Hop,
 ) -> Tried
-    requires { ⌜ serverRefusal shape server ≡ 0 ⌝ }
-    ensures { λ r. ⌜ r ≡ tried shape (now (table .entry)) (now (met .entry)) (now (used .entry)) server byte ⌝ }
+    requires { ⌜ (hop .refusal .number ≡ 0 → linkRefusal shape server (hop .level) ≡ 0) ⌝ }
+    ensures { λ r. ⌜ r ≡ tried shape (now (table .entry)) (now (met .entry)) (now (used .entry)) server hop ⌝ }
 {
-    let hop = hop_from(shape, server, byte);
-    if hop.number != 0 {
-        return no_try(hop.number);
+    if hop.refusal.number != 0 {
+        return no_try(hop.refusal.number);
     }
-    let level = level_of(byte as usize);
-    if is_live(table, level, server, hop.next) {
-        return add_hop(met, used, hop.next, switch_at(shape, level, server));
+    if is_live(table, hop.level, server, hop.next) {
+        return add_hop(met, used, hop.next, switch_at(shape, hop.level, server));
     }
     no_try(Refusal::FAILED_LINK)
 }
 
-// What is answered on arrival: the bytes after it are zero. Refusal 14.
-fn arrived(path: &[u8], met: [usize; 9], used: [usize; 8], hops: usize) -> Walked
-    requires { ⌜ (hops ≤ 8) × (length (now path) ≡ 8) × (filled 9 (take (hops + 1) met) ≡ met) × (filled 8 (take hops used) ≡ used) ⌝ }
-    ensures { λ r. ⌜ r ≡ walked (ended hops (take (hops + 1) met) (take hops used) (drop hops (now (path .entry)))) ⌝ }
+fn no_way(refusal: Refusal) -> Way
+    ensures { λ r. ⌜ r ≡ noWay refusal ⌝ }
+{
+    Way {
+        refusal,
+        hops: 0,
+        back: 0,
+    }
+}
+
+// What is answered on arrival after these hops: the bytes after them are zero. Refusal 14.
+fn arrived(path: &[u8], hops: usize, back: u64) -> Way
+    requires { ⌜ (hops ≤ 8) × (length (now path) ≡ 8) ⌝ }
+    ensures { λ r. ⌜ r ≡ endedWay hops back hops (drop hops (now (path .entry))) ⌝ }
 {
     let mut i = hops;
     while i < Shape::MOST_HOPS {
         if path[i] != 0 {
-            return no_walk(Refusal::at(Refusal::AFTER_ARRIVAL, 1, i + 1));
+            return no_way(Refusal::at(Refusal::AFTER_ARRIVAL, 1, i + 1));
         }
         i += 1;
     }
-    Walked {
+    Way {
         refusal: Refusal::none(),
-        count: hops + 1,
-        servers: met,
-        switches: used,
+        hops,
+        back,
     }
 }
 
-// Walks the eight bytes from source to destination. Refusals 8 to 14.
-fn walk_bytes(shape: Shape, table: &[u8], source: usize, destination: usize, path: &[u8]) -> Walked
-    requires { ⌜ (serverRefusal shape source ≡ 0) × (length (now path) ≡ 8) ⌝ }
-    ensures { λ r. ⌜ r ≡ walked (walk shape (now (table .entry)) source destination (now (path .entry))) ⌝ }
+// Walks an array from source to destination, and puts the servers met and the switches used in turn
+// into two arrays of zeros, which may hold anything on a refusal. Refusals 1, 2, 26, 3, 4, 5, 7, then 8 to 14 at a hop.
+pub(crate) fn walk_array(
+    shape: Shape,
+    table: &[u8],
+    source: usize,
+    destination: usize,
+    path: &[u8],
+    met: &mut [usize],
+    used: &mut [usize],
+) -> Way
+    requires { ⌜ Blank (now met) (now used) ⌝ }
+    ensures { λ r. ⌜ WalkLeaves shape (now (table .entry)) source destination (now (path .entry)) r (now (met .exit)) (now (used .exit)) ⌝ }
 {
-    let mut met: [usize; 9] = [0; 9];
-    let mut used: [usize; 8] = [0; 8];
+    let refusal = array_refusal(shape, source, destination, path);
+    if refusal != 0 {
+        return no_way(Refusal::plain(refusal));
+    }
     met[0] = source;
+    let mut back: u64 = 0;
     let mut server = source;
     let mut i: usize = 0;
     while i < Shape::MOST_HOPS {
         let seen = i + 1;
-        let hop = try_hop(shape, table, &met[..seen], &used[..i], server, path[i]);
-        if hop.number != 0 {
-            return no_walk(Refusal::at(hop.number, 1, seen));
+        let hop = hop_from(shape, server, path[i]);
+        let tried = try_hop(shape, table, &met[..i], &used[..i], server, hop);
+        if tried.number != 0 {
+            return no_way(Refusal::at(tried.number, 1, seen));
         }
-        used[i] = hop.switch;
+        back = 256 * back + (64 * hop.level + hop.old) as u64;
+        used[i] = tried.switch;
         met[seen] = hop.next;
         if hop.next == destination {
-            return arrived(path, met, used, seen);
+            return arrived(path, seen, back);
         }
         server = hop.next;
         i = seen;
     }
-    no_walk(Refusal::at(Refusal::NOT_ARRIVED, 1, Shape::MOST_HOPS))
+    no_way(Refusal::at(Refusal::NOT_ARRIVED, 1, Shape::MOST_HOPS))
 }
 
 // The servers met and the switches used by an array, over the live links of a table.
@@ -119,9 +140,25 @@ fn walk_bytes(shape: Shape, table: &[u8], source: usize, destination: usize, pat
 pub fn walk(shape: Shape, table: &[u8], source: usize, destination: usize, path: &[u8]) -> Walked
     ensures { λ r. ⌜ r ≡ walkAnswer shape (now (table .entry)) source destination (now (path .entry)) ⌝ }
 {
-    let refusal = array_refusal(shape, source, destination, path);
-    if refusal != 0 {
-        return no_walk(Refusal::plain(refusal));
+    let mut servers: [usize; 9] = [0; 9];
+    let mut switches: [usize; 8] = [0; 8];
+    let way = walk_array(
+        shape,
+        table,
+        source,
+        destination,
+        path,
+        &mut servers[..],
+        &mut switches[..],
+    );
+    let refusal = way.refusal;
+    if refusal.number != 0 {
+        return no_walk(refusal);
     }
-    walk_bytes(shape, table, source, destination, path)
+    Walked {
+        refusal,
+        count: way.hops + 1,
+        servers,
+        switches,
+    }
 }

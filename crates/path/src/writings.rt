@@ -82,7 +82,7 @@ fn put_bytes(shape: Shape, servers: &[usize]) -> [u8; 8]
     bytes
 }
 
-pub(crate) fn a_writing(shape: Shape, servers: &[usize]) -> Writing
+fn a_writing(shape: Shape, servers: &[usize]) -> Writing
     requires { ⌜ Route shape [] (now servers) ⌝ }
     ensures { λ r. ⌜ r ≡ aWriting (encode shape (now (servers .entry))) ⌝ }
 {

@@ -41,11 +41,11 @@ pub fn question(name: &[u8], shape: Shape)
     text(b")");
 }
 
-// "= refused NUMBER", with route and hop where they are not zero.
-pub fn refused(refusal: Refusal)
+// "refused NUMBER" with a space before it, and route and hop where they are not zero.
+pub fn refused_item(refusal: Refusal)
     ensures { λ r. ⌜ r ≡ tt ⌝ }
 {
-    text(b" = refused");
+    text(b" refused");
     item(refusal.number);
     if refusal.route != 0 {
         text(b" route");
@@ -53,6 +53,14 @@ pub fn refused(refusal: Refusal)
         text(b" hop");
         item(refusal.hop);
     }
+}
+
+// "= refused NUMBER", with route and hop where they are not zero.
+pub fn refused(refusal: Refusal)
+    ensures { λ r. ⌜ r ≡ tt ⌝ }
+{
+    text(b" =");
+    refused_item(refusal);
     text(b"\n");
 }
 
@@ -72,6 +80,14 @@ pub fn answer(x: Number)
 
 fn wide(x: u8) -> u64 {
     x as u64
+}
+
+// A number as two hex digits, or as many as it takes, with a space before it.
+pub fn hex(n: usize)
+    ensures { λ r. ⌜ r ≡ tt ⌝ }
+{
+    text(b" ");
+    io::print_hex(1, n as u64, 2);
 }
 
 // The bytes of a slice as hex, with a space before them; "-" where there are none.

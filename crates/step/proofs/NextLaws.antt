@@ -1,4 +1,4 @@
--- The next server and the step as the program finds them: what each way of the code answers, by what the code found on that way.
+-- The next hop and the step as the program finds them: what each way of the code answers, by what the code found on that way.
 use Prim.Native.Nat.{ℕ, _+_, _≤_, _<_}
 use native.Mathlib.Omega.{arith}
 use mathlib.Core.Path.{_≡_, refl, sym, ap, _∙_}
@@ -9,13 +9,13 @@ use lib.ListN.{length, getD}
 use Rattle.refusals.specs.declared.Refusal.{Refusal}
 use Rattle.refusals.specs.Refusals.{none, plain, refusedAt}
 use Rattle.room.specs.declared.Shape.{Shape}
-use Rattle.room.specs.declared.Number.{Number}
 use Rattle.path.specs.declared.Hop.{Hop}
-use Rattle.path.specs.Answers.{hopAnswer}
-use Rattle.path.specs.Walks.{hopTo, hopRefusal}
-use Rattle.path.proofs.HopLaws.{hop-number, hop-next, hop-known}
+use Rattle.path.specs.Answers.{noHop, hopAnswer}
+use Rattle.path.specs.Walks.{hopRefusal}
+use Rattle.path.proofs.HopLaws.{hop-number, hop-made, hop-known}
 use Rattle.step.specs.declared.Step.{Step}
-use Rattle.step.specs.Steps.{macAt, portAt, flagAt, givenRefusal, noNext, nextAnswer, standing, stepAnswer}
+use Rattle.step.specs.Steps.{macAt, portAt, flagAt, givenRefusal, standing, stepAnswer}
+use Rattle.step.specs.Inside.{nextAnswer}
 use Rattle.step.proofs.StepLaws.{Given, given-of, next-given, next-here, next-eighteen, next-hop, next-closed, next-goes, step-refused, step-here, step-facts, step-made}
 
 -- the part of an entry that the code reads lies inside the table
@@ -24,8 +24,8 @@ entry-inside s a d bs e g found passed p h = omega (arith, given-of s a d bs e (
 
 module _ (s : Shape) (a d i : ℕ) (bs e : List ℕ) (g : ℕ) (found : g ≡ givenRefusal s a d bs e) where
   -- what is given is refused
-  pub refuses-given : (r : Refusal) (x : Number) → x ≡ noNext r → g ≢ 0 → r ≡ plain g → x ≡ nextAnswer s a d i bs e
-  refuses-given r x made n f = made ∙ ap noNext f ∙ next-given s a d i bs e g found n
+  pub refuses-given : (r : Refusal) (x : Hop) → x ≡ noHop r → g ≢ 0 → r ≡ plain g → x ≡ nextAnswer s a d i bs e
+  refuses-given r x made n f = made ∙ ap noHop f ∙ next-given s a d i bs e g found n
 
   module _ (passed : g ≡ 0) where
     given : Given s a d bs e
@@ -36,32 +36,31 @@ module _ (s : Shape) (a d i : ℕ) (bs e : List ℕ) (g : ℕ) (found : g ≡ gi
     byte-inside h = omega (arith, given .path)
 
     -- at the destination; past the eighth byte
-    pub arrives : (r : Refusal) (x : Number) → x ≡ noNext r → a ≡ d → r ≡ none → x ≡ nextAnswer s a d i bs e
-    arrives r x made h f = made ∙ ap noNext f ∙ next-here s a d i bs e (sym passed ∙ found) h
+    pub arrives : (r : Refusal) (x : Hop) → x ≡ noHop r → a ≡ d → r ≡ none → x ≡ nextAnswer s a d i bs e
+    arrives r x made h f = made ∙ ap noHop f ∙ next-here s a d i bs e (sym passed ∙ found) h
 
-    pub too-far : (r : Refusal) (x : Number) → x ≡ noNext r → a ≢ d → 8 ≤ i → r ≡ plain 18 → x ≡ nextAnswer s a d i bs e
-    too-far r x made away h f = made ∙ ap noNext f ∙ next-eighteen s a d i bs e (sym passed ∙ found) away h
+    pub too-far : (r : Refusal) (x : Hop) → x ≡ noHop r → a ≢ d → 8 ≤ i → r ≡ plain 18 → x ≡ nextAnswer s a d i bs e
+    too-far r x made away h f = made ∙ ap noHop f ∙ next-eighteen s a d i bs e (sym passed ∙ found) away h
 
     module _ (away : a ≢ d) (index : i < 8) (h : Hop) (hop : h ≡ hopAnswer s a (getD bs i 0)) where
-      number : h .number ≡ hopRefusal s a (getD bs i 0)
+      number : h .refusal .number ≡ hopRefusal s a (getD bs i 0)
       number = hop-number _ _ _ _ (hop-known (given .here) _ _ hop)
 
       -- the byte's hop is refused; its neighbour is not available; it goes
-      pub refuses-hop : (r : Refusal) (x : Number) → x ≡ noNext r → h .number ≢ 0 → r ≡ refusedAt (h .number) 1 (i + 1) → x ≡ nextAnswer s a d i bs e
-      refuses-hop r x made n f = made ∙ ap noNext f ∙ next-hop s a d i bs e (sym passed ∙ found) away index (h .number) number n
+      pub refuses-hop : (r : Refusal) (x : Hop) → x ≡ noHop r → h .refusal .number ≢ 0 → r ≡ refusedAt (h .refusal .number) 1 (i + 1) → x ≡ nextAnswer s a d i bs e
+      refuses-hop r x made n f = made ∙ ap noHop f ∙ next-hop s a d i bs e (sym passed ∙ found) away index (h .refusal .number) number n
 
-      module _ (taken : h .number ≡ 0) where
-        pub refuses-closed : (r : Refusal) (x : Number) → x ≡ noNext r → flagAt e (getD bs i 0) ≢ 1 → r ≡ refusedAt 19 1 (i + 1) → x ≡ nextAnswer s a d i bs e
-        refuses-closed r x made n f = made ∙ ap noNext f ∙ next-closed s a d i bs e (sym passed ∙ found) away index (sym number ∙ taken) n
+      module _ (taken : h .refusal .number ≡ 0) where
+        pub refuses-closed : (r : Refusal) (x : Hop) → x ≡ noHop r → flagAt e (getD bs i 0) ≢ 1 → r ≡ refusedAt 19 1 (i + 1) → x ≡ nextAnswer s a d i bs e
+        refuses-closed r x made n f = made ∙ ap noHop f ∙ next-closed s a d i bs e (sym passed ∙ found) away index (sym number ∙ taken) n
 
-        pub goes-next : (r : Refusal) → flagAt e (getD bs i 0) ≡ 1 → r ≡ none → _≡_ {A = Number} (record { refusal = r; value = h .next }) (nextAnswer s a d i bs e)
-        goes-next r flag f =
-            ap (λ (q : Refusal). record { refusal = q; value = h .next }) f
-            ∙ next-goes s a d i bs e (sym passed ∙ found) away index (sym number ∙ taken) (h .next) flag (hop-next _ _ _ _ (hop-known (given .here) _ _ hop) taken)
+        pub goes-next : flagAt e (getD bs i 0) ≡ 1 → h ≡ nextAnswer s a d i bs e
+        goes-next flag =
+            next-goes s a d i bs e (sym passed ∙ found) away index (sym number ∙ taken) h flag (hop-made _ _ _ _ (hop-known (given .here) _ _ hop) taken)
 
--- ---- the step, from the next server that was found
+-- ---- the step, from the next hop that was found
 
-module _ (s : Shape) (a d i : ℕ) (bs e : List ℕ) (x : Number) (found : x ≡ nextAnswer s a d i bs e) where
+module _ (s : Shape) (a d i : ℕ) (bs e : List ℕ) (x : Hop) (found : x ≡ nextAnswer s a d i bs e) where
   pub stays-refused : (y : Step) → y ≡ standing (x .refusal) false → x .refusal .number ≢ 0 → y ≡ stepAnswer s a d i bs e
   stays-refused y made n = made ∙ step-refused s a d i bs e x found n
 
@@ -83,5 +82,5 @@ module _ (s : Shape) (a d i : ℕ) (bs e : List ℕ) (x : Number) (found : x ≡
       pub step-entry : (p : ℕ) → p < 2048 → p < length e
       step-entry p h = omega (arith, step-table)
 
-      pub step-forwards : (r : Refusal) (m : List ℕ) → r ≡ none → m ≡ macAt e (getD bs i 0) → _≡_ {A = Step} (record { refusal = r; delivered = false; next = x .value; index = i + 1; mac = m; port = portAt e (getD bs i 0) }) (stepAnswer s a d i bs e)
-      step-forwards r m f h = step-made s a d i bs e x found none-so away r (x .value) m (portAt e (getD bs i 0)) f refl h refl
+      pub step-forwards : (r : Refusal) (m : List ℕ) → r ≡ none → m ≡ macAt e (getD bs i 0) → _≡_ {A = Step} (record { refusal = r; delivered = false; next = x .next; index = i + 1; mac = m; port = portAt e (getD bs i 0); level = x .level; old = x .old }) (stepAnswer s a d i bs e)
+      step-forwards r m f h = step-made s a d i bs e x found none-so away r m (portAt e (getD bs i 0)) f h refl

@@ -1,4 +1,4 @@
--- Laws of one step: what each test tells, which refusals arise at the hop, and the step from the next server.
+-- Laws of one step: what each test tells, which refusals arise at the hop, and the step from the next hop.
 use Prim.Native.Nat.{ℕ, zero, suc, _+_, _≤_, _<_}
 use mathlib.Core.Path.{_≡_, refl, sym, ap, _∙_}
 use mathlib.Core.Logic.{_≢_}
@@ -15,15 +15,16 @@ use Rattle.refusals.proofs.ChainLaws.{or-else-zero, chain-stops, chain-goes, te
 use Rattle.refusals.proofs.NumberLaws.{test-one, chain-one, one-passes, refused-passes}
 use Rattle.refusals.proofs.AnswerLaws.{answered}
 use Rattle.room.specs.declared.Shape.{Shape}
-use Rattle.room.specs.declared.Number.{Number}
 use Rattle.room.specs.Shapes.{Server}
 use Rattle.room.specs.Refusals.{pairRefusal}
-use Rattle.room.specs.Answers.{aNumber}
 use Rattle.room.proofs.RefusalLaws.{pair-of, pair-none}
-use Rattle.path.specs.Walks.{hopTo, hopRefusal}
+use Rattle.path.specs.declared.Hop.{Hop}
+use Rattle.path.specs.Walks.{hopRefusal}
+use Rattle.path.specs.Answers.{noHop, hopBy}
 use Rattle.path.proofs.NumberLaws.{hop-numbers}
 use Rattle.step.specs.declared.Step.{Step}
-use Rattle.step.specs.Steps.{macAt, portAt, flagAt, givenRefusal, byteRefusal, awayRefusal, stepRefusal, atHop, withPlace, noNext, noStep, delivery, forwarded, stepAnswer, nextAnswer}
+use Rattle.step.specs.Steps.{macAt, portAt, flagAt, givenRefusal, byteRefusal, awayRefusal, stepRefusal, atHop, withPlace, noStep, delivery, forwarded, stepAnswer}
+use Rattle.step.specs.Inside.{nextAnswer}
 use Rattle.step.proofs.NumberLaws.{given-numbers}
 
 -- ---- what a step is given
@@ -104,17 +105,17 @@ module _ (s : Shape) (a d i : ℕ) (bs e : List ℕ) where
 -- ---- the chain, way by way
 
 module _ (s : Shape) (a d i : ℕ) (bs e : List ℕ) where
-  stop-at : (q : ℕ) (x : Refusal) → stepRefusal s a d i bs e ≡ q → q ≢ 0 → x ≡ withPlace i q → noNext x ≡ nextAnswer s a d i bs e
+  stop-at : (q : ℕ) (x : Refusal) → stepRefusal s a d i bs e ≡ q → q ≢ 0 → x ≡ withPlace i q → noHop x ≡ nextAnswer s a d i bs e
   unfolding nextAnswer
   stop-at zero x f h g = absurd (h refl)
   stop-at (suc q) x f h g = rw (f, g)
 
-  pub next-given : (g : ℕ) → g ≡ givenRefusal s a d bs e → g ≢ 0 → noNext (plain g) ≡ nextAnswer s a d i bs e
+  pub next-given : (g : ℕ) → g ≡ givenRefusal s a d bs e → g ≢ 0 → noHop (plain g) ≡ nextAnswer s a d i bs e
   unfolding stepRefusal
   next-given g f h = stop-at g (plain g) (sym (chain-stops _ _ _ f h)) h (sym (with-place-plain i g (ap atHop f ∙ given-plain s a d bs e)))
 
   module _ (given : 0 ≡ givenRefusal s a d bs e) where
-    pub next-here : a ≡ d → noNext none ≡ nextAnswer s a d i bs e
+    pub next-here : a ≡ d → noHop none ≡ nextAnswer s a d i bs e
     unfolding nextAnswer stepRefusal _or-else_
     next-here h = rw (← given, eq-eqb a d h)
 
@@ -123,7 +124,7 @@ module _ (s : Shape) (a d i : ℕ) (bs e : List ℕ) where
       unfolding stepRefusal _or-else_
       chain = rw (← given, ne-eqb a d away)
 
-      pub next-eighteen : 8 ≤ i → noNext (plain 18) ≡ nextAnswer s a d i bs e
+      pub next-eighteen : 8 ≤ i → noHop (plain 18) ≡ nextAnswer s a d i bs e
       unfolding awayRefusal _or-else_ atHop
       next-eighteen h = stop-at 18 (plain 18) (chain ∙ rw (le-ltb i 8 h)) (λ z. omega arith) (sym (with-place-plain i 18 refl))
 
@@ -132,23 +133,23 @@ module _ (s : Shape) (a d i : ℕ) (bs e : List ℕ) where
         unfolding awayRefusal _or-else_
         byte-chain = chain ∙ rw (lt-ltb i 8 index)
 
-        pub next-hop : (r : ℕ) → r ≡ hopRefusal s a (getD bs i 0) → r ≢ 0 → noNext (refusedAt r 1 (i + 1)) ≡ nextAnswer s a d i bs e
+        pub next-hop : (r : ℕ) → r ≡ hopRefusal s a (getD bs i 0) → r ≢ 0 → noHop (refusedAt r 1 (i + 1)) ≡ nextAnswer s a d i bs e
         unfolding byteRefusal
         next-hop r f h =
             stop-at r (refusedAt r 1 (i + 1)) (byte-chain ∙ sym (chain-stops _ _ _ f h)) h
             (sym (with-place-at i r (ap atHop f ∙ hop-at-hop s a (getD bs i 0) (λ z. h (f ∙ z)))))
 
         module _ (taken : hopRefusal s a (getD bs i 0) ≡ 0) where
-          pub next-closed : flagAt e (getD bs i 0) ≢ 1 → noNext (refusedAt 19 1 (i + 1)) ≡ nextAnswer s a d i bs e
+          pub next-closed : flagAt e (getD bs i 0) ≢ 1 → noHop (refusedAt 19 1 (i + 1)) ≡ nextAnswer s a d i bs e
           unfolding byteRefusal _or-else_ atHop
           next-closed h =
               stop-at 19 (refusedAt 19 1 (i + 1)) (byte-chain ∙ rw (taken, ne-eqb (flagAt e (getD bs i 0)) 1 h)) (λ z. omega arith) (sym (with-place-at i 19 refl))
 
-          pub next-goes : (x : ℕ) → flagAt e (getD bs i 0) ≡ 1 → x ≡ hopTo s a (getD bs i 0) → aNumber x ≡ nextAnswer s a d i bs e
+          pub next-goes : (x : Hop) → flagAt e (getD bs i 0) ≡ 1 → x ≡ hopBy s a (getD bs i 0) → x ≡ nextAnswer s a d i bs e
           unfolding nextAnswer byteRefusal _or-else_
           next-goes x h g =
               let z : stepRefusal s a d i bs e ≡ 0 = byte-chain ∙ rw (taken, eq-eqb (flagAt e (getD bs i 0)) 1 h) in
-              rw (z, ne-eqb a d away, g)
+              g ∙ rw (z, ne-eqb a d away)
 
 -- ---- what no refusal tells
 
@@ -174,21 +175,22 @@ unfolding byteRefusal _or-else_
 goes-none {s} {a} {d} {i} {bs} {e} h away =
     byte-chain s a d i bs e (given-none (h .given)) away (h .index) ∙ rw (h .taken, eq-eqb (flagAt e (getD bs i 0)) 1 (h .flag))
 
--- ---- the step from the next server
+-- ---- the step from the next hop
 
-module _ (s : Shape) (a d i : ℕ) (bs e : List ℕ) (x : Number) (found : x ≡ nextAnswer s a d i bs e) where
-  pub next-none : x .refusal .number ≡ 0 → (stepRefusal s a d i bs e ≡ 0) × (x ≡ aNumber (cond (eqb a d) 0 (hopTo s a (getD bs i 0))))
+module _ (s : Shape) (a d i : ℕ) (bs e : List ℕ) (x : Hop) (found : x ≡ nextAnswer s a d i bs e) where
+  pub next-none : x .refusal .number ≡ 0 → (stepRefusal s a d i bs e ≡ 0) × (x ≡ cond (eqb a d) (noHop none) (hopBy s a (getD bs i 0)))
   unfolding nextAnswer
   next-none z =
-      answered (λ (y : Number). y .refusal .number) (λ r. noNext (withPlace i r)) (with-place-number i) (stepRefusal s a d i bs e) x _ found z
+      answered (λ (y : Hop). y .refusal .number) (λ r. noHop (withPlace i r)) (with-place-number i) (stepRefusal s a d i bs e) x _ found z
 
   pub step-refused : x .refusal .number ≢ 0 → noStep (x .refusal) ≡ stepAnswer s a d i bs e
   unfolding nextAnswer stepAnswer
-  step-refused h = go (stepRefusal s a d i bs e) found
+  step-refused h = go (stepRefusal s a d i bs e) (eqb a d) found
     where
-      go : (q : ℕ) → x ≡ answer q (λ r. noNext (withPlace i r)) (aNumber (cond (eqb a d) 0 (hopTo s a (getD bs i 0)))) → noStep (x .refusal) ≡ answer q (λ r. noStep (withPlace i r)) (cond (eqb a d) delivery (forwarded s a i e (getD bs i 0)))
-      go zero f = absurd (h (ap (λ (y : Number). y .refusal .number) f))
-      go (suc q) f = ap (λ (y : Number). noStep (y .refusal)) f
+      go : (q : ℕ) (t : Bool) → x ≡ answer q (λ r. noHop (withPlace i r)) (cond t (noHop none) (hopBy s a (getD bs i 0))) → noStep (x .refusal) ≡ answer q (λ r. noStep (withPlace i r)) (cond t delivery (forwarded s a i e (getD bs i 0)))
+      go zero true f = absurd (h (ap (λ (y : Hop). y .refusal .number) f))
+      go zero false f = absurd (h (ap (λ (y : Hop). y .refusal .number) f))
+      go (suc q) t f = ap (λ (y : Hop). noStep (y .refusal)) f
 
   module _ (z : x .refusal .number ≡ 0) where
     pub step-here : a ≡ d → delivery ≡ stepAnswer s a d i bs e
@@ -199,12 +201,14 @@ module _ (s : Shape) (a d i : ℕ) (bs e : List ℕ) (x : Number) (found : x ≡
       pub step-facts : GoesBy s a d i bs e
       step-facts = goes-of s a d i bs e (next-none z .0) away
 
-      pub step-next : x .value ≡ hopTo s a (getD bs i 0)
-      step-next = let f = ap (λ (y : Number). y .value) (next-none z .1) in f ∙ rw (ne-eqb a d away)
+      step-hop : x ≡ hopBy s a (getD bs i 0)
+      step-hop = next-none z .1 ∙ rw (ne-eqb a d away)
 
-      pub step-goes : forwarded s a i e (getD bs i 0) ≡ stepAnswer s a d i bs e
+      step-goes : forwarded s a i e (getD bs i 0) ≡ stepAnswer s a d i bs e
       unfolding stepAnswer
       step-goes = rw (next-none z .0, ne-eqb a d away)
 
-      pub step-made : (r : Refusal) (n : ℕ) (m : List ℕ) (p : ℕ) → r ≡ none → n ≡ x .value → m ≡ macAt e (getD bs i 0) → p ≡ portAt e (getD bs i 0) → _≡_ {A = Step} (record { refusal = r; delivered = false; next = n; index = i + 1; mac = m; port = p }) (stepAnswer s a d i bs e)
-      step-made r n m p f g h k = rw (f, g, h, k, step-next) step-goes
+      pub step-made : (r : Refusal) (m : List ℕ) (p : ℕ) → r ≡ none → m ≡ macAt e (getD bs i 0) → p ≡ portAt e (getD bs i 0) → _≡_ {A = Step} (record { refusal = r; delivered = false; next = x .next; index = i + 1; mac = m; port = p; level = x .level; old = x .old }) (stepAnswer s a d i bs e)
+      step-made r m p f h k =
+          ap (λ (y : Hop). record { refusal = r; delivered = false; next = y .next; index = i + 1; mac = m; port = p; level = y .level; old = y .old }) step-hop
+          ∙ rw (f, h, k) step-goes

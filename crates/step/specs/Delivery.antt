@@ -2,13 +2,13 @@
 use Prim.Native.Nat.{ℕ, zero, suc, _<_}
 use mathlib.Core.Path.{_≡_}
 use mathlib.Core.Logic.{_↔_}
-use mathlib.Core.List.{List}
+use mathlib.Core.List.{List, [], _∷_}
 use mathlib.Core.Bool.{true}
 use lib.ListN.{length}
 use Rattle.room.specs.declared.Shape.{Shape}
 use Rattle.room.specs.Shapes.{Server}
 use Rattle.links.specs.Table.{live}
-use Rattle.path.specs.Routes.{levelOf}
+use Rattle.path.specs.Routes.{byteOf, levelOf}
 use Rattle.path.specs.Walks.{hopTo, hopRefusal}
 use Rattle.step.specs.declared.Step.{Step}
 use Rattle.step.specs.Steps.{flagAt, stepAnswer}
@@ -29,3 +29,10 @@ unfoldable pub stepAfter : Shape → ℕ → List ℕ → (ℕ → List ℕ) →
 stepAfter s d bs tables zero a i = stepAnswer s a d i bs (tables a)
 stepAfter s d bs tables (suc m) a i =
     let x = stepAnswer s a d i bs (tables a) in stepAfter s d bs tables m (x .next) (x .index)
+
+-- the trace of m steps from there: of each in turn the path byte of the way back, of its level and old value. It is that of a packet where
+-- none of them is refused or a delivery
+unfoldable pub traceOf : Shape → ℕ → List ℕ → (ℕ → List ℕ) → ℕ → ℕ → ℕ → List ℕ
+traceOf s d bs tables zero a i = []
+traceOf s d bs tables (suc m) a i =
+    let x = stepAnswer s a d i bs (tables a) in byteOf (x .level) (x .old) ∷ traceOf s d bs tables m (x .next) (x .index)

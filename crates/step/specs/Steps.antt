@@ -8,9 +8,8 @@ use Rattle.refusals.specs.declared.Refusal.{Refusal}
 use Rattle.refusals.specs.Refusals.{none, plain, refusedAt, _or-else_, _unless_, answer}
 use Rattle.room.specs.declared.Shape.{Shape}
 use Rattle.room.specs.Refusals.{pairRefusal, serverNumbers}
-use Rattle.room.specs.declared.Number.{Number}
-use Rattle.room.specs.Answers.{aNumber}
-use Rattle.path.specs.Walks.{hopTo, hopRefusal, hopNumbers}
+use Rattle.path.specs.Walks.{hopRefusal, hopNumbers}
+use Rattle.path.specs.Answers.{hopBy}
 use Rattle.step.specs.declared.Step.{Step}
 
 -- byte j of the entry of path byte b in a neighbour table
@@ -63,13 +62,9 @@ atHop r = eqb r 8 || eqb r 9 || eqb r 10 || eqb r 19
 unfoldable pub withPlace : ℕ → ℕ → Refusal
 withPlace i r = cond (atHop r) (refusedAt r 1 (i + 1)) (plain r)
 
--- no next server, refused or delivered
-abbrev pub noNext : Refusal → Number
-noNext r = record { refusal = r; value = 0 }
-
 -- a step that goes nowhere, refused or delivered: all else is zero
 abbrev pub standing : Refusal → Bool → Step
-standing r t = record { refusal = r; delivered = t; next = 0; index = 0; mac = replicate 6 0; port = 0 }
+standing r t = record { refusal = r; delivered = t; next = 0; index = 0; mac = replicate 6 0; port = 0; level = 0; old = 0 }
 
 abbrev pub noStep : Refusal → Step
 noStep r = standing r false
@@ -77,15 +72,12 @@ noStep r = standing r false
 abbrev pub delivery : Step
 delivery = standing none true
 
--- the hop by byte b: the next server, i + 1, the MAC and the OutPort as stored (rule 7.3)
+-- the hop by byte b: the next server, i + 1, the MAC and the OutPort as stored, the level and the old value (rule 7.3)
 abbrev pub forwarded : Shape → ℕ → ℕ → List ℕ → ℕ → Step
-forwarded s a i e b = record { refusal = none; delivered = false; next = hopTo s a b; index = i + 1; mac = macAt e b; port = portAt e b }
+forwarded s a i e b =
+    let h = hopBy s a b in
+    record { refusal = none; delivered = false; next = h .next; index = i + 1; mac = macAt e b; port = portAt e b; level = h .level; old = h .old }
 
 unfoldable pub stepAnswer : Shape → ℕ → ℕ → ℕ → List ℕ → List ℕ → Step
 stepAnswer s a d i bs e =
     answer (stepRefusal s a d i bs e) (λ r. noStep (withPlace i r)) (cond (eqb a d) delivery (forwarded s a i e (getD bs i 0)))
-
--- the next server, which is 0 at a delivery
-unfoldable pub nextAnswer : Shape → ℕ → ℕ → ℕ → List ℕ → List ℕ → Number
-nextAnswer s a d i bs e =
-    answer (stepRefusal s a d i bs e) (λ r. noNext (withPlace i r)) (aNumber (cond (eqb a d) 0 (hopTo s a (getD bs i 0))))

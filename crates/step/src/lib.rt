@@ -1,6 +1,6 @@
 // One forwarding step: where a packet goes next, by its path bytes and its server's neighbour table.
 use refusals::Refusal;
-// next.rt: the next server
+// next.rt: the next hop
 mod next;
 // steps.rt: the step
 mod steps;
@@ -9,8 +9,8 @@ mod tests;
 
 pub use steps::step_once;
 
-// Where a packet goes next: the next server, the next hop index, and the MAC and OutPort as stored;
-// or delivered, and zeros; or a refusal, false and zeros.
+// Where a packet goes next: the next server, the next hop index, the MAC and OutPort as stored, and the
+// level of the hop with the value that it replaces there; or delivered, and zeros; or a refusal, false and zeros.
 pub struct Step {
     pub refusal: Refusal,
     pub delivered: bool,
@@ -18,6 +18,8 @@ pub struct Step {
     pub index: usize,
     pub mac: [u8; 6],
     pub port: u8,
+    pub level: usize,
+    pub old: usize,
 }
 
 impl Step {

@@ -3,7 +3,7 @@ ghost use mathlib.Core.Path.{_≡_};
 ghost use lib.ListN.{length};
 ghost use Rattle.step.specs.Steps.{macAt, standing, stepAnswer};
 use crate::Step;
-use crate::next::next_server;
+use crate::next::next_hop;
 use refusals::Refusal;
 use room::Shape;
 
@@ -18,6 +18,8 @@ fn stand(refusal: Refusal, delivered: bool) -> Step
         index: 0,
         mac: [0; 6],
         port: 0,
+        level: 0,
+        old: 0,
     }
 }
 
@@ -49,8 +51,8 @@ pub fn step_once(
 ) -> Step
     ensures { λ r. ⌜ r ≡ stepAnswer shape here destination index (now (path .entry)) (now (table .entry)) ⌝ }
 {
-    let next = next_server(shape, here, destination, index, path, table);
-    let refusal = next.refusal;
+    let hop = next_hop(shape, here, destination, index, path, table);
+    let refusal = hop.refusal;
     if refusal.number != 0 {
         return stand(refusal, false);
     }
@@ -62,9 +64,11 @@ pub fn step_once(
     Step {
         refusal: Refusal::none(),
         delivered: false,
-        next: next.value,
+        next: hop.next,
         index: index + 1,
         mac: mac_at(table, byte),
         port: table[port],
+        level: hop.level,
+        old: hop.old,
     }
 }

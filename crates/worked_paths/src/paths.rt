@@ -86,13 +86,14 @@ pub(crate) fn refused_readings() {
     read_row(eight, 0, 4095, b"\x01\x41\x81\xc1\x02\x42\x82\x83");
 }
 
-// A route from 1 to 521 and back, and every refusal of the writer.
+// A route from 1 to 521 and back, one of eight hops, and every refusal of the writer.
 pub(crate) fn writings() {
     let eight = Shape::full(8, 3);
     let four = Shape::full(4, 1);
     let two = Shape::full(2, 0);
     reverse_row(eight, 1, 521, b"\xc1\x41\0\0\0\0\0\0");
     reverse_row(eight, 521, 1, b"\x40\xc0\0\0\0\0\0\0");
+    reverse_row(eight, 4095, 585, b"\xc0\x82\x42\x02\xc1\x81\x41\x01");
     reverse_row(two, 1, 0, b"\0\0\0\0\0\0\0\0");
     reverse_row(four, 0, 3, b"\x01\x03\0\0\0\0\0\0");
     reverse_row(four, 0, 3, b"\x03\0\0");

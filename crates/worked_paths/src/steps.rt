@@ -35,23 +35,27 @@ fn step_row(shape: Shape, here: usize, destination: usize, index: usize, path: &
     answered(step::step_once(shape, here, destination, index, path, &table));
 }
 
-fn answered(answer: Step) {
+// All that a step answers: what is not answered at a refusal or a delivery is zero.
+pub(crate) fn answered(answer: Step) {
     let refusal = answer.refusal;
+    print::text(b" =");
     if refusal.number != 0 {
-        print::refused(refusal);
-        return;
+        print::refused_item(refusal);
     }
     if answer.delivered {
-        print::text(b" = delivered\n");
-        return;
+        print::text(b" delivered");
     }
-    print::text(b" = next");
+    print::text(b" next");
     print::item(answer.next);
     print::text(b" index");
     print::item(answer.index);
     mac(answer);
     print::text(b" port");
     print::item(answer.port as usize);
+    print::text(b" level");
+    print::item(answer.level);
+    print::text(b" old");
+    print::item(answer.old);
     print::end();
 }
 

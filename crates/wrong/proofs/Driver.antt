@@ -1,7 +1,7 @@
 -- Wrong answers of `driver`, refuted.
 use Prim.Native.Nat.{ℕ, zero, suc, _-_, _≤_, _<_}
 use mathlib.Core.Path.{_≡_, refl, sym, ap, _∙_, subst}
-use mathlib.Core.Logic.{_≢_, inl, inr}
+use mathlib.Core.Logic.{_≢_, _⊎_, inl, inr}
 use mathlib.Core.Bool.{true, false}
 use mathlib.Core.List.{List, [], _∷_}
 use native.Mathlib.Omega.{arith}
@@ -28,7 +28,7 @@ use Rattle.summary.specs.Answers.{linkAnswer, linkTable, linkSummary, allBits, 
 use Rattle.path.specs.Routes.{byteOf, switchAt, levelTo, switchTo, byteTo, encode, RouteTo}
 use Rattle.path.specs.Walks.{stopped, arrived, hopTo, hopRefusal, fault, ended, walkFrom, walk, writeFault, writeFrom}
 use Rattle.path.specs.Bytes.{madeRefusal, byteAnswer, partsRefusal, partsAnswer}
-use Rattle.path.specs.Answers.{arrayRefusal, walkAnswer, readAnswer, reverseAnswer, serversRefusal, writeRefusal, onTheWay, writeAnswer}
+use Rattle.path.specs.Answers.{hopFrom, hopAnswer, arrayRefusal, walkAnswer, readAnswer, reverseAnswer, serversRefusal, writeRefusal, onTheWay, writeAnswer}
 use Rattle.verdict.specs.Checks.{arrays, disjoint, switchesIn, between, parallel, firstStop, firstMeeting, firstOf, firstPair, listRefusal, walksOf, checkAnswer}
 use Rattle.build.specs.Built.{plusOne, builtHops, bytesOf as builtBytesOf, builtBytes, builtArrays}
 use Rattle.build.specs.Sets.{joined, setOf, arrayIn}
@@ -41,15 +41,17 @@ use Rattle.select.specs.Selection.{Selecting}
 use Rattle.select.proofs.SelectLaws.{none-selected-exactly}
 use Rattle.pick.specs.Picks.{usable, firstUsable, firstUsableIn, found, fits, listsRefusal, pickSource, pickRefusal}
 use Rattle.pick.specs.Places.{placeAnswer}
+use Rattle.step.specs.declared.Step.{Step}
 use Rattle.step.specs.Steps.{entry, macAt, portAt, flagAt, givenRefusal, byteRefusal, awayRefusal, stepRefusal, atHop, withPlace, stepAnswer}
 use Rattle.driver.specs.declared.Room.{Room}
 use Rattle.driver.specs.declared.Answer.{Answer}
 use Rattle.driver.specs.declared.Stepped.{Stepped}
 use Rattle.driver.specs.Rooms.{held, roomOf, shapeIn}
 use Rattle.driver.specs.Words.{word, refusalIn, valueIn, left, betweenWord, askedWord, deadWord}
-use Rattle.driver.specs.Packed.{bytesNumber, macNumber, stepWord, packed}
+use Rattle.driver.specs.Packed.{Bytes, bytesNumber, macNumber, stepWord, packed, unpacked}
 use Rattle.driver.specs.Routes.{FoundWord, SelectedWord}
 use Rattle.driver.proofs.WordLaws.{refusal-back, value-back, left-given, left-lent}
+use Rattle.driver.proofs.PackLaws.{word-fields, step-small, step-unpacks}
 use Rattle.driver.proofs.RouteSmall.{find-small, select-small}
 use Rattle.wrong.specs.Never.{Loan}
 use Rattle.wrong.specs.Examples.{array, failing, direct, tied, stale}
@@ -58,6 +60,7 @@ use Rattle.wrong.proofs.Clash.{differ, clash, clash-left, bit}
 use Rattle.wrong.proofs.Routes.{Walks, walks}
 use Rattle.wrong.proofs.Finder.{no-route, beaten, fewest, no-refusal, some-hops}
 use Rattle.wrong.proofs.Select.{straight, first-walks, one-route, slot-1-first}
+use Rattle.wrong.proofs.Step.{nothing-left}
 
 -- the whole word of an answer
 abbrev said : Answer → ℕ
@@ -167,10 +170,25 @@ refused-16 {r} h z =
     dead : links.Dead (fullRoom 4 1) (failing 7 3) 7
     dead = record { all = each }
 
+-- ---- the way back
+
+-- at a delivery, or on a refusal, the highest byte of a step's word is zero
+no-back : (c : Room) (a d i : ℕ) (bs es : List ℕ) {y : Stepped} → Bytes es → y ≡ packed (stepAnswer (shapeIn c) a d i bs es) → (unpacked y .delivered ≡ true) ⊎ (unpacked y .refusal .number ≢ 0) → 72057594037927936 ≤ y .word → ⊥
+unfolding packed byteOf
+no-back c a d i bs es {y} h p o f =
+    let x = stepAnswer (shapeIn c) a d i bs es in
+    let u : unpacked y ≡ x = ap unpacked p ∙ step-unpacks (shapeIn c) a d i bs es h in
+    let z = nothing-left (shapeIn c) a d i bs es u o in
+    let b = word-fields x (step-small (shapeIn c) a d i bs es h) .back in
+    let l : x .level ≡ 0 = sym (ap (λ (w : Step). w .level) u) ∙ z .0 in
+    let v : x .old ≡ 0 = sym (ap (λ (w : Step). w .old) u) ∙ z .1 in
+    let w : y .word ≡ stepWord x = ap (λ (k : Stepped). k .word) p in
+    omega (arith, b, l, v, w, f)
+
 -- ---- all of them
 
 pub wrong-driver : (o q b : Loan) → Driver o q b
-unfolding serversOf bound digitsOf addressOf filled differFrom digits digit withDigit switchOf differing _or-else_ shapeRefusal levelRefusal serverRefusal pairRefusal linkRefusal valueRefusal placeBound placesFit placesRefusal serversAnswer boundAnswer digitsAnswer digitAnswer addressAnswer switchAnswer neighbourAnswer betweenAnswer links.bit links.failed links.live links.withBit links.changed links.bitsFit links.fitsLevels links.tableRefusal links.roomTableRefusal links.tableLinkRefusal links.tableServerRefusal failedAnswer numbered switchesBelow switchesInRoom placeOf countBelow countAt summaryOf isDead recounted recountedBelow hasEntries isCounted areCounted countedLinkRefusal countedServerRefusal summaryRefusal entriesRefusal linkAnswer linkTable linkSummary allBits changedServer serverAnswer serverTable serverSummary firstDead deadAnswer freshAnswer freshSummary same isIn inTurn middle byteOf switchAt levelTo switchTo byteTo encode hopTo hopRefusal fault ended walkFrom walk writeFault writeFrom endsRefusal arrayRefusal walkAnswer readAnswer reverseAnswer serversRefusal writeRefusal onTheWay writeAnswer arrays disjoint switchesIn between parallel firstStop firstMeeting firstOf firstPair roomRefusal listRefusal walksOf checkAnswer plusOne builtHops builtBytesOf builtBytes builtArrays joined setOf arrayIn buildAnswer hopBytes usable firstUsable firstUsableIn found fits listsRefusal pickSource pickRefusal placeAnswer entry macAt portAt flagAt givenRefusal byteRefusal awayRefusal stepRefusal atHop withPlace stepAnswer switchesAt serverAt portRefusal switchesAnswer serverAtAnswer madeRefusal byteAnswer partsRefusal partsAnswer held roomOf shapeIn word refusalIn valueIn betweenWord askedWord deadWord bytesNumber macNumber stepWord packed
+unfolding serversOf bound digitsOf addressOf filled differFrom digits digit withDigit switchOf differing _or-else_ shapeRefusal levelRefusal serverRefusal pairRefusal linkRefusal valueRefusal placeBound placesFit placesRefusal serversAnswer boundAnswer digitsAnswer digitAnswer addressAnswer switchAnswer neighbourAnswer betweenAnswer links.bit links.failed links.live links.withBit links.changed links.bitsFit links.fitsLevels links.tableRefusal links.roomTableRefusal links.tableLinkRefusal links.tableServerRefusal failedAnswer numbered switchesBelow switchesInRoom placeOf countBelow countAt summaryOf isDead recounted recountedBelow hasEntries isCounted areCounted countedLinkRefusal countedServerRefusal summaryRefusal entriesRefusal linkAnswer linkTable linkSummary allBits changedServer serverAnswer serverTable serverSummary firstDead deadAnswer freshAnswer freshSummary same isIn inTurn middle byteOf switchAt levelTo switchTo byteTo encode hopTo hopRefusal fault ended walkFrom walk writeFault writeFrom endsRefusal hopFrom hopAnswer arrayRefusal walkAnswer readAnswer reverseAnswer serversRefusal writeRefusal onTheWay writeAnswer arrays disjoint switchesIn between parallel firstStop firstMeeting firstOf firstPair roomRefusal listRefusal walksOf checkAnswer plusOne builtHops builtBytesOf builtBytes builtArrays joined setOf arrayIn buildAnswer hopBytes usable firstUsable firstUsableIn found fits listsRefusal pickSource pickRefusal placeAnswer entry macAt portAt flagAt givenRefusal byteRefusal awayRefusal stepRefusal atHop withPlace stepAnswer switchesAt serverAt portRefusal switchesAnswer serverAtAnswer madeRefusal byteAnswer partsRefusal partsAnswer held roomOf shapeIn word refusalIn valueIn betweenWord askedWord deadWord bytesNumber macNumber stepWord packed
 wrong-driver o q b =
     record {
       version-in-bytes = clash (λ y. y) refl;
@@ -379,6 +397,40 @@ wrong-driver o q b =
       parts-no-place = clash said refl;
       parts-value-m-at-level-k = clash said refl;
       parts-value-5-refused = clash said refl;
+      hop-level-and-old-exchanged = clash said refl;
+      hop-byte-itself = clash said refl;
+      hop-byte-highest = clash said refl;
+      hop-byte-lowest = clash said refl;
+      hop-byte-not-told = clash said refl;
+      hop-level-not-told = clash said refl;
+      hop-old-not-told = clash said refl;
+      hop-level-apart = clash said refl;
+      hop-old-at-the-level-below = clash said refl;
+      hop-stays = clash said refl;
+      hop-number-cut = clash said refl;
+      hop-byte-cut = clash said refl;
+      hop-server-cut = clash said refl;
+      hop-zero-byte-is-no-hop = clash said refl;
+      hop-zero-byte-leaves-nothing = clash said refl;
+      hop-eight-with-no-place = clash said refl;
+      hop-nine-with-no-place = clash said refl;
+      hop-ten-with-no-place = clash said refl;
+      hop-eight-at-route-0 = clash said refl;
+      hop-nine-at-hop-2 = clash said refl;
+      hop-ten-at-hop-0 = clash said refl;
+      hop-four-with-a-place = clash said refl;
+      hop-value-before-position = clash said refl;
+      hop-position-before-address = clash said refl;
+      hop-next-with-10 = clash said refl;
+      hop-byte-with-10 = clash said refl;
+      hop-next-with-9 = clash said refl;
+      hop-byte-with-9 = clash said refl;
+      hop-to-value-m = clash said refl;
+      hop-four-for-nine = clash said refl;
+      hop-value-5-refused = clash said refl;
+      hop-new-value-at-level-k = clash said refl;
+      hop-old-to-the-base-m = clash said refl;
+      hop-in-the-full-room = clash said refl;
       read-hops-for-servers = λ κ x p. differ said refl (p .0);
       read-route-and-hop-exchanged = λ κ x p. differ said refl (p .0);
       read-not-written = λ κ r x p. clash-left 0 refl (p .1);
@@ -400,6 +452,17 @@ wrong-driver o q b =
       reverse-bytes-turned-round = λ κ r x p. clash-left 0 refl (p .1);
       reverse-not-written = λ κ r x p. clash-left 0 refl (p .1);
       reverse-touched = λ κ r x p. clash-left 0 refl (p .1);
+      reverse-bytes-turned-round-at-level-k = λ κ r x p. clash-left 0 refl (p .1);
+      reverse-trace-not-turned-round = λ κ r x p. clash-left 0 refl (p .1);
+      reverse-last-hop-left-out = λ κ r x p. clash-left 0 refl (p .1);
+      reverse-first-hop-left-out = λ κ r x p. clash-left 1 refl (p .1);
+      reverse-zeros-before = λ κ r x p. clash-left 0 refl (p .1);
+      reverse-zeros-forgotten = λ κ r x p. clash-left 2 refl (p .1);
+      reverse-zero-byte-is-the-end = λ κ x p. differ said refl (p .0);
+      reverse-nothing-before-a-zero-byte = λ κ r x p. clash-left 0 refl (p .1);
+      reverse-zero-byte-left-out = λ κ r x p. clash-left 0 refl (p .1);
+      reverse-way-back-cut = λ κ r x p. clash-left 4 refl (p .1);
+      reverse-way-back-on-refusal = λ κ r x p. clash-left 1 refl (p .1);
       reversed-by-value-m = λ κ r x p. clash-left 0 refl (p .1);
       reverse-by-value-3-refused = λ κ x p. differ said refl (p .0);
       reversed-in-the-full-room = λ κ r x p. clash-left 0 refl (p .1);
@@ -459,4 +522,23 @@ wrong-driver o q b =
       step-four-for-nine = clash (λ (y : Stepped). y .word) refl;
       step-value-3-refused = clash (λ (y : Stepped). y .word) refl;
       step-in-the-full-room = clash (λ (y : Stepped). y .word) refl;
+      step-back-not-told = clash (λ (y : Stepped). y .word) refl;
+      step-byte-itself = clash (λ (y : Stepped). y .word) refl;
+      step-new-value-at-level-k = clash (λ (y : Stepped). y .word) refl;
+      step-old-of-the-destination = clash (λ (y : Stepped). y .word) refl;
+      step-level-and-old-exchanged = clash (λ (y : Stepped). y .word) refl;
+      step-level-not-told = clash (λ (y : Stepped). y .word) refl;
+      step-old-not-told = clash (λ (y : Stepped). y .word) refl;
+      step-level-of-the-next-byte = clash (λ (y : Stepped). y .word) refl;
+      step-level-told-as-port = clash (λ (y : Stepped). y .word) refl;
+      step-port-and-back-exchanged = clash (λ (y : Stepped). y .word) refl;
+      step-byte-at-delivery = clash (λ (y : Stepped). y .word) refl;
+      step-level-at-delivery = clash (λ (y : Stepped). y .word) refl;
+      step-old-at-delivery = clash (λ (y : Stepped). y .word) refl;
+      step-last-back-at-delivery = clash (λ (y : Stepped). y .word) refl;
+      step-back-with-19 = clash (λ (y : Stepped). y .word) refl;
+      step-back-with-18 = clash (λ (y : Stepped). y .word) refl;
+      step-back-with-10 = clash (λ (y : Stepped). y .word) refl;
+      step-any-back-at-delivery = λ c a d i bs es y h t f κ x p. no-back c a d i bs es h p (inl t) f;
+      step-any-back-on-refusal = λ c a d i bs es y h n f κ x p. no-back c a d i bs es h p (inr n) f;
     }

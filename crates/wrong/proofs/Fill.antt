@@ -36,7 +36,7 @@ use Rattle.path.specs.declared.Writing.{Writing}
 use Rattle.path.specs.Routes.{byteOf}
 use Rattle.path.specs.Walks.{hopTo, hopRefusal, fault, ended, walkFrom, walk, writeFault, writeFrom}
 use Rattle.path.specs.Bytes.{madeRefusal, byteAnswer, partsRefusal, partsAnswer}
-use Rattle.path.specs.Answers.{arrayRefusal, walkAnswer, readAnswer, reverseAnswer, hopAnswer, serversRefusal, writeRefusal, onTheWay, writeAnswer}
+use Rattle.path.specs.Answers.{arrayRefusal, walkAnswer, readAnswer, reverseAnswer, hopFrom, hopAnswer, serversRefusal, writeRefusal, onTheWay, writeAnswer}
 use Rattle.verdict.specs.Checks.{listRefusal, checkAnswer}
 use Rattle.build.specs.declared.Building.{Building}
 use Rattle.build.specs.Built.{builtArrays}
@@ -55,7 +55,7 @@ use Rattle.step.specs.Steps.{givenRefusal, stepRefusal, atHop, withPlace, stepA
 use Rattle.driver.specs.declared.Answer.{Answer}
 use Rattle.driver.specs.declared.Stepped.{Stepped}
 use Rattle.driver.specs.Rooms.{held, roomOf, shapeIn}
-use Rattle.driver.specs.Words.{word, refusalIn, numberWord, digitsWord, switchWord, partsWord, readingWord, writingWord, buildingWord, placeWord, betweenWord, askedWord, deadWord}
+use Rattle.driver.specs.Words.{word, refusalIn, numberWord, digitsWord, switchWord, partsWord, hopWord, readingWord, writingWord, buildingWord, placeWord, betweenWord, askedWord, deadWord}
 use Rattle.driver.specs.Packed.{stepWord, packed, stepIn, unpacked}
 use Rattle.wrong.specs.Never.{Loan}
 use Rattle.wrong.specs.Examples.{array}
@@ -100,7 +100,7 @@ abbrev said : Answer → ℕ
 said y = refusalIn y .number
 
 pub wrong-fill : (o q b : Loan) → Fill o q b
-unfolding serversOf bound digitsOf addressOf filled differFrom digits digit withDigit switchOf differing _or-else_ shapeRefusal levelRefusal serverRefusal pairRefusal linkRefusal valueRefusal placeBound placesFit placesRefusal serversAnswer boundAnswer digitsAnswer digitAnswer addressAnswer switchAnswer neighbourAnswer betweenAnswer links.bit links.failed links.live links.tableRefusal links.tableLinkRefusal links.tableServerRefusal links.roomTableRefusal failedAnswer countedLinkRefusal countedServerRefusal summaryRefusal entriesRefusal linkAnswer serverAnswer deadAnswer freshAnswer isIn byteOf hopTo hopRefusal fault ended walkFrom walk writeFault writeFrom endsRefusal hopAnswer arrayRefusal walkAnswer readAnswer reverseAnswer serversRefusal writeRefusal onTheWay writeAnswer roomRefusal listRefusal checkAnswer builtArrays setOf buildAnswer listsRefusal pickSource pickRefusal placeAnswer givenRefusal stepRefusal atHop withPlace stepAnswer switchesAt serverAt portRefusal switchesAnswer serverAtAnswer madeRefusal byteAnswer partsRefusal partsAnswer held roomOf shapeIn word refusalIn betweenWord askedWord deadWord stepWord packed layRefusal pickAnswer stepIn unpacked
+unfolding serversOf bound digitsOf addressOf filled differFrom digits digit withDigit switchOf differing _or-else_ shapeRefusal levelRefusal serverRefusal pairRefusal linkRefusal valueRefusal placeBound placesFit placesRefusal serversAnswer boundAnswer digitsAnswer digitAnswer addressAnswer switchAnswer neighbourAnswer betweenAnswer links.bit links.failed links.live links.tableRefusal links.tableLinkRefusal links.tableServerRefusal links.roomTableRefusal failedAnswer countedLinkRefusal countedServerRefusal summaryRefusal entriesRefusal linkAnswer serverAnswer deadAnswer freshAnswer isIn byteOf hopTo hopRefusal fault ended walkFrom walk writeFault writeFrom endsRefusal hopFrom hopAnswer arrayRefusal walkAnswer readAnswer reverseAnswer serversRefusal writeRefusal onTheWay writeAnswer roomRefusal listRefusal checkAnswer builtArrays setOf buildAnswer listsRefusal pickSource pickRefusal placeAnswer givenRefusal stepRefusal atHop withPlace stepAnswer switchesAt serverAt portRefusal switchesAnswer serverAtAnswer madeRefusal byteAnswer partsRefusal partsAnswer held roomOf shapeIn word refusalIn betweenWord askedWord deadWord stepWord packed layRefusal pickAnswer stepIn unpacked
 wrong-fill o q b =
     record {
       shape-refusal = λ s v m κ y x. never (λ y. y) shapeRefusal refl s v m;
@@ -131,7 +131,7 @@ wrong-fill o q b =
       summarize = λ s v m κ y x p. never number (λ s. freshAnswer s [] []) refl s v m (p .0);
       byte-of = λ s v m κ y x. never (λ (y : Number). y .refusal .number) (λ s. byteAnswer s 0 1) refl s v m;
       parts-of = λ s v m κ y x. never (λ (y : Parts). y .refusal .number) (λ s. partsAnswer s 0x01) refl s v m;
-      hop-of = λ s v m κ y x. never (λ (y : Hop). y .number) (λ s. hopAnswer s 0 0x01) refl s v m;
+      hop-of = λ s v m κ y x. never (λ (y : Hop). y .refusal .number) (λ s. hopAnswer s 0 0x01) refl s v m;
       walk = λ s v m κ y x. never (λ (y : Walked). y .refusal .number) (λ s. walkAnswer s [] 0 1 (array (0x01 ∷ []))) refl s v m;
       read-path = λ s v m κ y x. never (λ (y : Reading). y .refusal .number) (λ s. readAnswer s 0 1 (array (0x01 ∷ []))) refl s v m;
       write-path = λ s v m κ y x. never (λ (y : Writing). y .refusal .number) (λ s. writeAnswer s (0 ∷ 1 ∷ [])) refl s v m;
@@ -164,6 +164,7 @@ wrong-fill o q b =
       bcube-summarize = λ c v m κ y x p. never said (λ c. word (freshAnswer (shapeIn c) [] []) 0) refl c v m (p .0);
       bcube-path-byte = λ c v m κ y x. never said (λ c. numberWord (byteAnswer (shapeIn c) 0 1)) refl c v m;
       bcube-path-byte-parts = λ c v m κ y x. never said (λ c. partsWord (partsAnswer (shapeIn c) 0x01)) refl c v m;
+      bcube-hop-of = λ c v m κ y x. never said (λ c. hopWord (hopAnswer (shapeIn c) 0 0x01)) refl c v m;
       bcube-read = λ c v m κ y x p. never said (λ c. readingWord (readAnswer (shapeIn c) 0 1 (array (0x01 ∷ [])))) refl c v m (p .0);
       bcube-write = λ c v m κ y x p. never said (λ c. writingWord (writeAnswer (shapeIn c) (0 ∷ 1 ∷ []))) refl c v m (p .0);
       bcube-reverse = λ c v m κ y x p. never said (λ c. writingWord (reverseAnswer (shapeIn c) 0 1 (array (0x01 ∷ [])))) refl c v m (p .0);

@@ -1,17 +1,21 @@
 -- Wrong answers of `driver`, what C calls, wherever the buffers lie: o lends a table, q a summary, or bytes or servers to read, b a buffer to write.
 -- Numbers are those of C, of 64 bits: 4294967297 is 1 where it is cut to 32 bits.
-use Prim.Native.Nat.{_+_, _*_}
+use Prim.Native.Nat.{ℕ, _+_, _*_, _≤_}
+use mathlib.Core.Path.{_≡_}
+use mathlib.Core.Logic.{_≢_}
 use mathlib.Core.Bool.{true, false}
-use mathlib.Core.List.{[], _∷_, _++_}
+use mathlib.Core.List.{List, [], _∷_, _++_}
 use lib.ListN.{replicate, set}
 use Rattle.lists.specs.Lists.{filled}
 use Rattle.refusals.specs.Refusals.{none, plain, refusedAt}
 use Rattle.build.specs.Sets.{joined}
 use Rattle.step.specs.declared.Step.{Step}
 use Rattle.step.specs.Steps.{noStep}
+use Rattle.driver.specs.declared.Room.{Room}
+use Rattle.driver.specs.declared.Stepped.{Stepped}
 use Rattle.driver.specs.Rooms.{roomOf}
 use Rattle.driver.specs.Words.{word}
-use Rattle.driver.specs.Packed.{packed}
+use Rattle.driver.specs.Packed.{Bytes, macNumber, packed, unpacked}
 use Rattle.driver.proofs.bcube_version.Reads as bcube-version
 use Rattle.driver.proofs.bcube_room_of.Reads as bcube-room-of
 use Rattle.driver.proofs.bcube_filled_room.Reads as bcube-filled-room
@@ -35,6 +39,7 @@ use Rattle.driver.proofs.bcube_dead_switch.Reads as bcube-dead-switch
 use Rattle.driver.proofs.bcube_summarize.Reads as bcube-summarize
 use Rattle.driver.proofs.bcube_path_byte.Reads as bcube-path-byte
 use Rattle.driver.proofs.bcube_path_byte_parts.Reads as bcube-path-byte-parts
+use Rattle.driver.proofs.bcube_hop_of.Reads as bcube-hop-of
 use Rattle.driver.proofs.bcube_read.Reads as bcube-read
 use Rattle.driver.proofs.bcube_write.Reads as bcube-write
 use Rattle.driver.proofs.bcube_reverse.Reads as bcube-reverse
@@ -45,18 +50,19 @@ use Rattle.driver.proofs.bcube_select.Reads as bcube-select
 use Rattle.driver.proofs.bcube_pick.Reads as bcube-pick
 use Rattle.driver.proofs.bcube_step.Reads as bcube-step
 use Rattle.wrong.specs.Never.{Never, NeverLeaves, Loan, third, fourth, fifth, _&_, _lends_}
-use Rattle.wrong.specs.Examples.{array, healthy, failing, unmarked, counting, halfHealthy, halfFailing, halfUnmarked, halfCounting, direct, other, tied, cutOff, mac, neighbour, stale}
+use Rattle.wrong.specs.Examples.{array, healthy, failing, eightHops, unmarked, counting, halfHealthy, halfFailing, halfUnmarked, halfCounting, direct, other, tied, cutOff, mac, neighbour, stale}
+use Rattle.wrong.specs.Step.{around, left-with, stood-with}
 
 -- the step from 00 of (4,1) to 10, by byte 41 of the path bytes 41 03
 abbrev pub went : Step
-went = record { refusal = none; delivered = false; next = 4; index = 1; mac = mac; port = 7 }
+went = record { refusal = none; delivered = false; next = 4; index = 1; mac = mac; port = 7; level = 1; old = 0 }
 
 pub record Driver (o q b : Loan) : Type 0 where
   -- ---- bcube_version
   -- the numbers packed in bytes
-  pub version-in-bytes : Never bcube-version.Post tt 0x040000
+  pub version-in-bytes : Never bcube-version.Post tt 0x040100
   -- the version before
-  pub version-before : Never bcube-version.Post tt 30000
+  pub version-before : Never bcube-version.Post tt 40000
   -- the first number alone
   pub version-first-alone : Never bcube-version.Post tt 4
   -- ---- bcube_room_of
@@ -487,6 +493,75 @@ pub record Driver (o q b : Loan) : Type 0 where
   pub parts-value-m-at-level-k : Never bcube-path-byte-parts.Post (roomOf 8 3 4 & 0xc4 & tt) (word none 772)
   -- the bound of level 0 as m: byte 05 refused
   pub parts-value-5-refused : Never bcube-path-byte-parts.Post (roomOf 8 3 4 & 0x05 & tt) (word (refusedAt 9 1 1) 0)
+  -- ---- bcube_hop_of, from 2567 of (8,3) by byte c4, where not said otherwise: to 4567, and the path byte of the way back is c2
+  -- level and old value exchanged
+  pub hop-level-and-old-exchanged : Never bcube-hop-of.Post (roomOf 8 3 8 & 1399 & 0xc4 & tt) (word none (2423 + 65536 * 0x83))
+  -- the new value for the old, so that it is the byte of the hop itself
+  pub hop-byte-itself : Never bcube-hop-of.Post (roomOf 8 3 8 & 1399 & 0xc4 & tt) (word none (2423 + 65536 * 0xc4))
+  -- the byte in the highest of the value's four
+  pub hop-byte-highest : Never bcube-hop-of.Post (roomOf 8 3 8 & 1399 & 0xc4 & tt) (word none (2423 + 16777216 * 0xc2))
+  -- the byte below the server
+  pub hop-byte-lowest : Never bcube-hop-of.Post (roomOf 8 3 8 & 1399 & 0xc4 & tt) (word none (0xc2 + 256 * 2423))
+  -- the byte not told
+  pub hop-byte-not-told : Never bcube-hop-of.Post (roomOf 8 3 8 & 1399 & 0xc4 & tt) (word none 2423)
+  -- the level not told
+  pub hop-level-not-told : Never bcube-hop-of.Post (roomOf 8 3 8 & 1399 & 0xc4 & tt) (word none (2423 + 65536 * 0x02))
+  -- the old value not told
+  pub hop-old-not-told : Never bcube-hop-of.Post (roomOf 8 3 8 & 1399 & 0xc4 & tt) (word none (2423 + 65536 * 0xc0))
+  -- the level in a byte of its own
+  pub hop-level-apart : Never bcube-hop-of.Post (roomOf 8 3 8 & 1399 & 0xc4 & tt) (word none (2423 + 65536 * (256 * 3 + 2)))
+  -- the old value at the level below
+  pub hop-old-at-the-level-below : Never bcube-hop-of.Post (roomOf 8 3 8 & 1399 & 0xc4 & tt) (word none (2423 + 65536 * 0xc5))
+  -- the server hopped from
+  pub hop-stays : Never bcube-hop-of.Post (roomOf 8 3 8 & 1399 & 0xc4 & tt) (word none (1399 + 65536 * 0xc2))
+  -- a number above 255 cut to its low byte: 142 from 00 of (4,1)
+  pub hop-number-cut : Never bcube-hop-of.Post (roomOf 4 1 4 & 0 & 0x142 & tt) (word none (8 + 65536 * 0x40))
+  -- a byte cut to 32 bits: 42
+  pub hop-byte-cut : Never bcube-hop-of.Post (roomOf 4 1 4 & 0 & 4294967362 & tt) (word none (8 + 65536 * 0x40))
+  -- the server cut to 32 bits
+  pub hop-server-cut : Never bcube-hop-of.Post (roomOf 4 1 4 & 4294967297 & 0x42 & tt) (word none (9 + 65536 * 0x40))
+  -- a zero byte taken for no hop: from 1 of (2,0)
+  pub hop-zero-byte-is-no-hop : Never bcube-hop-of.Post (roomOf 2 0 2 & 1 & 0x00 & tt) (word (refusedAt 10 1 1) 0)
+  -- nothing left behind by a zero byte
+  pub hop-zero-byte-leaves-nothing : Never bcube-hop-of.Post (roomOf 2 0 2 & 1 & 0x00 & tt) (word none 0)
+  -- 8 with no place: byte 80 in (4,1)
+  pub hop-eight-with-no-place : Never bcube-hop-of.Post (roomOf 4 1 4 & 0 & 0x80 & tt) (word (plain 8) 0)
+  -- 9 with no place: byte c4 from 3777 of (8,3,4)
+  pub hop-nine-with-no-place : Never bcube-hop-of.Post (roomOf 8 3 4 & 2047 & 0xc4 & tt) (word (plain 9) 0)
+  -- 10 with no place: byte 41 from 13 of (4,1)
+  pub hop-ten-with-no-place : Never bcube-hop-of.Post (roomOf 4 1 4 & 7 & 0x41 & tt) (word (plain 10) 0)
+  -- 8 at route 0
+  pub hop-eight-at-route-0 : Never bcube-hop-of.Post (roomOf 4 1 4 & 0 & 0x80 & tt) (word (refusedAt 8 0 1) 0)
+  -- 9 at hop 2
+  pub hop-nine-at-hop-2 : Never bcube-hop-of.Post (roomOf 8 3 4 & 2047 & 0xc4 & tt) (word (refusedAt 9 1 2) 0)
+  -- 10 at hop 0
+  pub hop-ten-at-hop-0 : Never bcube-hop-of.Post (roomOf 4 1 4 & 7 & 0x41 & tt) (word (refusedAt 10 1 0) 0)
+  -- 4 with a place: server 16 of (4,1)
+  pub hop-four-with-a-place : Never bcube-hop-of.Post (roomOf 4 1 4 & 16 & 0x41 & tt) (word (refusedAt 4 1 1) 0)
+  -- 9 tested before 8: byte 84 in (4,1)
+  pub hop-value-before-position : Never bcube-hop-of.Post (roomOf 4 1 4 & 0 & 0x84 & tt) (word (refusedAt 9 1 1) 0)
+  -- 8 tested before 4: byte 80 from server 16 of (4,1)
+  pub hop-position-before-address : Never bcube-hop-of.Post (roomOf 4 1 4 & 16 & 0x80 & tt) (word (refusedAt 8 1 1) 0)
+  -- the server told with 10
+  pub hop-next-with-10 : Never bcube-hop-of.Post (roomOf 4 1 4 & 7 & 0x41 & tt) (word (refusedAt 10 1 1) 7)
+  -- the byte told with 10
+  pub hop-byte-with-10 : Never bcube-hop-of.Post (roomOf 4 1 4 & 7 & 0x41 & tt) (word (refusedAt 10 1 1) (65536 * 0x41))
+  -- the server that it would come to told with 9
+  pub hop-next-with-9 : Never bcube-hop-of.Post (roomOf 8 3 4 & 2047 & 0xc4 & tt) (word (refusedAt 9 1 1) 2559)
+  -- the byte told with 9
+  pub hop-byte-with-9 : Never bcube-hop-of.Post (roomOf 8 3 4 & 2047 & 0xc4 & tt) (word (refusedAt 9 1 1) (65536 * 0xc3))
+  -- the bound of level k as n: byte c4 from 0 of (8,3,4)
+  pub hop-to-value-m : Never bcube-hop-of.Post (roomOf 8 3 4 & 0 & 0xc4 & tt) (word none (2048 + 65536 * 0xc0))
+  -- 4 for 9: server 2048 is not below N
+  pub hop-four-for-nine : Never bcube-hop-of.Post (roomOf 8 3 4 & 0 & 0xc4 & tt) (word (plain 4) 0)
+  -- the bound of level 0 as m: byte 05 refused
+  pub hop-value-5-refused : Never bcube-hop-of.Post (roomOf 8 3 4 & 0 & 0x05 & tt) (word (refusedAt 9 1 1) 0)
+  -- the new value for the old at level k: from 3777 of (8,3,4) by byte c0
+  pub hop-new-value-at-level-k : Never bcube-hop-of.Post (roomOf 8 3 4 & 2047 & 0xc0 & tt) (word none (511 + 65536 * 0xc0))
+  -- the old value to the base m: from 3001 of (8,3,4) by byte c1
+  pub hop-old-to-the-base-m : Never bcube-hop-of.Post (roomOf 8 3 4 & 1537 & 0xc1 & tt) (word none (513 + 65536 * 0xc0))
+  -- N as n to the power k + 1: from server 8 of (4,1,2) by byte 40
+  pub hop-in-the-full-room : Never bcube-hop-of.Post (roomOf 4 1 2 & 8 & 0x40 & tt) (word none (65536 * 0x42))
   -- ---- bcube_read
   -- the hops for the servers: 1 to 521 of (8,3) by c1 41
   pub read-hops-for-servers : Never bcube-read.Post (roomOf 8 3 8 & 1 & 521 & q lends array (0xc1 ∷ 0x41 ∷ []) & b lends stale 9 & tt) (word none 2)
@@ -532,6 +607,28 @@ pub record Driver (o q b : Loan) : Type 0 where
   pub reverse-not-written : NeverLeaves bcube-reverse.Post (roomOf 8 3 8 & 1 & 521 & q lends array (0xc1 ∷ 0x41 ∷ []) & b lends stale 8 & tt) fifth (stale 8)
   -- the buffer touched on refusal 5
   pub reverse-touched : NeverLeaves bcube-reverse.Post (roomOf 8 3 8 & 1 & 1 & q lends array (0xc1 ∷ 0x41 ∷ []) & b lends stale 8 & tt) fifth (replicate 8 0)
+  -- new values in place of the old ones, in a room that is not full: 3001 to 3011 of (8,3,4) by c0 41 c3
+  pub reverse-bytes-turned-round-at-level-k : NeverLeaves bcube-reverse.Post (roomOf 8 3 4 & 1537 & 1545 & q lends array (0xc0 ∷ 0x41 ∷ 0xc3 ∷ []) & b lends stale 8 & tt) fifth (array (0xc3 ∷ 0x41 ∷ 0xc0 ∷ []))
+  -- the trace not turned round: the old values, first hop first
+  pub reverse-trace-not-turned-round : NeverLeaves bcube-reverse.Post (roomOf 8 3 8 & 1 & 521 & q lends array (0xc1 ∷ 0x41 ∷ []) & b lends stale 8 & tt) fifth (array (0xc0 ∷ 0x40 ∷ []))
+  -- the byte of the last hop left out
+  pub reverse-last-hop-left-out : NeverLeaves bcube-reverse.Post (roomOf 8 3 8 & 1 & 521 & q lends array (0xc1 ∷ 0x41 ∷ []) & b lends stale 8 & tt) fifth (array (0xc0 ∷ []))
+  -- the byte of the first hop left out
+  pub reverse-first-hop-left-out : NeverLeaves bcube-reverse.Post (roomOf 8 3 8 & 1 & 521 & q lends array (0xc1 ∷ 0x41 ∷ []) & b lends stale 8 & tt) fifth (array (0x40 ∷ []))
+  -- the zeros before the bytes, and not after
+  pub reverse-zeros-before : NeverLeaves bcube-reverse.Post (roomOf 8 3 8 & 1 & 521 & q lends array (0xc1 ∷ 0x41 ∷ []) & b lends stale 8 & tt) fifth (replicate 6 0 ++ (0x40 ∷ 0xc0 ∷ []))
+  -- bytes past the way back left as they were lent
+  pub reverse-zeros-forgotten : NeverLeaves bcube-reverse.Post (roomOf 8 3 8 & 1 & 521 & q lends array (0xc1 ∷ 0x41 ∷ []) & b lends stale 8 & tt) fifth (0x40 ∷ 0xc0 ∷ stale 6)
+  -- a zero byte taken for the end: 01 to 10 of (4,1) by 00 41, and not arrived
+  pub reverse-zero-byte-is-the-end : Never bcube-reverse.Post (roomOf 4 1 4 & 1 & 4 & q lends array (0x00 ∷ 0x41 ∷ []) & b lends stale 8 & tt) (word (refusedAt 13 1 8) 0)
+  -- the same, with the bytes of no hop
+  pub reverse-nothing-before-a-zero-byte : NeverLeaves bcube-reverse.Post (roomOf 4 1 4 & 1 & 4 & q lends array (0x00 ∷ 0x41 ∷ []) & b lends stale 8 & tt) fifth (array [])
+  -- a zero byte of the way back left out: 10 to 01 of (4,1) by 40 01, backwards 00 41
+  pub reverse-zero-byte-left-out : NeverLeaves bcube-reverse.Post (roomOf 4 1 4 & 4 & 1 & q lends array (0x40 ∷ 0x01 ∷ []) & b lends stale 8 & tt) fifth (array (0x41 ∷ []))
+  -- the way back cut to four bytes: eight hops from 00 to 20 of (4,1)
+  pub reverse-way-back-cut : NeverLeaves bcube-reverse.Post (roomOf 4 1 4 & 0 & 8 & q lends eightHops & b lends stale 8 & tt) fifth (array (0x43 ∷ 0x03 ∷ 0x42 ∷ 0x02 ∷ []))
+  -- the buffer touched on refusal: the way back of the hops before it, 00 to 13 of (4,1) by 41 03 01
+  pub reverse-way-back-on-refusal : NeverLeaves bcube-reverse.Post (roomOf 4 1 4 & 0 & 7 & q lends array (0x41 ∷ 0x03 ∷ 0x01 ∷ []) & b lends stale 8 & tt) fifth (array (0x00 ∷ 0x40 ∷ []))
   -- the bound of level k as n: 0 to 3 of (4,1,2) by 42 03 40
   pub reversed-by-value-m : NeverLeaves bcube-reverse.Post (roomOf 4 1 2 & 0 & 3 & q lends array (0x42 ∷ 0x03 ∷ 0x40 ∷ []) & b lends stale 8 & tt) fifth (array (0x42 ∷ 0x00 ∷ 0x40 ∷ []))
   -- the bound of level 0 as m: byte 03 refused
@@ -636,29 +733,29 @@ pub record Driver (o q b : Loan) : Type 0 where
   pub step-delivery-not-told : Never bcube-step.Post (roomOf 4 1 4 & 7 & 7 & 0 & q lends direct & o lends neighbour 0x41 1 & tt) (record { word = 0; mac = 0 })
   -- the index not raised
   pub step-index-not-raised : Never bcube-step.Post (roomOf 4 1 4 & 0 & 7 & 0 & q lends direct & o lends neighbour 0x41 1 & tt)
-      (packed (record { refusal = none; delivered = false; next = 4; index = 0; mac = mac; port = 7 }))
+      (packed (record { refusal = none; delivered = false; next = 4; index = 0; mac = mac; port = 7; level = 1; old = 0 }))
   -- next server and OutPort exchanged
   pub step-server-and-port-exchanged : Never bcube-step.Post (roomOf 4 1 4 & 0 & 7 & 0 & q lends direct & o lends neighbour 0x41 1 & tt)
-      (packed (record { refusal = none; delivered = false; next = 7; index = 1; mac = mac; port = 4 }))
+      (packed (record { refusal = none; delivered = false; next = 7; index = 1; mac = mac; port = 4; level = 1; old = 0 }))
   -- the index cut to 32 bits
   pub step-index-cut : Never bcube-step.Post (roomOf 4 1 4 & 0 & 7 & 4294967296 & q lends direct & o lends neighbour 0x41 1 & tt) (packed went)
   -- here cut to 32 bits
   pub step-here-cut : Never bcube-step.Post (roomOf 4 1 4 & 4294967296 & 7 & 0 & q lends direct & o lends neighbour 0x41 1 & tt) (packed went)
   -- the MAC's bytes the other way round
   pub step-mac-turned-round : Never bcube-step.Post (roomOf 4 1 4 & 0 & 7 & 0 & q lends direct & o lends neighbour 0x41 1 & tt)
-      (packed (record { refusal = none; delivered = false; next = 4; index = 1; mac = 0x04 ∷ 0x00 ∷ 0x10 ∷ 0x5e ∷ 0x00 ∷ 0x02 ∷ []; port = 7 }))
+      (packed (record { refusal = none; delivered = false; next = 4; index = 1; mac = 0x04 ∷ 0x00 ∷ 0x10 ∷ 0x5e ∷ 0x00 ∷ 0x02 ∷ []; port = 7; level = 1; old = 0 }))
   -- the MAC's two halves exchanged: the last two bytes above the first four
   pub step-mac-halves-exchanged : Never bcube-step.Post (roomOf 4 1 4 & 0 & 7 & 0 & q lends direct & o lends neighbour 0x41 1 & tt)
-      (packed (record { refusal = none; delivered = false; next = 4; index = 1; mac = 0x00 ∷ 0x04 ∷ 0x02 ∷ 0x00 ∷ 0x5e ∷ 0x10 ∷ []; port = 7 }))
+      (packed (record { refusal = none; delivered = false; next = 4; index = 1; mac = 0x00 ∷ 0x04 ∷ 0x02 ∷ 0x00 ∷ 0x5e ∷ 0x10 ∷ []; port = 7; level = 1; old = 0 }))
   -- the MAC of a neighbour that is not available, beside the refusal
   pub step-mac-on-refusal : Never bcube-step.Post (roomOf 4 1 4 & 0 & 7 & 0 & q lends direct & o lends neighbour 0x41 0 & tt)
-      (packed (record { refusal = refusedAt 19 1 1; delivered = false; next = 0; index = 0; mac = mac; port = 0 }))
+      (packed (record { refusal = refusedAt 19 1 1; delivered = false; next = 0; index = 0; mac = mac; port = 0; level = 0; old = 0 }))
   -- the MAC of the byte that the index names, at a delivery
   pub step-mac-at-delivery : Never bcube-step.Post (roomOf 4 1 4 & 7 & 7 & 0 & q lends direct & o lends neighbour 0x41 1 & tt)
-      (packed (record { refusal = none; delivered = true; next = 0; index = 0; mac = mac; port = 0 }))
+      (packed (record { refusal = none; delivered = true; next = 0; index = 0; mac = mac; port = 0; level = 0; old = 0 }))
   -- 9 not given at a value from m to n - 1: byte 42 from 00 of (4,1,2), whose flag is 1
   pub step-value-m-taken : Never bcube-step.Post (roomOf 4 1 2 & 0 & 3 & 0 & q lends array (0x42 ∷ 0x03 ∷ 0x40 ∷ []) & o lends neighbour 0x42 1 & tt)
-      (packed (record { refusal = none; delivered = false; next = 8; index = 1; mac = mac; port = 7 }))
+      (packed (record { refusal = none; delivered = false; next = 8; index = 1; mac = mac; port = 7; level = 1; old = 0 }))
   -- 4 for 9: server 8 is not below N
   pub step-four-for-nine : Never bcube-step.Post (roomOf 4 1 2 & 0 & 3 & 0 & q lends array (0x42 ∷ 0x03 ∷ 0x40 ∷ []) & o lends neighbour 0x42 1 & tt) (record { word = 4; mac = 0 })
   -- the bound of level 0 as m: byte 03 from 00 of (4,1,2) refused
@@ -666,4 +763,46 @@ pub record Driver (o q b : Loan) : Type 0 where
       (packed (noStep (refusedAt 9 1 1)))
   -- N as n to the power k + 1: at server 8 of (4,1,2)
   pub step-in-the-full-room : Never bcube-step.Post (roomOf 4 1 2 & 8 & 3 & 0 & q lends array (0x40 ∷ 0x03 ∷ []) & o lends neighbour 0x40 1 & tt)
-      (packed (record { refusal = none; delivered = false; next = 0; index = 1; mac = mac; port = 7 }))
+      (packed (record { refusal = none; delivered = false; next = 0; index = 1; mac = mac; port = 7; level = 1; old = 2 }))
+  -- ---- the highest byte of the step's word, of a packet at 2567 of (8,3) for 1517 with the path bytes c4 41 c1, where not said
+  -- otherwise: it goes on to 4567, and the path byte of the way back is c2
+  -- the byte zero
+  pub step-back-not-told : Never bcube-step.Post (roomOf 8 3 8 & 1399 & 847 & 0 & q lends around & o lends neighbour 0xc4 1 & tt) (packed (left-with 0 0))
+  -- the new value for the old, so that it is the path byte itself
+  pub step-byte-itself : Never bcube-step.Post (roomOf 8 3 8 & 1399 & 847 & 0 & q lends around & o lends neighbour 0xc4 1 & tt) (packed (left-with 3 4))
+  -- the same in a room that is not full: at 3001 of (8,3,4) for 3011 by c0 41 c3, where the old value is 3
+  pub step-new-value-at-level-k : Never bcube-step.Post (roomOf 8 3 4 & 1537 & 1545 & 0 & q lends array (0xc0 ∷ 0x41 ∷ 0xc3 ∷ []) & o lends neighbour 0xc0 1 & tt)
+      (packed (record { refusal = none; delivered = false; next = 1; index = 1; mac = mac; port = 7; level = 3; old = 0 }))
+  -- the old value of the destination: the digit of 1517 at level 3
+  pub step-old-of-the-destination : Never bcube-step.Post (roomOf 8 3 8 & 1399 & 847 & 0 & q lends around & o lends neighbour 0xc4 1 & tt) (packed (left-with 3 1))
+  -- level and old value exchanged
+  pub step-level-and-old-exchanged : Never bcube-step.Post (roomOf 8 3 8 & 1399 & 847 & 0 & q lends around & o lends neighbour 0xc4 1 & tt) (packed (left-with 2 3))
+  -- the level not told
+  pub step-level-not-told : Never bcube-step.Post (roomOf 8 3 8 & 1399 & 847 & 0 & q lends around & o lends neighbour 0xc4 1 & tt) (packed (left-with 0 2))
+  -- the old value not told
+  pub step-old-not-told : Never bcube-step.Post (roomOf 8 3 8 & 1399 & 847 & 0 & q lends around & o lends neighbour 0xc4 1 & tt) (packed (left-with 3 0))
+  -- the level of the next byte
+  pub step-level-of-the-next-byte : Never bcube-step.Post (roomOf 8 3 8 & 1399 & 847 & 0 & q lends around & o lends neighbour 0xc4 1 & tt) (packed (left-with 1 2))
+  -- the level told as the OutPort
+  pub step-level-told-as-port : Never bcube-step.Post (roomOf 8 3 8 & 1399 & 847 & 0 & q lends around & o lends neighbour 0xc4 1 & tt)
+      (packed (record { refusal = none; delivered = false; next = 2423; index = 1; mac = mac; port = 3; level = 3; old = 2 }))
+  -- OutPort and way back exchanged
+  pub step-port-and-back-exchanged : Never bcube-step.Post (roomOf 8 3 8 & 1399 & 847 & 0 & q lends around & o lends neighbour 0xc4 1 & tt)
+      (record { word = 16777216 * 1 + 4294967296 * 2423 + 281474976710656 * 0xc2 + 72057594037927936 * 7; mac = macNumber mac })
+  -- the byte that the index names told at a delivery
+  pub step-byte-at-delivery : Never bcube-step.Post (roomOf 8 3 8 & 847 & 847 & 0 & q lends around & o lends neighbour 0xc4 1 & tt) (packed (stood-with none true 3 4))
+  -- its level told at a delivery
+  pub step-level-at-delivery : Never bcube-step.Post (roomOf 8 3 8 & 847 & 847 & 0 & q lends around & o lends neighbour 0xc4 1 & tt) (packed (stood-with none true 3 0))
+  -- the digit there told as an old value at a delivery
+  pub step-old-at-delivery : Never bcube-step.Post (roomOf 8 3 8 & 847 & 847 & 0 & q lends around & o lends neighbour 0xc4 1 & tt) (packed (stood-with none true 0 1))
+  -- the way back of the hop that led there told at a delivery, after three hops
+  pub step-last-back-at-delivery : Never bcube-step.Post (roomOf 8 3 8 & 847 & 847 & 3 & q lends around & o lends neighbour 0xc1 1 & tt) (packed (stood-with none true 3 4))
+  -- the way back told with 19
+  pub step-back-with-19 : Never bcube-step.Post (roomOf 8 3 8 & 1399 & 847 & 0 & q lends around & o lends neighbour 0xc4 0 & tt) (packed (stood-with (refusedAt 19 1 1) false 3 2))
+  -- the way back of the last byte told with 18
+  pub step-back-with-18 : Never bcube-step.Post (roomOf 8 3 8 & 1399 & 847 & 8 & q lends replicate 8 0xc4 & o lends neighbour 0xc4 1 & tt) (packed (stood-with (plain 18) false 3 2))
+  -- the way back told with 10: byte c2 changes nothing
+  pub step-back-with-10 : Never bcube-step.Post (roomOf 8 3 8 & 1399 & 847 & 0 & q lends array (0xc2 ∷ []) & o lends neighbour 0xc2 1 & tt) (packed (stood-with (refusedAt 10 1 1) false 3 2))
+  -- any way back told at a delivery, or on a refusal
+  pub step-any-back-at-delivery : (c : Room) (a d i : ℕ) (bs es : List ℕ) (y : Stepped) → Bytes es → unpacked y .delivered ≡ true → 72057594037927936 ≤ y .word → Never bcube-step.Post (c & a & d & i & q lends bs & o lends es & tt) y
+  pub step-any-back-on-refusal : (c : Room) (a d i : ℕ) (bs es : List ℕ) (y : Stepped) → Bytes es → unpacked y .refusal .number ≢ 0 → 72057594037927936 ≤ y .word → Never bcube-step.Post (c & a & d & i & q lends bs & o lends es & tt) y

@@ -69,6 +69,7 @@ use Rattle.driver.proofs.bcube_dead_switch.Reads as bcube-dead-switch-reads
 use Rattle.driver.proofs.bcube_summarize.Reads as bcube-summarize-reads
 use Rattle.driver.proofs.bcube_path_byte.Reads as bcube-path-byte-reads
 use Rattle.driver.proofs.bcube_path_byte_parts.Reads as bcube-path-byte-parts-reads
+use Rattle.driver.proofs.bcube_hop_of.Reads as bcube-hop-of-reads
 use Rattle.driver.proofs.bcube_read.Reads as bcube-read-reads
 use Rattle.driver.proofs.bcube_write.Reads as bcube-write-reads
 use Rattle.driver.proofs.bcube_reverse.Reads as bcube-reverse-reads
@@ -131,7 +132,7 @@ pub record Fill (o q b : Loan) : Type 0 where
   pub summarize : OfEach shapes (λ s. NeverTells summarize-reads.Post (s & o lends [] & q lends [] & tt) (λ y. y .number))
   pub byte-of : OfEach shapes (λ s. NeverTells byte-of-reads.Post (s & 0 & 1 & tt) (λ y. y .refusal .number))
   pub parts-of : OfEach shapes (λ s. NeverTells parts-of-reads.Post (s & 0x01 & tt) (λ y. y .refusal .number))
-  pub hop-of : OfEach shapes (λ s. NeverTells hop-of-reads.Post (s & 0 & 0x01 & tt) (λ y. y .number))
+  pub hop-of : OfEach shapes (λ s. NeverTells hop-of-reads.Post (s & 0 & 0x01 & tt) (λ y. y .refusal .number))
   pub walk : OfEach shapes (λ s. NeverTells walk-reads.Post (s & o lends [] & 0 & 1 & q lends array (0x01 ∷ []) & tt) (λ y. y .refusal .number))
   pub read-path : OfEach shapes (λ s. NeverTells read-path-reads.Post (s & 0 & 1 & q lends array (0x01 ∷ []) & tt) (λ y. y .refusal .number))
   pub write-path : OfEach shapes (λ s. NeverTells write-path-reads.Post (s & q lends 0 ∷ 1 ∷ [] & tt) (λ y. y .refusal .number))
@@ -165,6 +166,7 @@ pub record Fill (o q b : Loan) : Type 0 where
   pub bcube-summarize : OfEach rooms (λ c. NeverTells bcube-summarize-reads.Post (c & o lends [] & q lends [] & tt) (λ y. refusalIn y .number))
   pub bcube-path-byte : OfEach rooms (λ c. NeverTells bcube-path-byte-reads.Post (c & 0 & 1 & tt) (λ y. refusalIn y .number))
   pub bcube-path-byte-parts : OfEach rooms (λ c. NeverTells bcube-path-byte-parts-reads.Post (c & 0x01 & tt) (λ y. refusalIn y .number))
+  pub bcube-hop-of : OfEach rooms (λ c. NeverTells bcube-hop-of-reads.Post (c & 0 & 0x01 & tt) (λ y. refusalIn y .number))
   pub bcube-read : OfEach rooms (λ c. NeverTells bcube-read-reads.Post (c & 0 & 1 & q lends array (0x01 ∷ []) & b lends stale 9 & tt) (λ y. refusalIn y .number))
   pub bcube-write : OfEach rooms (λ c. NeverTells bcube-write-reads.Post (c & q lends 0 ∷ 1 ∷ [] & b lends stale 8 & tt) (λ y. refusalIn y .number))
   pub bcube-reverse : OfEach rooms (λ c. NeverTells bcube-reverse-reads.Post (c & 0 & 1 & q lends array (0x01 ∷ []) & b lends stale 8 & tt) (λ y. refusalIn y .number))

@@ -37,6 +37,23 @@ bcube-step-spec =
     let gone = c .before .before .before in
     let f = found-fits _ _ _ _ _ _ _ (gone .before .before .before .step-once .ensures) in
     omega arith)
+    -- the path byte of the way back: mul-t24, add-t25, mul-t27, add-t28
+    (λ c.
+    let gone = c .before .before .before .before in
+    let f = found-fits _ _ _ _ _ _ _ (gone .before .before .before .step-once .ensures) in
+    omega arith)
+    (λ c.
+    let gone = c .before .before .before .before .before in
+    let f = found-fits _ _ _ _ _ _ _ (gone .before .before .before .step-once .ensures) in
+    omega arith)
+    (λ c.
+    let gone = c .before .before .before .before .before in
+    let f = found-fits _ _ _ _ _ _ _ (gone .before .before .before .step-once .ensures) in
+    omega arith)
+    (λ c.
+    let gone = c .before .before .before .before .before in
+    let f = found-fits _ _ _ _ _ _ _ (gone .before .before .before .step-once .ensures) in
+    omega arith)
     -- mac-number-requires, returns-3
     (λ c κs. search needs)
     (λ c. search pack-goes))

@@ -1,6 +1,6 @@
 -- `path::hops::hop_from` meets its contract. Assumes nothing.
 use borrow.Author.Needs.{needs}
-use Rattle.path.proofs.HopLaws.{hop-eight, hop-nine, hop-weight, hop-ports, own-fits, own-there, new-fits, next-fits, hop-ten, hop-goes}
+use Rattle.path.proofs.HopLaws.{hop-eight, hop-nine, hop-weight, hop-ports, hop-server-fits, hop-weight-fits, hop-ports-fit, own-fits, own-there, new-fits, next-fits, hop-ten, hop-goes}
 use Rattle.path.proofs.hops.hop_from.Statement.{statement}
 use Rattle.path.proofs.hops.hop_from.Tie as tie
 
@@ -8,14 +8,17 @@ pub hop-from-spec : {M : Type 1} → statement M
 hop-from-spec =
     tie.close
     (tie.spec
-    -- the level and the value of the byte; the bound, the power of n, of which neither is 0
+    -- the level and the value of the byte; the bound, the power of n, and the own value
     (λ c κs. search needs)
     (λ c κs. search needs)
     (λ c κs. search needs)
     (λ c κs. search needs)
-    (λ c. search hop-weight)
-    (λ c. search hop-ports)
-    -- all tests in one go; the next server
+    (λ c. search hop-server-fits)
+    (λ c. search hop-weight-fits)
+    (λ c. search hop-ports-fit)
+    (λ c κs. (search hop-weight, search hop-ports))
+    -- all tests in one go; the hop
+    (λ c κs. search needs)
     (λ c κs. search needs)
     (λ c. search own-fits)
     (λ c. search own-there)

@@ -1,17 +1,15 @@
 -- `path::walks::arrived` meets its contract. Assumes nothing.
 use borrow.Author.Needs.{needs}
-use mathlib.Core.Path.{_≡_}
 use Prim.Native.Nat.{_-_}
-use lib.ListN.{length}
 use Rattle.path.proofs.WalkLaws.{Ending, ending-start, ending-stop, ending-next, ending-done}
 use Rattle.path.proofs.walks.arrived.Statement.{statement}
 use Rattle.path.proofs.walks.arrived.Tie as tie
 
 abbrev Inv-loop : tie.InvT-loop
-Inv-loop path met used hops i₀ i = Ending path met used hops i
+Inv-loop path hops back i₀ i = Ending path hops back i
 
 abbrev μ-loop : tie.MeasureT-loop
-μ-loop path met used hops i₀ i = 8 - i
+μ-loop path hops back i₀ i = 8 - i
 
 pub arrived-spec : {M : Type 1} → statement M
 arrived-spec =
@@ -31,7 +29,4 @@ arrived-spec =
     (λ c. search ending-next)
     -- the answer
     (λ c κs. search needs)
-    (λ c. search needs)
-    (λ c.
-    let l : length (c .before .before .before .before .args .met) ≡ 9 = search needs in
-    search ending-done))
+    (λ c. search ending-done))

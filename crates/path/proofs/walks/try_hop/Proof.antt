@@ -1,6 +1,6 @@
 -- `path::walks::try_hop` meets its contract. Assumes nothing.
 use borrow.Author.Needs.{needs}
-use Rattle.path.proofs.WalkLaws.{try-link, try-refused, try-failed, try-on}
+use Rattle.path.proofs.WalkLaws.{try-refused, try-link, try-failed, try-on}
 use Rattle.path.proofs.walks.try_hop.Statement.{statement}
 use Rattle.path.proofs.walks.try_hop.Tie as tie
 
@@ -8,12 +8,10 @@ pub try-hop-spec : {M : Type 1} → statement M
 try-hop-spec =
     tie.close
     (tie.spec
-    -- the hop; 8, 9, 10
-    (λ c κs. search needs)
+    -- refused as the hop is
     (λ c κs. search needs)
     (λ c. search try-refused)
-    -- its level; live: the switch, and 12
-    (λ c κs. search needs)
+    -- live: the switch, and 12
     (λ c κs. search needs)
     (λ c κs. search try-link)
     (λ c κs. search needs)

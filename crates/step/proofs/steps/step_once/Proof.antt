@@ -22,7 +22,7 @@ unfolding entry portAt
 step-once-spec =
     tie.close
     (tie.spec
-    -- next-server-requires, stand-requires, returns: it is refused
+    -- next-hop-requires, stand-requires, returns: it is refused
     (λ c κs. search needs)
     (λ c κs. search needs)
     (λ c. search stays-refused)
@@ -39,7 +39,7 @@ step-once-spec =
     (λ c κs. search needs)
     (λ c.
     let away = c .before .before in
-    let found = away .before .before .before .before .next-server .ensures in
+    let found = away .before .before .before .before .next-hop .ensures in
     let i = step-index _ _ _ _ _ _ _ found (away .before .if1 .left) (away .if2 .left) in
     omega arith)
     (λ c κs. search step-table)
@@ -47,7 +47,7 @@ step-once-spec =
     (λ c.
     let byte = c .before .before .before in
     let away = byte .before in
-    let found = away .before .before .before .before .next-server .ensures in
+    let found = away .before .before .before .before .next-hop .ensures in
     let b = byte-small byte in
     step-entry _ _ _ _ _ _ _ found (away .before .if1 .left) (away .if2 .left) _ (omega arith))
     (λ c. search step-forwards))

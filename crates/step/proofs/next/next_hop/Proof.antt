@@ -1,4 +1,4 @@
--- `step::next::next_server` meets its contract. Assumes nothing.
+-- `step::next::next_hop` meets its contract. Assumes nothing.
 use Prim.Native.Nat.{_<_}
 use native.Mathlib.Omega.{arith}
 use borrow.Author.Needs.{needs}
@@ -6,8 +6,8 @@ use denote.Ref.{now}
 use lib.ListN.{getD}
 use Rattle.step.specs.Steps.{entry, flagAt}
 use Rattle.step.proofs.NextLaws.{refuses-given, byte-inside, entry-inside, arrives, too-far, refuses-hop, refuses-closed, goes-next}
-use Rattle.step.proofs.next.next_server.Statement.{statement}
-use Rattle.step.proofs.next.next_server.Tie as tie
+use Rattle.step.proofs.next.next_hop.Statement.{statement}
+use Rattle.step.proofs.next.next_hop.Tie as tie
 
 -- the path byte is less than 256
 byte-small : (c : tie.After-shared-slice-known3)
@@ -17,28 +17,29 @@ byte-small c =
     let a = tested .before .before .before .before .args in
     omega (arith, c .shared-slice-known3 .given (a .index))
 
-pub next-server-spec : {M : Type 1} → statement M
+pub next-hop-spec : {M : Type 1} → statement M
 unfolding entry flagAt
-next-server-spec =
+next-hop-spec =
     tie.close
     (tie.spec
-    -- given-refusal-requires, plain-requires, stop-requires, returns: what is given is refused
+    -- given-refusal-requires, plain-requires, no-hop-requires, returns: what is given is refused
     (λ c κs. search needs)
     (λ c κs. search needs)
     (λ c κs. search needs)
     (λ c. search refuses-given)
-    -- none-requires, stop-requires-2, returns-2: at the destination
+    -- none-requires, no-hop-requires-2, returns-2: at the destination
     (λ c κs. search needs)
     (λ c κs. search needs)
     (λ c. search arrives)
-    -- plain-requires-2, stop-requires-3, returns-3: past the eighth byte
+    -- plain-requires-2, no-hop-requires-3, returns-3: past the eighth byte
     (λ c κs. search needs)
     (λ c κs. search needs)
     (λ c. search too-far)
-    -- shared-slice-read-byte, hop-of-requires: the byte and its hop
+    -- shared-slice-read-byte, cast-hop-of, hop-of-requires: the byte and its hop
     (λ c. search byte-inside)
+    (λ c. let b = byte-small c in omega arith)
     (λ c κs. search needs)
-    -- add-at, at-requires, stop-requires-4, returns-4: the hop is refused
+    -- add-at, at-requires, no-hop-requires-4, returns-4: the hop is refused
     (λ c. search needs)
     (λ c κs. search needs)
     (λ c κs. search needs)
@@ -52,11 +53,10 @@ next-server-spec =
     let passed = byte .before .before .before in
     let b = byte-small byte in
     entry-inside _ _ _ _ _ _ (passed .before .given-refusal .ensures) (passed .if1 .left) _ (omega arith))
-    -- add-at-2, at-requires-2, stop-requires-5, returns-5: the neighbour is not available
+    -- add-at-2, at-requires-2, no-hop-requires-5, returns-5: the neighbour is not available
     (λ c. search needs)
     (λ c κs. search needs)
     (λ c κs. search needs)
     (λ c. search refuses-closed)
-    -- none-requires-2, returns-6: it goes
-    (λ c κs. search needs)
+    -- returns-6: it goes
     (λ c. search goes-next))

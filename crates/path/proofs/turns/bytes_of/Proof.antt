@@ -1,0 +1,19 @@
+-- `path::turns::bytes_of` meets its contract. Assumes nothing.
+use borrow.Author.Needs.{needs}
+use Rattle.path.proofs.TurnLaws.{low-eight}
+use Rattle.path.proofs.turns.bytes_of.Statement.{statement}
+use Rattle.path.proofs.turns.bytes_of.Tie as tie
+
+pub bytes-of-spec : {M : Type 1} → statement M
+bytes-of-spec =
+    tie.close
+    (tie.spec
+    (λ c κs. search needs)
+    (λ c κs. search needs)
+    (λ c κs. search needs)
+    (λ c κs. search needs)
+    (λ c κs. search needs)
+    (λ c κs. search needs)
+    (λ c κs. search needs)
+    (λ c κs. search needs)
+    (λ c. search low-eight))
