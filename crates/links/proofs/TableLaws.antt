@@ -159,13 +159,6 @@ pub table-above : {s : Shape} {t : List ℕ} → TableOf s t → (a l : ℕ) →
 unfolding failed
 table-above {s} {t} h a l p = bit-none (suc (s .k)) l (getD t a 0) (fits-lt (s .k) (getD t a 0) (h .fits a)) p
 
--- every byte is one
-pub table-byte : {s : Shape} {t : List ℕ} → Valid s → TableOf s t → (a : ℕ) → getD t a 0 < 256
-table-byte {s} {t} v h a =
-    let p : suc (s .k) ≤ 8 = omega (arith, v .levels) in
-    let q : 2 ^ suc (s .k) ≤ 2 ^ 8 = pow-le-pow-right (lit< tt) p in
-    lt-of-lt-of-le (fits-lt (s .k) (getD t a 0) (h .fits a)) q
-
 -- changing a link of the room leaves a table of the room
 pub changed-table : (b : Bool) {s : Shape} {t : List ℕ} → TableOf s t → (a l : ℕ) → l ≤ s .k → TableOf s (changed b a l t)
 changed-table b {s} {t} h a l p =
@@ -173,10 +166,6 @@ changed-table b {s} {t} h a l p =
       long = changed-long b a l t ∙ h .long;
       fits = changed-each (λ (x : ℕ). fitsLevels (s .k) x ≡ true) b a l t (λ x e. lt-fits (s .k) _ (put-lt b (suc (s .k)) l x (omega arith) (fits-lt (s .k) x e))) (h .fits);
     }
-
--- and every byte stays one
-pub changed-bytes : (b : Bool) (a l : ℕ) (t : List ℕ) → l < 8 → ((c : ℕ) → getD t c 0 < 256) → (c : ℕ) → getD (changed b a l t) c 0 < 256
-changed-bytes b a l t h k = changed-each (λ (x : ℕ). x < 256) b a l t (λ x e. put-lt b 8 l x h e) k
 
 -- ---- live hops
 

@@ -132,10 +132,6 @@ missing-in x (y ∷ ys) m =
     rw (ne-eqb x y (λ e. m .not-at zero (suc-le-suc zero-le) (sym e)))
     (missing-in x ys (record { not-at = λ i h. m .not-at (suc i) (suc-le-suc h) }))
 
--- and is not in it exactly when it stands at no place
-pub missing-exactly : (x : ℕ) (xs : List ℕ) → (isIn x xs ≡ false) ↔ Missing x xs
-missing-exactly x xs = (in-missing x xs, missing-in x xs)
-
 -- ---- two lists that are the same
 
 pub same-self : (xs : List ℕ) → same xs xs ≡ true
@@ -400,11 +396,6 @@ filled-at m xs i = pad-at xs (m - length xs) i
 
 pub filled-past : (m : ℕ) (xs : List ℕ) (i : ℕ) → length xs ≤ i → getD (filled m xs) i 0 ≡ 0
 filled-past m xs i h = filled-at m xs i ∙ List·getD-eq-default xs 0 h
-
--- lists of one length are told apart after filling up
-pub filled-same : (m : ℕ) (xs ys : List ℕ) → length xs ≡ length ys → filled m xs ≡ filled m ys → xs ≡ ys
-filled-same m xs ys l e =
-    sym (take-filled m xs) ∙ ap (take (length xs)) e ∙ ap (λ (k : ℕ). take k (filled m ys)) l ∙ take-filled m ys
 
 -- what stands in n places, of which all after the first m are zero
 pub filled-is : (n : ℕ) (l : List ℕ) (m : ℕ) → m ≤ n → length l ≡ n → drop m l ≡ replicate (n - m) 0 → filled n (take m l) ≡ l

@@ -47,10 +47,6 @@ switch-found h x e = ap (λ (w : Switch). w .number) (switch-answered h x e)
 
 -- ---- switches as numbers
 
-pub switch-below : {s : Shape} {a l : ℕ} → Link s a l → switchAt s l a < 16384
-unfolding switchAt
-switch-below {s} {a} {l} h = omega (arith, switch-small h, h .level, h .server .valid .levels)
-
 -- two switches have one number exactly when they have one level and one number there
 pub switch-id : {s : Shape} {a b l m : ℕ} → Link s a l → Link s b m → (switchAt s l a ≡ switchAt s m b) ↔ ((l ≡ m) × (switchOf s l a ≡ switchOf s m b))
 unfolding switchAt

@@ -6,6 +6,6 @@ pub mod CodecLaws
 pub mod WalkLaws
 pub mod DistanceLaws
 pub mod WriteLaws
-pub mod TurnLaws
+pub mod WayLaws
 pub mod ByteLaws
 pub mod Unique

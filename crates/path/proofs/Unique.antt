@@ -17,8 +17,8 @@ use Rattle.path.proofs.walks.walk.Reads as walk
 use Rattle.path.proofs.walks.walk.Kinds as walk-kinds
 use Rattle.path.proofs.readings.read_path.Reads as read-path
 use Rattle.path.proofs.readings.read_path.Kinds as read-path-kinds
-use Rattle.path.proofs.turns.reverse_path.Reads as reverse-path
-use Rattle.path.proofs.turns.reverse_path.Kinds as reverse-path-kinds
+use Rattle.path.proofs.reversals.reverse_path.Reads as reverse-path
+use Rattle.path.proofs.reversals.reverse_path.Kinds as reverse-path-kinds
 use Rattle.path.proofs.writings.write_path.Reads as write-path
 use Rattle.path.proofs.writings.write_path.Kinds as write-path-kinds
 

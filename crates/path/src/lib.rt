@@ -8,8 +8,8 @@ mod hops;
 mod readings;
 // repeats.rt: servers and switches already on the route
 mod repeats;
-// turns.rt: reversal
-mod turns;
+// reversals.rt: reversal
+mod reversals;
 // walks.rt: walking an array, hop after hop
 mod walks;
 // writings.rt: the bytes of servers in turn
@@ -22,7 +22,7 @@ pub use hops::level_of;
 pub use hops::value_of;
 pub use readings::read_path;
 pub use repeats::is_among;
-pub use turns::reverse_path;
+pub use reversals::reverse_path;
 pub use walks::walk;
 pub use writings::write_path;
 

@@ -1,6 +1,6 @@
 -- `path::readings::read_path` meets its contract. Assumes nothing.
 use borrow.Author.Needs.{needs}
-use Rattle.path.proofs.TurnLaws.{walk-fits, read-refuses, read-answers}
+use Rattle.path.proofs.WayLaws.{walk-fits, read-refuses, read-answers}
 use Rattle.path.proofs.readings.read_path.Statement.{statement}
 use Rattle.path.proofs.readings.read_path.Tie as tie
 

@@ -1,6 +1,6 @@
 -- `path::walks::walk` meets its contract. Assumes nothing.
 use borrow.Author.Needs.{needs}
-use Rattle.path.proofs.TurnLaws.{walk-refuses, walk-fits, walk-answers}
+use Rattle.path.proofs.WayLaws.{walk-refuses, walk-fits, walk-answers}
 use Rattle.path.proofs.walks.walk.Statement.{statement}
 use Rattle.path.proofs.walks.walk.Tie as tie
 

@@ -1,8 +1,8 @@
--- `path::turns::reverse_path` meets its contract. Assumes nothing.
+-- `path::reversals::reverse_path` meets its contract. Assumes nothing.
 use borrow.Author.Needs.{needs}
-use Rattle.path.proofs.TurnLaws.{reverse-refuses, reverse-answers}
-use Rattle.path.proofs.turns.reverse_path.Statement.{statement}
-use Rattle.path.proofs.turns.reverse_path.Tie as tie
+use Rattle.path.proofs.WayLaws.{reverse-refuses, reverse-answers}
+use Rattle.path.proofs.reversals.reverse_path.Statement.{statement}
+use Rattle.path.proofs.reversals.reverse_path.Tie as tie
 
 pub reverse-path-spec : {M : Type 1} → statement M
 reverse-path-spec =

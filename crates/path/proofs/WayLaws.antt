@@ -1,6 +1,6 @@
 -- Laws of what a walk answers: reading and reversal take it from the way, and the way back is the number's bytes.
 use Prim.Native.Nat.{ℕ, zero, suc, _+_, _-_, _*_, _/_, _%_, _≤_, _<_}
-use mathlib.Core.Path.{_≡_, refl, sym, ap, ap₂, _∙_}
+use mathlib.Core.Path.{_≡_, refl, sym, ap, ap₂, _∙_, subst}
 use mathlib.Core.Logic.{_≢_}
 use mathlib.Core.List.{List, [], _∷_, _++_, reverse}
 use native.Mathlib.Omega.{arith}
@@ -9,7 +9,7 @@ use lib.ListN.{length, getD, replicate, length-reverse}
 use mir.Syntax.{w64}
 use mir.Val.{Fits}
 use Rattle.lists.specs.Lists.{inTurn, filled}
-use Rattle.lists.proofs.ListLaws.{turn-at, length-turn}
+use Rattle.lists.proofs.ListLaws.{length-turn, filled-at}
 use Rattle.refusals.specs.declared.Refusal.{Refusal}
 use Rattle.refusals.specs.Refusals.{plain, answer}
 use Rattle.refusals.proofs.AnswerLaws.{answer-none}
@@ -22,9 +22,8 @@ use Rattle.path.specs.Routes.{byteTo, encode, Route, Encodes}
 use Rattle.path.specs.Walks.{Walk, stopped, arrived, walk}
 use Rattle.path.specs.Answers.{arrayRefusal, noWalk, walked, walkAnswer, reading, readAnswer, noWriting, reversed, reverseAnswer}
 use Rattle.path.specs.Inside.{noReading, lowFirst, lowBytes, backOver, noWay, aWay, wayOf, wayAnswer, WalkLeaves}
-use Rattle.path.proofs.HopLaws.{byte-small}
 use Rattle.path.proofs.ReverseLaws.{route-reverse}
-use Rattle.path.proofs.CodecLaws.{encodes-none, encodes-walk, walk-exactly, walk-given, reverse-given}
+use Rattle.path.proofs.CodecLaws.{encode-small, encodes-none, encodes-walk, walk-exactly, walk-given, reverse-given}
 
 -- ---- bytes of a number, the lowest first
 
@@ -71,14 +70,10 @@ way-given {s} h = answer-none _ _ _ (encodes-none h) ∙ ap (wayOf s) (encodes-w
 way-back : {s : Shape} {t vs : List ℕ} → Route s t vs → lowBytes 8 (backOver s vs) ≡ encode s (reverse vs)
 unfolding backOver encode
 way-back {s} {t} {vs} r =
-    low-bytes 8 (inTurn (byteTo s) (reverse vs))
-    (λ i p.
-    let q : suc i < length (reverse vs) = omega (arith, length-turn (byteTo s) (reverse vs)) in
-    rw (turn-at (byteTo s) (reverse vs) i q) (byte-small (b .servers i (omega arith)) (b .servers (suc i) q) (b .hops i q)))
+    let xs = inTurn (byteTo s) (reverse vs) in
+    low-bytes 8 xs
+    (λ i p. subst (λ (b : ℕ). b < 256) (filled-at 8 xs i) (encode-small (route-reverse r) i))
     (omega (arith, length-turn (byteTo s) (reverse vs), length-reverse vs, r .few))
-  where
-    b : Route s t (reverse vs)
-    b = route-reverse r
 
 -- ---- what is answered of a walk, from its way w and what it left
 
