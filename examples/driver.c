@@ -1,6 +1,6 @@
 /* A driver in small: one room, one failed link, and one packet brought from server 0 to server 7, with the trace that
- * it leaves; then a server dies, a packet goes around it, and the server comes back; and then a switch dies, and is
- * named to the field crew.
+ * it leaves; then a server dies, a packet goes around it, and the server comes back; then a planner hands in lists, and
+ * is told by which hops they are refused; and then a switch dies, and is named to the field crew.
  *
  * To build and run it on x86-64 Linux, from the root of the repository:
  *
@@ -58,14 +58,47 @@ static size_t select_routes(uint8_t list[BCUBE_LIST_BYTES]) {
     return (size_t)BCUBE_PATH_BYTES * count;
 }
 
+/* The server that a hop of a path leads to, counted from 1; hop 0 is the source. */
+static uint32_t server_after(const uint8_t *path, uint32_t hop) {
+    uint32_t here = SOURCE;
+    for (uint32_t i = 0; i < hop; i++) {
+        bcube_answer taken = bcube_hop_of(room, here, path[i]);
+        granted(taken);
+        here = bcube_hop_next(taken);
+    }
+    return here;
+}
+
+/* Says by which two hops the routes of a list meet, or one comes to a server again or by a switch. No other refusal names
+ * an earlier place. */
+static void explain(const uint8_t *list, bcube_answer answer) {
+    uint32_t route = bcube_route(answer), hop = bcube_hop(answer), earlier = bcube_earlier_hop(answer);
+    switch (bcube_refusal(answer)) {
+    case BCUBE_REFUSED_NOT_PARALLEL:
+        printf("  route %u hop %u meets route %u hop %u\n", route, hop, bcube_earlier_route(answer), earlier);
+        break;
+    case BCUBE_REFUSED_SERVER_AGAIN:
+        list += BCUBE_PATH_BYTES * (route - 1);
+        printf("  route %u hop %u comes to server %u again, ", route, hop, server_after(list, hop));
+        if (earlier == 0) printf("which is the source\n");
+        else printf("where hop %u came\n", earlier);
+        break;
+    case BCUBE_REFUSED_SWITCH_AGAIN:
+        printf("  route %u hop %u goes by the switch of hop %u again\n", route, hop, earlier);
+        break;
+    }
+}
+
 /* Says whether a list is still good under the failed links. */
 static void check_routes(const char *name, const uint8_t *list, size_t bytes) {
     bcube_answer answer = bcube_check(room, SOURCE, DESTINATION, failed, SERVERS, list, bytes);
     printf("the %s list is ", name);
-    if (bcube_refusal(answer) == BCUBE_NOT_REFUSED)
+    if (bcube_refusal(answer) == BCUBE_NOT_REFUSED) {
         printf("accepted\n");
-    else
-        print_refusal(answer);
+        return;
+    }
+    print_refusal(answer);
+    explain(list, answer);
 }
 
 /* Whether a server's link at a level is live. The table was tested when the link was marked, so its bits may be
@@ -152,6 +185,16 @@ static void forward(const uint8_t path[BCUBE_PATH_BYTES]) {
     }
 }
 
+/* Lists that a planner made. Each is tested before a packet goes by it, and a refusal says what to mend. */
+static void check_planned(void) {
+    static const uint8_t sharing[2 * BCUBE_PATH_BYTES] = {0x41, 0x03, 0, 0, 0, 0, 0, 0, 0x02, 0x41, 0x03};
+    static const uint8_t doubled[2 * BCUBE_PATH_BYTES] = {0x41, 0x03, 0, 0, 0, 0, 0, 0, 0x01, 0x41, 0x02, 0x40, 0x03, 0x41};
+    static const uint8_t returning[BCUBE_PATH_BYTES] = {0x01, 0x41, 0x00, 0x40, 0x03, 0x41};
+    check_routes("first", sharing, sizeof sharing);
+    check_routes("second", doubled, sizeof doubled);
+    check_routes("third", returning, sizeof returning);
+}
+
 int main(void) {
     uint8_t kept[BCUBE_LIST_BYTES], fresh[BCUBE_LIST_BYTES];
     if (bcube_version() / 10000 != BCUBE_VERSION / 10000) return 1; /* another library than the header's */
@@ -189,6 +232,9 @@ int main(void) {
     granted(bcube_clear_all(room, 3, failed, SERVERS, summary, switches));
     granted(bcube_clear_all(room, 4, failed, SERVERS, summary, switches));
     check_routes("kept", kept, kept_bytes);
+
+    printf("\na planner hands in three lists\n");
+    check_planned();
 
     printf("\nthe links to switch 1 of level 1 fail, one after the other\n");
     report_link(1, 1); /* this report comes twice, and counts once */

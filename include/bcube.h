@@ -52,7 +52,9 @@
  * bcube_value, bcube_route and bcube_hop. Where bcube_refusal gives BCUBE_NOT_REFUSED, the value is the answer,
  * and the out buffer, if the call has one, is written in full. Otherwise the call is refused: bcube_refusal
  * says why, bcube_route and bcube_hop say where (both count from 1, and are 0 where the refusal has no such
- * place), the value is 0, and every buffer keeps the bytes it was lent with.
+ * place), the value is 0, and every buffer keeps the bytes it was lent with. Three refusals name an earlier place
+ * too, where the same server or switch came before: 28 and 29 on the same route, and 15 on another. Read it by
+ * bcube_earlier_route and bcube_earlier_hop.
  *
  *     bcube_room room = bcube_room_of(8, 3);
  *     uint8_t routes[BCUBE_LIST_BYTES];
@@ -104,11 +106,12 @@ extern "C" {
 
 /* ---- the version: 10,000 times the first number, 100 times the second, and the third */
 
-#define BCUBE_VERSION 40100 /* 4.1.0; docs/CHANGES.md says what each version changed */
+#define BCUBE_VERSION 50000 /* 5.0.0; docs/CHANGES.md says what each version changed */
 
 /* The version of the library that the program runs with, to hold against BCUBE_VERSION, the header's. Another
  * first number says that the two may not fit: docs/CHANGES.md says what it changed. A library of a lower version lacks
- * what was added since: before 40100 bcube_step_level, bcube_step_old and bcube_step_back read 0 of every step.
+ * what was added since: before 50000 it gives 12 for 28 and 29, and 15 with hop 0, and bcube_earlier_route and
+ * bcube_earlier_hop read 0 of every answer; before 40100 bcube_step_level, bcube_step_old and bcube_step_back read 0 of every step.
  * Cost: constant; 0 bytes of stack. */
 BCUBE_RESULT uint64_t bcube_version(void);
 
@@ -134,10 +137,18 @@ BCUBE_RESULT uint64_t bcube_version(void);
 
 /* ---- the refusals, one name each, which is the name that the sources have
  *
- * Where one arises: 8 to 12 and 23 have the route and the hop at which they were found (a step's, and its
+ * Where one arises: 8 to 11, 23, 28 and 29 have the route and the hop at which they were found (a step's, and its
  * 19, the index + 1); 13 has hop 8; 14 the place of the first byte after the arrival that is not zero; 15 the
- * later route of the pair, and hop 0. A single array, a single byte, a hop asked for by itself, and the servers to
- * write, are route 1; a single byte and a hop by itself are its hop 1. All other refusals have route 0 and hop 0. */
+ * later route of the pair, and its hop where the two first meet. A single array, a single byte, a hop asked for by
+ * itself, and the servers to write, are route 1; a single byte and a hop by itself are its hop 1. All other refusals
+ * have route 0 and hop 0.
+ *
+ * The earlier place: 28 names the hop that reached the server before, hop 0 being the source, and 29 the hop that used
+ * the switch before, which is never hop 0. There is only one such hop. It is of the same route, so that the earlier
+ * route is 0. A hop to a server met before, by a switch used before, is 28. 15 names the first route of the pair, and
+ * its hop where the two first meet. A hop of the one and a hop of the other meet if both use the same switch, or both
+ * lead to the same server and that is no end; they first meet at the lowest such hop of the first route, and there at
+ * the lowest of the later one. All other refusals have earlier route 0 and earlier hop 0. */
 #define BCUBE_NOT_REFUSED 0
 #define BCUBE_REFUSED_PORTS 1
 #define BCUBE_REFUSED_LEVELS 2
@@ -150,7 +161,7 @@ BCUBE_RESULT uint64_t bcube_version(void);
 #define BCUBE_REFUSED_VALUE 9
 #define BCUBE_REFUSED_NO_CHANGE 10
 #define BCUBE_REFUSED_FAILED_LINK 11
-#define BCUBE_REFUSED_REPEATED 12
+/* 12 is retired: before version 5 it stood for both 28 and 29 */
 #define BCUBE_REFUSED_NOT_ARRIVED 13
 #define BCUBE_REFUSED_AFTER_ARRIVAL 14
 #define BCUBE_REFUSED_NOT_PARALLEL 15
@@ -163,6 +174,8 @@ BCUBE_RESULT uint64_t bcube_version(void);
 #define BCUBE_REFUSED_SERVER_COUNT 22
 #define BCUBE_REFUSED_NOT_NEIGHBOURS 23
 #define BCUBE_REFUSED_FILL 26 /* tested between 2 and 3 */
+#define BCUBE_REFUSED_SERVER_AGAIN 28 /* tested at a hop after 8 to 11, and after 23 */
+#define BCUBE_REFUSED_SWITCH_AGAIN 29 /* tested right after 28 */
 #define BCUBE_REFUSED_SUMMARY 30 /* tested right after 6 */
 
 /* What a refusal's number means, as a sentence. */
@@ -181,7 +194,6 @@ static inline const char *bcube_refusal_text(uint64_t number) {
     case BCUBE_REFUSED_VALUE: return "A path byte's value is not below the bound of its digit.";
     case BCUBE_REFUSED_NO_CHANGE: return "A hop changes nothing.";
     case BCUBE_REFUSED_FAILED_LINK: return "A hop crosses a failed link, of its sender or of its receiver.";
-    case BCUBE_REFUSED_REPEATED: return "A hop meets a server, or uses a switch, that is already on the route.";
     case BCUBE_REFUSED_NOT_ARRIVED: return "Eight hops, and not arrived.";
     case BCUBE_REFUSED_AFTER_ARRIVAL: return "A byte after the arrival is not zero.";
     case BCUBE_REFUSED_NOT_PARALLEL: return "Two routes share a switch, or a server that is not an end.";
@@ -195,6 +207,8 @@ static inline const char *bcube_refusal_text(uint64_t number) {
     case BCUBE_REFUSED_SERVER_COUNT: return "The servers to write are fewer than 2, or more than 9.";
     case BCUBE_REFUSED_NOT_NEIGHBOURS: return "Two servers in a row do not differ in exactly one digit.";
     case BCUBE_REFUSED_FILL: return "m, the fill of the room, is not among 2 to n.";
+    case BCUBE_REFUSED_SERVER_AGAIN: return "A hop meets a server that is already on the route.";
+    case BCUBE_REFUSED_SWITCH_AGAIN: return "A hop uses a switch that is already on the route.";
     case BCUBE_REFUSED_SUMMARY:
         return "The summary is not one byte a switch, or an entry of it is not what the failed-link table counts.";
     default: return "There is no such refusal.";
@@ -208,7 +222,8 @@ typedef struct {
 } bcube_room;
 
 typedef struct {
-    uint64_t word; /* from the lowest byte: refusal, route, hop, 0, and the value in the high four bytes */
+    uint64_t word; /* from the lowest byte: refusal, route, hop, 16 times the earlier route plus the earlier hop, and
+                      the value in the high four bytes */
 } bcube_answer;
 
 typedef struct {
@@ -226,6 +241,13 @@ static inline uint32_t bcube_route(bcube_answer answer) { return (uint32_t)(answ
 /* The hop at which a refusal arose, counted from 1; 0 where the refusal has none, or where there is none. (What
  * bcube_hop_of answers is read by bcube_hop_next, bcube_hop_level, bcube_hop_old and bcube_hop_back.) */
 static inline uint32_t bcube_hop(bcube_answer answer) { return (uint32_t)(answer.word >> 16 & 255); }
+
+/* The earlier route that a refusal names, counted from 1: for 15 the first of the pair; else 0. */
+static inline uint32_t bcube_earlier_route(bcube_answer answer) { return (uint32_t)(answer.word >> 28 & 15); }
+
+/* The earlier hop that a refusal names, counted from 1: for 15 the first route's, for 29 the same route's, and so for
+ * 28, where 0 is the source; else 0. (So ask bcube_refusal first.) */
+static inline uint32_t bcube_earlier_hop(bcube_answer answer) { return (uint32_t)(answer.word >> 24 & 15); }
 
 /* The answer as a number; 0 on a refusal. */
 static inline uint32_t bcube_value(bcube_answer answer) { return (uint32_t)(answer.word >> 32); }
@@ -311,13 +333,13 @@ BCUBE_RESULT bcube_answer bcube_clear(bcube_room room, uint64_t server, uint64_t
 /* Marks all links of a server, levels 0 to k, as failed: the server is dead. Refuses 1, 2, 26, 3, 4, 6, 30 (the length
  * of the summary, or the entry of one of the server's k+1 switches). Value: 0. The server's byte of the table and those
  * entries are as after marking each link; no other byte and no other entry changes.
- * Cost: the table, and the servers of k+1 switches; 256 bytes of stack. */
+ * Cost: the table, and the servers of k+1 switches; 320 bytes of stack. */
 BCUBE_RESULT bcube_answer bcube_mark_all(bcube_room room, uint64_t server, uint8_t *table, size_t table_len,
                                          uint8_t *summary, size_t summary_len);
 
 /* Clears all links of a server of their marks. Refuses 1, 2, 26, 3, 4, 6, 30 (as bcube_mark_all). Value: 0. The
  * server's byte of the table and those entries are as after clearing each link; no other byte and no other entry
- * changes. Cost: the table, and the servers of k+1 switches; 256 bytes of stack. */
+ * changes. Cost: the table, and the servers of k+1 switches; 320 bytes of stack. */
 BCUBE_RESULT bcube_answer bcube_clear_all(bcube_room room, uint64_t server, uint8_t *table, size_t table_len,
                                           uint8_t *summary, size_t summary_len);
 
@@ -362,7 +384,7 @@ static inline uint32_t bcube_byte_value(bcube_answer parts) { return bcube_value
 /* The hop by a path byte from a server: the server that it leads to, its level, and its old value, the one that it
  * replaces, which is the digit of the server hopped from at that level. It looks at no failed links.
  * Refuses 1, 2, 26, 3, 4; then, at route 1 and hop 1, 8 (a number above 255 too), 9, 10. Value: all three; read it by
- * the four functions below. Cost: constant; 64 bytes of stack. */
+ * the four functions below. Cost: constant; 0 bytes of stack. */
 BCUBE_RESULT bcube_answer bcube_hop_of(bcube_room room, uint64_t server, uint64_t byte);
 
 /* The server to which that hop leads; 0 on a refusal. */
@@ -379,15 +401,15 @@ static inline uint32_t bcube_hop_old(bcube_answer hop) { return bcube_value(hop)
 static inline uint8_t bcube_hop_back(bcube_answer hop) { return (uint8_t)(bcube_value(hop) >> 16 & 255); }
 
 /* Reads one array as a route from source to destination. It looks at no failed links.
- * Refuses 1, 2, 26, 3, 4 (either end), 5, 7; then hop by hop 8, 9, 10, 12; 13 after the eighth hop; 14 on the
+ * Refuses 1, 2, 26, 3, 4 (either end), 5, 7; then hop by hop 8, 9, 10, 28, 29; 13 after the eighth hop; 14 on the
  * arrival. Value: how many servers the route has, its hops + 1. Written: those servers in order, the
  * source first; zeros after the last. Cost: constant; 448 bytes of stack. */
 BCUBE_BUFFER(6) BCUBE_RESULT bcube_answer bcube_read(bcube_room room, uint64_t source, uint64_t destination,
                                                      const uint8_t *path, size_t path_len, uint64_t servers[9]);
 
 /* Writes a route as path bytes: the servers in order, the source first, servers_len of them (2 to 9).
- * Refuses 1, 2, 26, 3, 22, 4 (any of them), 5 (the first is the last); then hop by hop 23, 12. Value: 0.
- * Written: the 8 path bytes, zeros after the last hop. Cost: constant; 256 bytes of stack. */
+ * Refuses 1, 2, 26, 3, 22, 4 (any of them), 5 (the first is the last); then hop by hop 23, 28, 29.
+ * Value: 0. Written: the 8 path bytes, zeros after the last hop. Cost: constant; 256 bytes of stack. */
 BCUBE_BUFFER(4) BCUBE_RESULT bcube_answer bcube_write(bcube_room room, const uint64_t *servers, size_t servers_len,
                                                       uint8_t path[8]);
 
@@ -400,8 +422,8 @@ BCUBE_BUFFER(6) BCUBE_RESULT bcube_answer bcube_reverse(bcube_room room, uint64_
 
 /* Checks a list of 1 to k+1 routes from source to destination: each reads over live links, and every two are
  * parallel. Refuses 1, 2, 26, 3, 4 (either end), 5, 6, 7 (an empty list too); then route by route, hop by hop 8, 9, 10,
- * 11, 12, with 13 after the eighth hop and 14 on the arrival; then 15, by first, then by second route.
- * Value: 0. Cost: the table; 2048 bytes of stack. */
+ * 11, 28, 29, with 13 after the eighth hop and 14 on the arrival; then 15, by first, then by second route, which names
+ * the two routes and, of each, its hop at their first meeting. Value: 0. Cost: the table; 2176 bytes of stack. */
 BCUBE_RESULT bcube_answer bcube_check(bcube_room room, uint64_t source, uint64_t destination, const uint8_t *table,
                                       size_t table_len, const uint8_t *list, size_t list_len);
 
@@ -409,7 +431,7 @@ BCUBE_RESULT bcube_answer bcube_check(bcube_room room, uint64_t source, uint64_t
 
 /* The built routes of a room in which all links are live: k+1 parallel routes.
  * Refuses 1, 2, 26, 3, 4 (either end), 5. Value: how many arrays are written, k+1. Written: the arrays, that of
- * slot k first; zeros after them. Cost: constant; 512 bytes of stack. */
+ * slot k first; zeros after them. Cost: constant; 576 bytes of stack. */
 BCUBE_BUFFER(4) BCUBE_RESULT bcube_answer bcube_build(bcube_room room, uint64_t source, uint64_t destination,
                                                       uint8_t routes[32]);
 
@@ -417,7 +439,7 @@ BCUBE_BUFFER(4) BCUBE_RESULT bcube_answer bcube_build(bcube_room room, uint64_t 
  * level first, then the lower value. Refuses 1, 2, 26, 3, 4 (either end), 5, 6. Value: its hops; 0 where no
  * route of eight hops or fewer crosses only live links, which is no refusal. Written: its path bytes; zeros
  * where there is none. (The array of a route may be all zeros too: ask the value.)
- * Cost: the table and a search; 41216 bytes of stack. */
+ * Cost: the table and a search; 41280 bytes of stack. */
 BCUBE_BUFFER(6) BCUBE_RESULT bcube_answer bcube_find(bcube_room room, uint64_t source, uint64_t destination,
                                                      const uint8_t *table, size_t table_len, uint8_t path[8]);
 
@@ -428,7 +450,7 @@ BCUBE_BUFFER(6) BCUBE_RESULT bcube_answer bcube_find(bcube_room room, uint64_t s
  * Refuses 1, 2, 26, 3, 4 (either end), 5, 6; and last 16, when no route at all of eight hops or fewer crosses
  * only live links. Value: how many arrays are written, 1 to k+1. Written: the arrays in slot order, closed
  * up; zeros after them.
- * Cost: the table, and a search for each broken route; 45760 bytes of stack. */
+ * Cost: the table, and a search for each broken route; 45824 bytes of stack. */
 BCUBE_BUFFER(6) BCUBE_RESULT bcube_answer bcube_select(bcube_room room, uint64_t source, uint64_t destination,
                                                        const uint8_t *table, size_t table_len, uint8_t routes[32]);
 

@@ -5,6 +5,7 @@
 #include "both.h"
 
 #include "bcube.h"
+#include "kinds.h"
 #include "plain.h"
 
 #include <inttypes.h>
@@ -69,10 +70,11 @@ BOTH(a_step, step, (ROOM, NUMBER(0), NUMBER(1), NUMBER(2), LENT(0), LENT(1)))
 #define R(number) (UINT64_C(1) << (number))
 #define SHAPED (R(0) | R(1) | R(2) | R(26) | R(3))
 #define ENDS (SHAPED | R(4) | R(5))
-#define HOPS_READ (R(8) | R(9) | R(10) | R(12) | R(13) | R(14))
+#define AGAIN (R(28) | R(29))
+#define HOPS_READ (R(8) | R(9) | R(10) | AGAIN | R(13) | R(14))
 #define SUMMED (SHAPED | R(6) | R(30))
 
-enum { REFUSALS = 64, LEAST = 100 };
+enum { REFUSALS = 64 };
 
 /* which of its lent buffers a call writes to: less 1 for the first, less 2 for the second */
 enum { SECOND = -2, FIRST_TWO = -3 };
@@ -111,7 +113,7 @@ static const struct {
     [DEAD_SWITCH] = {CALL(dead_switch, SUMMED, 0), {0}, {"table", "summary"}},
     [SUMMARIZE] = {CALL(summarize, SUMMED, SECOND), {0}, {"table", "summary"}},
     [READ] = {CALL(read, ENDS | R(7) | HOPS_READ, 72), {"source", "destination"}, {"path"}},
-    [WRITE] = {CALL(write, ENDS | R(22) | R(23) | R(12), 8), {0}, {"servers"}},
+    [WRITE] = {CALL(write, ENDS | R(22) | R(23) | AGAIN, 8), {0}, {"servers"}},
     [REVERSE] = {CALL(reverse, ENDS | R(7) | HOPS_READ, 8), {"source", "destination"}, {"path"}},
     [CHECK] = {CALL(check, ENDS | R(6) | R(7) | HOPS_READ | R(11) | R(15), 0), {"source", "destination"}, {"table", "list"}},
     [BUILD] = {CALL(build, ENDS, 32), {"source", "destination"}, {0}},
@@ -205,8 +207,9 @@ static void print_answer(const char *whose, answer given, enum call call) {
                given.mac, bcube_step_refusal(given), bcube_step_hop(given), bcube_step_delivered(given),
                bcube_step_index(given), bcube_step_next(given), bcube_step_level(given), bcube_step_old(given));
     else if (call > FILLED_ROOM)
-        printf(" (refusal %" PRIu32 ", route %" PRIu32 ", hop %" PRIu32 ", value %" PRIu32 ")", bcube_refusal(word),
-               bcube_route(word), bcube_hop(word), bcube_value(word));
+        printf(" (refusal %" PRIu32 ", route %" PRIu32 ", hop %" PRIu32 ", earlier route %" PRIu32 ", earlier hop %" PRIu32
+               ", value %" PRIu32 ")", bcube_refusal(word), bcube_route(word), bcube_hop(word), bcube_earlier_route(word),
+               bcube_earlier_hop(word), bcube_value(word));
     printf("\n");
 }
 
@@ -338,6 +341,7 @@ answer ask(const struct question *q) {
     if (what) report(what, q, proved, plain);
     uint32_t refusal = refusal_of(q->call, plain);
     if (refusal < REFUSALS) count[q->call][refusal]++;
+    count_kinds(q, plain);
     done++;
     return plain;
 }
@@ -375,5 +379,5 @@ int print_counts(void) {
         }
         printf("\n");
     }
-    return amiss;
+    return amiss + print_kinds();
 }

@@ -56,8 +56,12 @@ void not_as_counted(const struct question *question);
 unsigned long comparisons(void);
 unsigned long differences(void);
 
-/* Prints the counts by call and by refusal, and gives how many of these are amiss: a refusal that the call can
- * give and that was met fewer than 100 times, or one that it cannot give. */
+/* How often each refusal has to be met, by each call that can give it. */
+enum { LEAST = 100 };
+
+/* Prints the counts by call and by refusal, and those of the kinds of 15, 28 and 29 (kinds.c), and gives how many of
+ * these are amiss: a refusal that the call can give and that was met fewer than LEAST times, or one that it cannot
+ * give; and so for the kinds. */
 int print_counts(void);
 
 #endif

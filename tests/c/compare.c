@@ -10,6 +10,11 @@
  * in some of the one-level half-filled ones only: from each server and from numbers that are none, by each path byte
  * and by numbers that are none; and each hop that is answered, back again.
  *
+ * Then walks and meetings: in rooms of few servers every way to go on from a server, hop by hop, until a hop is refused
+ * (in some of these rooms as many as a run has time for), read, reversed, checked and written; there too all routes of a
+ * pair, every two of them as a list, and some lists of more; and in rooms of four levels, where two routes can share a
+ * server and no switch, every two orders in which the digits can be corrected.
+ *
  * Then the summary: in rooms of few links every table, and every summary beside some tables; in every room of at most
  * 64 servers each switch dead, alone and beside others; there, but in some of the one-level half-filled ones only, each
  * kind of wrong entry and of wrong length, and marks and clears in a row, with the table and the summary carried along
@@ -17,8 +22,8 @@
  *
  * Last as many rounds (1 if not said) of questions of any kind in rooms of every size, with arguments and buffers
  * damaged in every way that the rules name, and numbers of up to 64 bits. The same numbers give the same run.
- * Prints the counts by call and by refusal; status 1 if anything differs, or a refusal was met fewer than 100 times by
- * a call that can give it. */
+ * Prints the counts by call and by refusal, and by the kinds of 15, 28 and 29; status 1 if anything differs, or a refusal
+ * or a kind of it was met fewer than 100 times by a call that can give it. */
 #include "both.h"
 
 #include "bcube.h"
@@ -252,6 +257,9 @@ static void ask_write(const uint64_t *met, size_t count) {
 /* ---- the numbers worked by hand */
 
 static uint64_t refused(uint32_t number, uint32_t route, uint32_t hop) { return number | route << 8 | hop << 16; }
+
+/* with the earlier route and hop that it names */
+static uint64_t naming(uint64_t word, uint32_t route, uint32_t hop) { return word | (uint64_t)(16 * route + hop) << 24; }
 
 static uint64_t valued(uint32_t value) { return (uint64_t)value << 32; }
 
@@ -560,13 +568,87 @@ static void worked_routes(void) {
 static void worked_refusals(void) {
     static const uint8_t twice[16] = {3, 0, 0, 0, 0, 0, 0, 0, 3}, same[8] = {1, 3}, eight[8] = {8}, level[8] = {0x80};
     enter_full(4, 1);
-    worked(with(about(READ, 0, 3, 0, 0), same, 8), refused(12, 1, 2), "", 0);
-    worked(with(with(about(CHECK, 0, 3, 0, 0), failed, servers), twice, 16), refused(15, 2, 0), "", 0);
+    worked(with(about(READ, 0, 3, 0, 0), same, 8), naming(refused(29, 1, 2), 0, 1), "", 0);
+    worked(with(with(about(CHECK, 0, 3, 0, 0), failed, servers), twice, 16), naming(refused(15, 2, 1), 1, 1), "", 0);
     worked(with(about(READ, 0, 3, 0, 0), level, 8), refused(8, 1, 1), "", 0);
     worked(with(with(about(STEP, 3, 3, 8, 0), twice, 8), neighbours, BCUBE_NEIGHBOUR_TABLE_BYTES), 1 << 16, "", 0);
     worked(with(with(about(STEP, 0, 3, 8, 0), twice, 8), neighbours, BCUBE_NEIGHBOUR_TABLE_BYTES), 18, "", 0);
     enter_full(8, 3);
     worked(with(about(READ, 0, 3, 0, 0), eight, 8), refused(9, 1, 1), "", 0);
+}
+
+/* a refusal that names an earlier place, as the accessors read it */
+static void worked_place(struct question q, uint32_t why, uint32_t route, uint32_t hop, uint32_t earlier_route,
+                         uint32_t earlier_hop) {
+    bcube_answer word = {naming(refused(why, route, hop), earlier_route, earlier_hop)};
+    worked(q, word.word, "", 0);
+    if (bcube_refusal(word) != why || bcube_route(word) != route || bcube_hop(word) != hop || bcube_value(word) != 0 ||
+        bcube_earlier_route(word) != earlier_route || bcube_earlier_hop(word) != earlier_hop)
+        not_as_worked(&q, (answer){word.word, 0}, (answer){word.word, 0});
+}
+
+/* arrays from server 0 that come to a server or a switch again: alone, and as the second of a list; at the eighth hop
+ * too, where the destination would be reached by it, and where it would not. And servers to write */
+static void worked_again(void) {
+    static const struct {
+        uint32_t destination, why, hop, earlier;
+        uint8_t array[ARRAY];
+    } rows[] = {{3, 29, 2, 1, {1, 3}},
+                {3, 28, 2, 0, {1, 0}},
+                {3, 28, 4, 0, {1, 0x41, 0, 0x40}},
+                {15, 28, 5, 1, {1, 0x41, 2, 0x40, 1}},
+                {15, 29, 5, 1, {1, 0x41, 2, 0x40, 3}},
+                {9, 29, 8, 2, {1, 0x41, 2, 0x42, 3, 0x43, 1, 0x42}},
+                {4, 29, 8, 2, {1, 0x41, 2, 0x42, 3, 0x43, 1, 0x42}},
+                {4, 28, 8, 0, {1, 0x41, 2, 0x42, 3, 0x43, 0, 0x40}}};
+    static const uint64_t switch_again[] = {0, 1, 3}, source_again[] = {0, 1, 5, 4, 0, 3}, far[] = {0, 1, 3, 4};
+    enter_full(4, 1);
+    for (size_t i = 0; i < sizeof rows / sizeof *rows; i++) {
+        uint32_t to = rows[i].destination, why = rows[i].why, hop = rows[i].hop, earlier = rows[i].earlier;
+        uint8_t list[BCUBE_LIST_BYTES];
+        plain_build(room, 0, to, list);
+        memcpy(list + ARRAY, rows[i].array, ARRAY);
+        worked_place(with(about(READ, 0, to, 0, 0), rows[i].array, ARRAY), why, 1, hop, 0, earlier);
+        worked_place(with(about(REVERSE, 0, to, 0, 0), rows[i].array, ARRAY), why, 1, hop, 0, earlier);
+        struct question check = with(about(CHECK, 0, to, 0, 0), failed, servers);
+        worked_place(with(check, rows[i].array, ARRAY), why, 1, hop, 0, earlier);
+        worked_place(with(check, list, 2 * ARRAY), why, 2, hop, 0, earlier);
+    }
+    worked_place(with(about(WRITE, 0, 0, 0, 0), switch_again, 3), 29, 1, 2, 0, 1);
+    worked_place(with(about(WRITE, 0, 0, 0, 0), source_again, 6), 28, 1, 4, 0, 0);
+    worked_place(with(about(WRITE, 0, 0, 0, 0), source_again, 5), 5, 0, 0, 0, 0); /* the first is the last */
+    worked_place(with(about(WRITE, 0, 0, 0, 0), far, 4), 29, 1, 2, 0, 1);         /* before the 23 of the next hop */
+    failed[0] = 2; /* server 0's link at level 1, by which 01 41 00 40 would come back; */
+    failed[3] = 1; /* and server 3's at level 0, to which 01 03 would lead */
+    worked_place(with(with(about(CHECK, 0, 7, 0, 0), failed, servers), rows[2].array, ARRAY), 11, 1, 4, 0, 0);
+    worked_place(with(with(about(CHECK, 0, 7, 0, 0), failed, servers), rows[0].array, ARRAY), 11, 1, 2, 0, 0);
+}
+
+/* lists from server 0 of which two routes meet: the later one and its hop, the first one and its hop */
+static void worked_meetings(void) {
+    static const struct {
+        uint32_t n, k, destination, count, route, hop, first, first_hop;
+        uint8_t list[4][ARRAY];
+    } rows[] = {
+        {4, 1, 3, 2, 2, 1, 1, 1, {{3}, {3}}},
+        {4, 1, 7, 2, 2, 3, 1, 2, {{0x41, 3}, {2, 0x41, 3}}},
+        /* the first and the third both come through server 3, by four different switches */
+        {2, 3, 15, 3, 3, 2, 1, 2, {{1, 0x41, 0x81, 0xc1}, {0xc1, 0x81, 0x41, 1}, {0x41, 1, 0xc1, 0x81}}},
+        /* both reach server 7, and then go on by one switch */
+        {2, 3, 15, 2, 2, 3, 1, 3, {{1, 0x41, 0x81, 0xc1}, {0x41, 0x81, 1, 0xc1}}},
+        /* server 4 by hops 1 and 3, server 6 by hops 2 and 2, a switch by hops 2 and 3; and the other way round */
+        {2, 2, 7, 2, 2, 3, 1, 1, {{0x81, 0x41, 1}, {0x41, 0x81, 0x40, 1, 0x41}}},
+        {2, 2, 7, 2, 2, 2, 1, 2, {{0x41, 0x81, 0x40, 1, 0x41}, {0x81, 0x41, 1}}},
+        /* pairs 1 and 4, 2 and 3 meet: by the first route */
+        {2, 3, 15, 4, 4, 1, 1, 1, {{1, 0x41, 0x81, 0xc1}, {0xc1, 0x81, 0x41, 1}, {0xc1, 0x81, 0x41, 1}, {1, 0x41, 0x81, 0xc1}}},
+        /* an array that is refused comes before two that meet */
+        {2, 3, 15, 3, 3, 2, 0, 0, {{1, 0x41, 0x81, 0xc1}, {1, 0x41, 0x81, 0xc1}, {1, 0}}}};
+    for (size_t i = 0; i < sizeof rows / sizeof *rows; i++) {
+        enter_full(rows[i].n, rows[i].k);
+        struct question q = with(about(CHECK, 0, rows[i].destination, 0, 0), failed, servers);
+        q = with(q, rows[i].list, ARRAY * rows[i].count);
+        worked_place(q, rows[i].first ? 15 : 28, rows[i].route, rows[i].hop, rows[i].first, rows[i].first_hop);
+    }
 }
 
 /* the steps of a packet: here, the index, and what has to be answered */
@@ -737,22 +819,6 @@ static void roam(uint32_t source, uint32_t destination, uint8_t array[ARRAY]) {
         }
 }
 
-static void make_array(uint32_t source, uint32_t destination, uint8_t array[ARRAY]) {
-    uint8_t routes[BCUBE_LIST_BYTES] = {0};
-    uint32_t kind = any(8);
-    if (kind < 3) {
-        plain_build(room, source, destination, routes);
-        memcpy(array, routes + ARRAY * any(k + 1), ARRAY);
-    } else if (kind < 6) {
-        wander(source, destination, array);
-    } else if (kind < 7) {
-        roam(source, destination, array);
-    } else {
-        for (int i = 0; i < ARRAY; i++) array[i] = (uint8_t)(any(2) ? any(256) : 64 * any(k + 1) + any(n));
-    }
-    if (any(6) == 0) array[any(ARRAY)] = (uint8_t)(any(2) ? any(256) : 64 * any(k + 1) + any(n));
-}
-
 /* the digits of here that differ from there, corrected in any order; gives the bytes that the array has then */
 static uint32_t go_on(uint32_t here, uint32_t there, uint8_t array[ARRAY], uint32_t at) {
     while (here != there && at < ARRAY) {
@@ -762,6 +828,40 @@ static uint32_t go_on(uint32_t here, uint32_t there, uint8_t array[ARRAY], uint3
         here = after(here, array[at++]);
     }
     return at;
+}
+
+/* some hops, then out, and back to the server that these led to, or past it; gives how many, after which comes one more */
+static uint32_t come_round(uint32_t source, uint8_t array[ARRAY]) {
+    uint32_t here = source, there, at = 0, hops = any(5);
+    memset(array, 0, ARRAY);
+    while (at < hops) {
+        array[at] = any_hop(here);
+        here = after(here, array[at++]);
+    }
+    there = here;
+    for (uint32_t i = 1 + any(3); i > 0; i--) there = after(there, any_hop(there));
+    at = go_on(there, here, array, go_on(here, there, array, at));
+    if (at > 0 && any(3) == 0) array[at - 1] = (uint8_t)(array[at - 1] / 64 * 64 + any(bound(array[at - 1] / 64)));
+    if (at < ARRAY) array[at] = any_hop(here);
+    return at;
+}
+
+static void make_array(uint32_t source, uint32_t destination, uint8_t array[ARRAY]) {
+    uint8_t routes[BCUBE_LIST_BYTES] = {0};
+    uint32_t kind = any(9);
+    if (kind < 3) {
+        plain_build(room, source, destination, routes);
+        memcpy(array, routes + ARRAY * any(k + 1), ARRAY);
+    } else if (kind < 6) {
+        wander(source, destination, array);
+    } else if (kind < 7) {
+        roam(source, destination, array);
+    } else if (kind < 8) {
+        come_round(source, array);
+    } else {
+        for (int i = 0; i < ARRAY; i++) array[i] = (uint8_t)(any(2) ? any(256) : 64 * any(k + 1) + any(n));
+    }
+    if (any(6) == 0) array[any(ARRAY)] = (uint8_t)(any(2) ? any(256) : 64 * any(k + 1) + any(n));
 }
 
 /* the arrays of a list: all by way of one server, which they may share without sharing a switch; */
@@ -774,6 +874,22 @@ static void by_way_of_one(uint32_t source, uint32_t destination, uint8_t *list, 
 /* these routes, in any order and more than once; */
 static void with_repeats(const uint8_t *routes, uint8_t *list, uint32_t count) {
     for (uint32_t i = 0; i < count; i++) memcpy(list + ARRAY * i, routes + ARRAY * any(k + 1), ARRAY);
+}
+
+/* these routes, one or two of which go instead by way of a server of another, or beside it; */
+static void by_way_of_another(uint32_t source, uint32_t destination, const uint8_t *routes, uint8_t *list, uint32_t count) {
+    for (uint32_t i = 0, first = any(k + 1); i < count; i++)
+        memcpy(list + ARRAY * i, routes + ARRAY * ((first + i) % (k + 1)), ARRAY);
+    for (uint32_t times = 1 + any(2); times > 0; times--) {
+        uint64_t on[9];
+        uint8_t *array = list + ARRAY * any(count);
+        uint32_t read = bcube_value(plain_read(room, source, destination, list + ARRAY * any(count), ARRAY, on));
+        if (read == 0) continue;
+        uint32_t middle = (uint32_t)on[any(read)];
+        if (any(2)) middle = after(middle, any_hop(middle));
+        memset(array, 0, ARRAY);
+        go_on(middle, destination, array, go_on(source, middle, array, 0));
+    }
 }
 
 /* or these routes in order, with others among them */
@@ -793,6 +909,8 @@ static size_t make_list(uint32_t source, uint32_t destination, const uint8_t rou
         by_way_of_one(source, destination, list, count);
     else if (kind == 1)
         with_repeats(routes, list, count);
+    else if (kind == 2 && count > 0)
+        by_way_of_another(source, destination, routes, list, count);
     else
         with_others(source, destination, routes, list, count);
     return ARRAY * count;
@@ -902,6 +1020,153 @@ static void every_hop_from(uint64_t server) {
 /* from every server, and from numbers that are none */
 static void every_hop_by_itself(void) {
     for (uint32_t i = 0; i < servers + BEYOND; i++) every_hop_from(beyond(i, servers));
+}
+
+/* ---- walks that come to a server or a switch again */
+
+/* rooms in which every way to go on is taken, or only so many at each hop, as there would be too many */
+static const uint32_t tight[][4] = {{2, 1, 2, 99}, {3, 1, 2, 99}, {3, 1, 3, 99}, {4, 1, 2, 99}, {4, 1, 3, 99},
+                                    {4, 1, 4, 99}, {2, 2, 2, 99}, {3, 2, 2, 3},  {3, 2, 3, 2},  {2, 3, 2, 99},
+                                    {3, 3, 2, 2},  {3, 3, 3, 2},  {4, 3, 2, 2}};
+enum { TIGHT = sizeof tight / sizeof *tight };
+
+/* the first hops of an array, as a route and as servers to write, these alone and with one more; gives the reading */
+static bcube_answer ask_walk(uint32_t source, uint32_t destination, const uint8_t array[ARRAY], uint32_t hops) {
+    uint64_t on[10] = {source};
+    for (uint32_t i = 0; i < hops; i++) on[i + 1] = after((uint32_t)on[i], array[i]);
+    on[hops + 1] = after((uint32_t)on[hops], any_hop((uint32_t)on[hops]));
+    ask_write(on, hops + 1);
+    if (hops < ARRAY) ask_write(on, hops + 2);
+    ask_path(REVERSE, source, destination, array);
+    ask_check(source, destination, array, ARRAY);
+    return ask_path(READ, source, destination, array);
+}
+
+/* every hop that goes on from here, after so many, and from each that is not refused on again, or from so many */
+static void every_walk(uint32_t source, uint32_t destination, uint8_t array[ARRAY], uint32_t hops, uint32_t so_many) {
+    uint32_t here = source, ways = 0;
+    for (uint32_t i = 0; i < hops; i++) here = after(here, array[i]);
+    for (uint32_t level = 0; level <= k; level++) ways += bound(level) - 1;
+    for (uint32_t byte = 0; byte < 64 * (k + 1); byte++) {
+        if (byte % 64 >= bound(byte / 64) || digit_of(here, byte / 64) == byte % 64) continue;
+        array[hops] = (uint8_t)byte;
+        memset(array + hops + 1, 0, ARRAY - 1 - hops);
+        bcube_answer read = ask_walk(source, destination, array, hops + 1);
+        if (bcube_refusal(read) == 0 || bcube_hop(read) <= hops + 1 || hops + 1 == ARRAY) continue;
+        if (so_many >= ways || any(ways) < so_many) every_walk(source, destination, array, hops + 1, so_many);
+    }
+}
+
+static void every_walk_of_tight_rooms(void) {
+    uint8_t array[ARRAY];
+    for (uint32_t i = 0; i < TIGHT; i++)
+        for (uint32_t times = 0; times < 2; times++) {
+            enter(tight[i][0], tight[i][1], tight[i][2]);
+            uint32_t source = any(servers);
+            every_walk(source, another(source), array, 0, tight[i][3]);
+        }
+}
+
+/* ---- routes that meet */
+
+enum { ROUTES = 256 };
+
+static uint8_t gathered[ROUTES][ARRAY];
+static uint32_t found;
+
+/* every route of a pair that begins with these hops; of more than there is room for, any */
+static void gather(uint32_t source, uint32_t destination, uint8_t array[ARRAY], uint32_t hops) {
+    uint32_t here = source;
+    for (uint32_t i = 0; i < hops; i++) here = after(here, array[i]);
+    for (uint32_t byte = 0; byte < 64 * (k + 1); byte++) {
+        uint64_t on[9];
+        if (byte % 64 >= bound(byte / 64) || digit_of(here, byte / 64) == byte % 64) continue;
+        array[hops] = (uint8_t)byte;
+        memset(array + hops + 1, 0, ARRAY - 1 - hops);
+        bcube_answer read = plain_read(room, source, destination, array, ARRAY, on);
+        if (bcube_refusal(read) == 0) {
+            uint32_t place = found < ROUTES ? found : any(found + 1);
+            if (place < ROUTES) memcpy(gathered[place], array, ARRAY);
+            found++;
+        } else if (bcube_hop(read) > hops + 1 && hops + 1 < ARRAY) {
+            gather(source, destination, array, hops + 1);
+        }
+    }
+}
+
+/* a list of these gathered routes */
+static void ask_gathered(uint32_t source, uint32_t destination, const uint32_t *places, uint32_t count) {
+    uint8_t list[BCUBE_LIST_BYTES];
+    for (uint32_t i = 0; i < count; i++) memcpy(list + ARRAY * i, gathered[places[i]], ARRAY);
+    ask_check(source, destination, list, ARRAY * count);
+}
+
+/* every two of the gathered routes as a list, or as many as there is time for; then lists of more */
+static void every_two_routes(uint32_t source, uint32_t destination) {
+    uint8_t array[ARRAY];
+    found = 0;
+    gather(source, destination, array, 0);
+    uint32_t all = found < ROUTES ? found : ROUTES, one_in = 1 + all * all / 10000;
+    for (uint32_t one = 0; one < all; one++)
+        for (uint32_t other = 0; other < all; other++)
+            if (any(one_in) == 0) ask_gathered(source, destination, (const uint32_t[]){one, other}, 2);
+    for (uint32_t i = 0; i < 1000 && k > 1; i++) {
+        uint32_t these[4];
+        for (int j = 0; j < 4; j++) these[j] = any(all);
+        ask_gathered(source, destination, these, 3 + any(k - 1));
+    }
+}
+
+static void every_two_routes_of_tight_rooms(void) {
+    for (uint32_t i = 0; i < TIGHT; i++) {
+        enter(tight[i][0], tight[i][1], tight[i][2]);
+        uint32_t source = any(servers);
+        if (servers > 16)
+            every_two_routes(source, another(source));
+        else
+            for (uint32_t d = 0; d < servers; d++)
+                if (d != source) every_two_routes(source, d);
+    }
+}
+
+/* the digits of a room of four levels corrected in the order of this number, 0 to 23 */
+static void in_order(uint32_t number, uint32_t destination, uint8_t array[ARRAY]) {
+    uint32_t level[] = {0, 1, 2, 3};
+    memset(array, 0, ARRAY);
+    for (uint32_t i = 0; i < 4; i++) {
+        uint32_t from = i + number % (4 - i), chosen_level = level[from];
+        number /= 4 - i;
+        level[from] = level[i];
+        level[i] = chosen_level;
+        array[i] = (uint8_t)(64 * chosen_level + digit_of(destination, chosen_level));
+    }
+}
+
+/* between two servers of which all four digits differ: every two orders as a list, and lists of more */
+static void every_two_orders(void) {
+    uint32_t source = any(servers), destination = source;
+    for (uint32_t level = 0; level <= 3; level++) {
+        uint32_t value = (digit_of(source, level) + 1 + any(bound(level) - 1)) % bound(level);
+        destination = after(destination, (uint8_t)(64 * level + value));
+    }
+    for (uint32_t i = 0; i < 24 * 24 + 400; i++) {
+        uint8_t list[BCUBE_LIST_BYTES];
+        uint32_t count = i < 24 * 24 ? 2 : 3 + any(2);
+        in_order(i < 24 * 24 ? i % 24 : any(24), destination, list);
+        in_order(i < 24 * 24 ? i / 24 : any(24), destination, list + ARRAY);
+        in_order(any(24), destination, list + 2 * ARRAY);
+        in_order(any(24), destination, list + 3 * ARRAY);
+        ask_check(source, destination, list, ARRAY * count);
+    }
+}
+
+static void every_two_orders_of_four_levels(void) {
+    for (uint32_t times = 0; times < 3; times++) {
+        for (uint32_t i = 0; i < CHOSEN; i++)
+            if (chosen[i][1] == 3) enter_chosen(i), every_two_orders();
+        for (uint32_t i = 0; i < TIGHT; i++)
+            if (tight[i][1] == 3) enter(tight[i][0], 3, tight[i][2]), every_two_orders();
+    }
 }
 
 /* ---- half-filled rooms: the vacant ports of level k, m to n - 1, where a full room has servers */
@@ -1350,6 +1615,12 @@ static void any_room(void) {
     enter(ports, levels, fill);
 }
 
+/* with levels 0 to so many, or to more */
+static void any_room_of_levels(uint32_t levels) {
+    do any_room();
+    while (k < levels);
+}
+
 /* questions of every call; in large rooms, where each takes long, the searches are fewer, and those with a summary */
 static void any_questions(uint32_t count) {
     fill_neighbours();
@@ -1422,17 +1693,26 @@ static void some_pairs(uint32_t pairs) {
     every_hop_from(any(2) ? servers - 1 : servers + any(2));
 }
 
-/* lists in rooms of live links, most of them of routes that read: what is left is whether they are parallel */
+/* lists in rooms of live links, most of them of four levels, and most of routes that read: what is left is whether they
+ * are parallel; and walks that come round, alone and in a list */
 static void any_lists(uint32_t lists) {
     for (uint32_t i = 0; i < lists; i++) {
         uint8_t routes[BCUBE_LIST_BYTES], list[BCUBE_LIST_BYTES] = {0};
-        if (i % 16 == 0) enter_any(2 + any(2), 3);
-        uint32_t source = any_server(), destination = another(source), count = 2 + any(3);
+        if (i % 16 == 0) any_room_of_levels(any(4) ? 3 : 1);
+        uint32_t source = any_server(), destination = another(source), count = 2 + any(k), kind = any(4);
+        uint8_t *array = list + ARRAY * any(count);
         plain_build(room, source, destination, routes);
-        if (any(2))
+        if (kind == 0) {
             by_way_of_one(source, destination, list, count);
-        else
+        } else if (kind == 1) {
             with_repeats(routes, list, count);
+        } else if (kind == 2) {
+            by_way_of_another(source, destination, routes, list, count);
+        } else {
+            memcpy(list, routes, ARRAY * count);
+            ask_walk(source, destination, array, come_round(source, array));
+        }
+        if (any(8) == 0) list[any(ARRAY * count)] = any_hop(any_server());
         ask_check(source, destination, list, ARRAY * count);
     }
 }
@@ -1479,6 +1759,8 @@ int main(int count, char **words) {
     worked_nothing();
     worked_routes();
     worked_refusals();
+    worked_again();
+    worked_meetings();
     worked_steps();
     worked_picking();
     part("worked by hand");
@@ -1513,6 +1795,12 @@ int main(int count, char **words) {
     small_half_filled_rooms(every_vacant_port, 1, 1);
     for (uint32_t i = 0; i < CHOSEN; i++) enter_chosen(i), every_vacant_port();
     part("half-filled rooms: every vacant port");
+    every_walk_of_tight_rooms();
+    part("rooms of few servers: every walk until it is refused");
+    every_two_routes_of_tight_rooms();
+    part("rooms of few servers: every two routes of a pair");
+    every_two_orders_of_four_levels();
+    part("rooms of four levels: every two orders of the digits");
     rooms_of_few_links();
     part("rooms of few links: every table, and every summary beside some");
     small_full_rooms(dead_switches, 1);

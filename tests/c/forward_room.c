@@ -11,10 +11,12 @@
  * and every selected route must be delivered after exactly its hops; where it has none to give, no built route may be
  * unbroken. Each step must say the level of its hop and the value that the hop replaces, and a hop by these two from
  * the next server must lead back; each packet collects them as its trace, and when it is delivered the trace read
- * backwards must be what bcube_reverse writes for its path. Then paths are damaged, one byte at a time, and every step
- * of each must be as the plain step says; a hop to a vacant port of level k, m to n - 1, must be refused with 9; and
- * the trace is held to the reversed path where a damaged path is a route and is delivered. Last come steps with any
- * numbers and lengths. Prints what was done; status 1 if anything was not as it must be. */
+ * backwards must be what bcube_reverse writes for its path. Then paths are damaged, one byte at a time, or by a way out
+ * and back put in, and every step of each must be as the plain step says; a hop to a vacant port of level k, m to n - 1,
+ * must be refused with 9. Where a damaged path is delivered, the trace is held to the reversed path; or, if the path is
+ * no route and its reversal is refused with 28 or 29, to the two hops that the refusal names: by both the packet came to
+ * the same server, or by both through the same switch. Last come steps with any numbers and lengths. Prints what was
+ * done; status 1 if anything was not as it must be. */
 #include "plain.h"
 
 #include <inttypes.h>
@@ -159,6 +161,7 @@ static struct route taken(uint32_t source, uint32_t destination, const uint8_t *
 /* ---- forwarding */
 
 static unsigned long delivered, broken, selected, unreached, damaged, vacant, traced, led_back;
+static unsigned long came_again[2]; /* packets that came to a server again, and by a switch */
 
 /* the first hop over a failed link, counted from 1; 0 if there is none */
 static uint32_t first_failed(const struct route *r) {
@@ -167,9 +170,10 @@ static uint32_t first_failed(const struct route *r) {
     return 0;
 }
 
-/* what the steps of a packet leave behind: of each the byte of its way back */
+/* what the steps of a packet leave behind: of each the byte of its way back, and the server that it led to, after the
+ * source */
 struct trace {
-    uint32_t hops;
+    uint32_t hops, met[9];
     uint8_t back[8];
 };
 
@@ -185,15 +189,40 @@ static void note(struct trace *trace, uint32_t here, uint8_t byte, bcube_stepped
         wrong(room, next, here, trace->hops, "a hop back of %016" PRIx64, back.word);
     if (bcube_refusal(on) != 0 || bcube_hop_next(on) != next || bcube_hop_level(on) != level || bcube_hop_old(on) != old)
         wrong(room, here, next, trace->hops, "a hop of %016" PRIx64 " and a step of %016" PRIx64, on.word, s.word);
-    if (trace->hops < 8) trace->back[trace->hops] = bcube_step_back(s);
+    if (trace->hops < 8) trace->back[trace->hops] = bcube_step_back(s), trace->met[trace->hops + 1] = next;
     trace->hops++;
+}
+
+/* whether two hops of a packet, counted from 1, went by the same switch */
+static int same_switch(const struct trace *trace, uint32_t one, uint32_t other) {
+    uint32_t level = trace->back[one - 1] / 64;
+    if (trace->back[other - 1] / 64u != level) return 0;
+    return with_digit(trace->met[one], level, 0) == with_digit(trace->met[other], level, 0);
+}
+
+/* a delivered packet whose path is no route: bytes come after the arrival, or by the two hops that are named it came to
+ * the same server, or if not by the same switch */
+static void held_again(const struct trace *trace, uint32_t destination, bcube_answer refused) {
+    uint32_t why = bcube_refusal(refused), hop = bcube_hop(refused), earlier = bcube_earlier_hop(refused);
+    int named = hop <= trace->hops && earlier < hop && bcube_route(refused) == 1 && bcube_earlier_route(refused) == 0, so = 0;
+    if (why == BCUBE_REFUSED_AFTER_ARRIVAL) so = hop > trace->hops && earlier == 0;
+    if (why == BCUBE_REFUSED_SERVER_AGAIN && named) so = trace->met[hop] == trace->met[earlier];
+    if (why == BCUBE_REFUSED_SWITCH_AGAIN && named && earlier > 0)
+        so = trace->met[hop] != trace->met[earlier] && same_switch(trace, hop, earlier);
+    if (!so)
+        wrong(room, trace->met[0], destination, trace->hops, "delivered, and reversal refused by %016" PRIx64, refused.word);
+    else if (why != BCUBE_REFUSED_AFTER_ARRIVAL)
+        came_again[why == BCUBE_REFUSED_SWITCH_AGAIN]++;
 }
 
 /* the trace of a delivered packet, read backwards, against the reversed path; a path that is no route has none */
 static void held_trace(const struct trace *trace, uint32_t source, uint32_t destination, const uint8_t *path, int is_route) {
     uint8_t turned[8] = {0}, reversed[8];
     bcube_answer answer = bcube_reverse(room, source, destination, path, 8, reversed);
-    if (bcube_refusal(answer) != 0 && !is_route) return;
+    if (bcube_refusal(answer) != 0 && !is_route) {
+        held_again(trace, destination, answer);
+        return;
+    }
     for (uint32_t i = 0; i < trace->hops && i < 8; i++) turned[i] = trace->back[trace->hops - 1 - i];
     traced++;
     if (bcube_refusal(answer) != 0 || trace->hops > 8 || memcmp(turned, reversed, 8) != 0)
@@ -204,7 +233,7 @@ static void held_trace(const struct trace *trace, uint32_t source, uint32_t dest
 /* forwards a packet until it is delivered (1) or refused (0), either of which has to be as the route says */
 static int forward(const struct route *r, uint32_t destination) {
     uint32_t first = first_failed(r), here = r->met[0], index = 0, count = 0;
-    struct trace trace = {0};
+    struct trace trace = {.met = {here}};
     for (;;) {
         bcube_stepped s = held_step(room, here, destination, index, r->path, 8, tables[here], BCUBE_NEIGHBOUR_TABLE_BYTES);
         if (bcube_step_refusal(s) != 0) {
@@ -270,7 +299,7 @@ static void refused_vacant(bcube_stepped s, uint32_t here, uint32_t destination,
 /* Follows any path until it is refused or delivered, which it must be within nine steps. */
 static void follow(const uint8_t *path, uint32_t source, uint32_t destination) {
     uint32_t here = source, index = 0;
-    struct trace trace = {0};
+    struct trace trace = {.met = {source}};
     for (int i = 0; i < 9; i++) {
         bcube_stepped s = held_step(room, here, destination, index, path, 8, tables[here], BCUBE_NEIGHBOUR_TABLE_BYTES);
         if (here != destination && index < 8 && is_vacant(path[index])) refused_vacant(s, here, destination, index);
@@ -283,6 +312,19 @@ static void follow(const uint8_t *path, uint32_t source, uint32_t destination) {
     wrong(room, here, destination, index, "under way after nine steps, wanted at most eight hops");
 }
 
+/* the path with a way out and back put in at one of its servers, if there is room for it */
+static void detour(const struct route *r, uint32_t destination) {
+    uint32_t at = any(r->hops), level = any(k + 1), own = digit_of(r->met[at], level);
+    uint8_t path[8];
+    if (r->hops > 6) return;
+    memcpy(path, r->path, at);
+    path[at] = (uint8_t)(64 * level + (own + 1 + any(bound(level) - 1)) % bound(level));
+    path[at + 1] = (uint8_t)(64 * level + own);
+    memcpy(path + at + 2, r->path + at, 6 - at);
+    follow(path, r->met[0], destination);
+    damaged++;
+}
+
 static void damage(const struct route *r, uint32_t destination) {
     uint8_t path[8];
     for (uint32_t i = 0; i < 8; i++) {
@@ -291,6 +333,7 @@ static void damage(const struct route *r, uint32_t destination) {
         follow(path, r->met[0], destination);
         damaged++;
     }
+    detour(r, destination);
 }
 
 static void forward_pair(uint32_t source, uint32_t destination, int with_selected) {
@@ -478,9 +521,11 @@ int main(void) {
            "%lu packets on built routes delivered after exactly their hops, %lu refused at their first failed link;\n"
            "%lu packets on selected routes delivered after exactly their hops, %lu pairs with no route;\n"
            "%lu traces of delivered packets read backwards as their reversed paths, %lu hops led back by a byte of a trace;\n"
+           "%lu packets came to a server again, %lu by a switch, at the hops that the refusals of their paths name;\n"
            "%lu damaged paths followed, %lu to a vacant port and refused there, %lu steps; %lu steps of any numbers\n",
-           changes, named, delivered, broken, selected, unreached, traced, led_back, damaged, vacant, routed, steps - routed);
+           changes, named, delivered, broken, selected, unreached, traced, led_back, came_again[0], came_again[1], damaged,
+           vacant, routed, steps - routed);
     printf("%lu steps held to the rules, %lu wrong\n", steps, failures);
     free(tables);
-    return failures != 0 || vacant == 0 || named == 0 || traced == 0;
+    return failures != 0 || vacant == 0 || named == 0 || traced == 0 || came_again[0] == 0 || came_again[1] == 0;
 }

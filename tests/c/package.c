@@ -106,7 +106,26 @@ static void paths(bcube_room room) {
     list[0] = 8;
     bcube_answer refused = bcube_read(room, 1, 521, list, BCUBE_PATH_BYTES, servers);
     holds(bcube_refusal(refused) == BCUBE_REFUSED_VALUE && bcube_route(refused) == 1 && bcube_hop(refused) == 1, "a refusal");
+    holds(!bcube_earlier_route(refused) && !bcube_earlier_hop(refused), "a refusal that names no earlier place");
     holds(BCUBE_FRESH != BCUBE_KEPT, "lists");
+}
+
+/* 28, 29 and 15, with the earlier place that each names: arrays from server 0 to server 27, of digits 3 and 3 */
+static void again(bcube_room room) {
+    static const uint8_t table[BCUBE_MOST_SERVERS] = {0};
+    static const uint8_t source_again[BCUBE_PATH_BYTES] = {0x01, 0x41, 0x00, 0x40, 0x43};
+    static const uint8_t switch_again[BCUBE_PATH_BYTES] = {0x43, 0x01, 0x03};
+    static const uint8_t list[2 * BCUBE_PATH_BYTES] = {0x43, 0x03, 0, 0, 0, 0, 0, 0, 0x02, 0x43, 0x03};
+    uint64_t servers[BCUBE_ROUTE_SERVERS];
+    bcube_answer refused = bcube_read(room, 0, 27, source_again, BCUBE_PATH_BYTES, servers);
+    holds(bcube_refusal(refused) == BCUBE_REFUSED_SERVER_AGAIN && bcube_route(refused) == 1 && bcube_hop(refused) == 4, "28");
+    holds(bcube_earlier_route(refused) == 0 && bcube_earlier_hop(refused) == 0, "the source is hop 0");
+    refused = bcube_read(room, 0, 27, switch_again, BCUBE_PATH_BYTES, servers);
+    holds(bcube_refusal(refused) == BCUBE_REFUSED_SWITCH_AGAIN && bcube_route(refused) == 1 && bcube_hop(refused) == 3, "29");
+    holds(bcube_earlier_route(refused) == 0 && bcube_earlier_hop(refused) == 2, "the hop that used the switch");
+    refused = bcube_check(room, 0, 27, table, sizeof table, list, sizeof list);
+    holds(bcube_refusal(refused) == BCUBE_REFUSED_NOT_PARALLEL && bcube_route(refused) == 2 && bcube_hop(refused) == 3, "15");
+    holds(bcube_earlier_route(refused) == 1 && bcube_earlier_hop(refused) == 2 && !bcube_value(refused), "the first route and its hop");
 }
 
 static void steps(bcube_room room) {
@@ -127,11 +146,12 @@ static void steps(bcube_room room) {
     holds(bcube_step_delivered(step) && !bcube_step_level(step) && !bcube_step_old(step) && !bcube_step_back(step), "delivered");
 }
 
-/* every number has a sentence of its own, and every other number one that says so */
+/* every number has a sentence of its own, and every other number, 12 too, which is retired, one that says so */
 static void texts(void) {
     const char *none = bcube_refusal_text(UINT64_MAX);
     for (uint64_t i = 0; i < 256; i++) {
-        int given = i <= BCUBE_REFUSED_NOT_NEIGHBOURS || i == BCUBE_REFUSED_FILL || i == BCUBE_REFUSED_SUMMARY;
+        int given = (i <= BCUBE_REFUSED_NOT_NEIGHBOURS && i != 12) || i == BCUBE_REFUSED_FILL || i == BCUBE_REFUSED_SERVER_AGAIN ||
+                    i == BCUBE_REFUSED_SWITCH_AGAIN || i == BCUBE_REFUSED_SUMMARY;
         holds((strcmp(bcube_refusal_text(i), none) != 0) == given, "a number without a text, or a text too many");
         for (uint64_t j = 0; j < i && given; j++) holds(strcmp(bcube_refusal_text(i), bcube_refusal_text(j)) != 0, "two texts are the same");
     }
@@ -145,6 +165,7 @@ int main(void) {
     switches(room);
     hops(room);
     paths(room);
+    again(room);
     steps(room);
     texts();
     holds(bcube_version() == BCUBE_VERSION, "another version than the header's");

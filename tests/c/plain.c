@@ -23,6 +23,11 @@ static bcube_answer refused_at(uint32_t number, uint32_t route, uint32_t hop) {
 
 static bcube_answer refused(uint32_t number) { return refused_at(number, 0, 0); }
 
+/* the refusal with the earlier place that it names */
+static bcube_answer naming(bcube_answer refusal, uint32_t route, uint32_t hop) {
+    return (bcube_answer){refusal.word | (uint64_t)(16 * route + hop) << 24};
+}
+
 static bcube_answer answered(uint32_t value) { return (bcube_answer){(uint64_t)value << 32}; }
 
 static const bcube_answer passed = {0};
@@ -168,25 +173,38 @@ static void append(struct route *route, uint32_t level, uint32_t value) {
     route->hops++;
 }
 
-static int meets(const struct route *route, const struct place *place) {
-    for (uint32_t i = 0; i <= route->hops; i++)
-        if (same_place(&route->met[i], place)) return 1;
-    return 0;
+enum { NEVER = HOPS + 1 };
+
+/* the hop by which the route came to this place, as one goes back from where it is now; 0 for the source, or NEVER */
+static uint32_t hop_to(const struct route *route, const struct place *place) {
+    for (uint32_t hop = route->hops + 1; hop-- > 0;)
+        if (same_place(&route->met[hop], place)) return hop;
+    return NEVER;
 }
+
+/* the hop by which it used the switch of this place at this level, counted from 1, or NEVER */
+static uint32_t hop_by(const struct route *route, const struct place *place, uint32_t level) {
+    for (uint32_t hop = route->hops; hop > 0; hop--)
+        if (same_switch(&route->met[hop], route->level[hop - 1], place, level)) return hop;
+    return NEVER;
+}
+
+static int meets(const struct route *route, const struct place *place) { return hop_to(route, place) != NEVER; }
 
 static int uses_switch(const struct route *route, const struct place *place, uint32_t level) {
-    for (uint32_t i = 0; i < route->hops; i++)
-        if (same_switch(&route->met[i], route->level[i], place, level)) return 1;
-    return 0;
+    return hop_by(route, place, level) != NEVER;
 }
 
-static int parallel(const struct route *one, const struct route *other) {
-    for (uint32_t i = 0; i < one->hops; i++)
-        if (uses_switch(other, &one->met[i], one->level[i])) return 0;
-    for (uint32_t i = 1; i < one->hops; i++)
-        for (uint32_t j = 1; j < other->hops; j++)
-            if (same_place(&one->met[i], &other->met[j])) return 0;
-    return 1;
+static int is_end(const struct route *route, const struct place *place) {
+    return same_place(place, &route->met[0]) || same_place(place, &route->met[route->hops]);
+}
+
+/* whether a hop of one route and a hop of another, each counted from 1, use the same switch, or both lead to the same
+ * server, which is not an end */
+static int hops_meet(const struct route *one, uint32_t hop, const struct route *other, uint32_t other_hop) {
+    const struct place *to = &one->met[hop], *other_to = &other->met[other_hop];
+    if (same_switch(to, one->level[hop - 1], other_to, other->level[other_hop - 1])) return 1;
+    return same_place(to, other_to) && !is_end(one, to);
 }
 
 static int crosses_failed(const struct room *room, const uint8_t *table, const struct route *route) {
@@ -205,18 +223,28 @@ static void put_bytes(const struct route *route, uint8_t bytes[ARRAY]) {
 
 /* ---- reading path bytes */
 
-/* one more hop, by its path byte; without a table every link is live */
-static uint32_t hop_refusal(const struct room *room, const uint8_t *table, struct route *route, uint8_t byte) {
-    uint32_t level = byte / 64, value = byte % 64;
-    struct place from = last(route);
-    if (level > room->k) return 8;
-    if (value >= bound(room, level)) return 9;
-    if (from.digit[level] == value) return 10;
-    struct place to = moved(from, level, value);
-    if (table && (link_failed(room, table, &from, level) || link_failed(room, table, &to, level))) return 11;
-    if (meets(route, &to) || uses_switch(route, &from, level)) return 12;
+/* one more hop of the route of this number, refused where the route has been at that server, or by that switch */
+static bcube_answer add_hop(struct route *route, uint32_t level, uint32_t value, uint32_t number) {
+    struct place from = last(route), to = moved(from, level, value);
+    uint32_t hop = route->hops + 1;
+    if (meets(route, &to)) return naming(refused_at(28, number, hop), 0, hop_to(route, &to));
+    if (uses_switch(route, &from, level)) return naming(refused_at(29, number, hop), 0, hop_by(route, &from, level));
     append(route, level, value);
-    return 0;
+    return passed;
+}
+
+/* one more hop, by its path byte, of the route of this number; without a table every link is live */
+static bcube_answer read_hop(const struct room *room, const uint8_t *table, struct route *route, uint8_t byte,
+                             uint32_t number) {
+    uint32_t level = byte / 64, value = byte % 64, hop = route->hops + 1;
+    struct place from = last(route);
+    if (level > room->k) return refused_at(8, number, hop);
+    if (value >= bound(room, level)) return refused_at(9, number, hop);
+    if (from.digit[level] == value) return refused_at(10, number, hop);
+    struct place to = moved(from, level, value);
+    if (table && (link_failed(room, table, &from, level) || link_failed(room, table, &to, level)))
+        return refused_at(11, number, hop);
+    return add_hop(route, level, value, number);
 }
 
 /* the array as route number `number` of its list; gives its refusal, or passes */
@@ -225,8 +253,8 @@ static bcube_answer read_array(const struct room *room, const uint8_t *table, ui
     struct place goal = place_of(room, destination);
     begin(route, place_of(room, source));
     for (uint32_t i = 0; i < HOPS; i++) {
-        uint32_t why = hop_refusal(room, table, route, array[i]);
-        if (why) return refused_at(why, number, i + 1);
+        bcube_answer answer = read_hop(room, table, route, array[i], number);
+        if (is_refused(answer)) return answer;
         struct place here = last(route);
         if (!same_place(&here, &goal)) continue;
         for (uint32_t j = i + 1; j < HOPS; j++)
@@ -359,7 +387,7 @@ static int least_route(struct search *search, uint64_t source, struct route *rou
 
 /* ---- the calls: the room, addresses and switches */
 
-uint64_t plain_version(void) { return 40100; }
+uint64_t plain_version(void) { return 50000; }
 
 static uint64_t held(uint64_t number) { return number > 255 ? 255 : number; }
 
@@ -694,8 +722,8 @@ bcube_answer plain_write(bcube_room value, const uint64_t *servers, size_t serve
         struct place from = last(&route), to = place_of(&room, servers[i]);
         if (differing(&from, &to) != 1) return refused_at(23, 1, i);
         uint32_t level = first_differing(&from, &to);
-        if (meets(&route, &to) || uses_switch(&route, &from, level)) return refused_at(12, 1, i);
-        append(&route, level, to.digit[level]);
+        bcube_answer answer = add_hop(&route, level, to.digit[level], 1);
+        if (is_refused(answer)) return answer;
     }
     put_bytes(&route, path);
     return answered(0);
@@ -713,6 +741,21 @@ bcube_answer plain_reverse(bcube_room value, uint64_t source, uint64_t destinati
     return answered(0);
 }
 
+/* all meetings of these routes, each as the number of its first route, its later route, the first one's hop and the
+ * later one's hop, four bits each; gives the least, or 0 where every two are parallel */
+static uint32_t least_meeting(const struct route *route, uint32_t count) {
+    uint32_t least = 0;
+    for (uint32_t j = 1; j < count; j++)
+        for (uint32_t i = 0; i < j; i++)
+            for (uint32_t later = 1; later <= route[j].hops; later++)
+                for (uint32_t hop = 1; hop <= route[i].hops; hop++) {
+                    uint32_t meeting = (i + 1) << 12 | (j + 1) << 8 | hop << 4 | later;
+                    if (least != 0 && least < meeting) continue;
+                    if (hops_meet(&route[i], hop, &route[j], later)) least = meeting;
+                }
+    return least;
+}
+
 /* the routes of a list, each and in pairs; gives a refusal, or passes */
 static bcube_answer check_routes(const struct room *room, uint64_t source, uint64_t destination, const uint8_t *table,
                                  const uint8_t *list, uint32_t count) {
@@ -721,10 +764,9 @@ static bcube_answer check_routes(const struct room *room, uint64_t source, uint6
         bcube_answer answer = read_array(room, table, source, destination, list + ARRAY * i, i + 1, &route[i]);
         if (is_refused(answer)) return answer;
     }
-    for (uint32_t i = 0; i < count; i++)
-        for (uint32_t j = i + 1; j < count; j++)
-            if (!parallel(&route[i], &route[j])) return refused_at(15, j + 1, 0);
-    return passed;
+    uint32_t meeting = least_meeting(route, count);
+    if (meeting == 0) return passed;
+    return naming(refused_at(15, meeting >> 8 & 15, meeting & 15), meeting >> 12, meeting >> 4 & 15);
 }
 
 bcube_answer plain_check(bcube_room value, uint64_t source, uint64_t destination, const uint8_t *table,

@@ -1,7 +1,9 @@
-/* A program of version 2, with the calls as that version's header declared them: a room of two numbers, and a step whose
- * highest byte was zero and was read by no function. Linked as it is with the library of today, its rooms are the full
- * ones, whatever the register of a third argument holds, and its functions read from a step what they did, whatever the
- * highest byte says now. Prints how many rooms it made and steps it read; status 1 if one is another. */
+/* A program of version 2, with the calls as that version's header declared them: a room of two numbers, a step whose
+ * highest byte was zero and was read by no function, and a word whose fourth byte was so. Linked as it is with the library
+ * of today, its rooms are the full ones, whatever the register of a third argument holds, and its functions read from a
+ * step what they did, whatever the highest byte says now. From a refused word they read the same route and hop, whatever
+ * the fourth byte says now; but where it was given 12 it is given 28 or 29, which it does not know, and with 15 there
+ * comes a hop, where there was 0. Prints how many rooms it made, and steps and words it read; status 1 if one is another. */
 #include <inttypes.h>
 #include <stddef.h>
 #include <stdio.h>
@@ -24,6 +26,18 @@ bcube_answer bcube_servers(bcube_room room);
 bcube_stepped bcube_step(bcube_room room, uint64_t here, uint64_t destination, uint64_t index, const uint8_t *path,
                          size_t path_len, const uint8_t *neighbours, size_t neighbours_len);
 
+bcube_answer bcube_read(bcube_room room, uint64_t source, uint64_t destination, const uint8_t *path, size_t path_len,
+                        uint64_t servers[9]);
+bcube_answer bcube_write(bcube_room room, const uint64_t *servers, size_t servers_len, uint8_t path[8]);
+bcube_answer bcube_reverse(bcube_room room, uint64_t source, uint64_t destination, const uint8_t *path, size_t path_len,
+                           uint8_t reversed[8]);
+bcube_answer bcube_check(bcube_room room, uint64_t source, uint64_t destination, const uint8_t *table, size_t table_len,
+                         const uint8_t *list, size_t list_len);
+
+static uint32_t bcube_refusal(bcube_answer answer) { return (uint32_t)(answer.word & 255); }
+static uint32_t bcube_route(bcube_answer answer) { return (uint32_t)(answer.word >> 8 & 255); }
+static uint32_t bcube_hop(bcube_answer answer) { return (uint32_t)(answer.word >> 16 & 255); }
+static uint32_t bcube_value(bcube_answer answer) { return (uint32_t)(answer.word >> 32); }
 static uint32_t bcube_step_refusal(bcube_stepped step) { return (uint32_t)(step.word & 255); }
 static uint32_t bcube_step_hop(bcube_stepped step) { return (uint32_t)(step.word >> 8 & 255); }
 static int bcube_step_delivered(bcube_stepped step) { return (int)(step.word >> 16 & 255); }
@@ -74,6 +88,49 @@ static unsigned read_steps(void) {
     return read;
 }
 
+static unsigned words, others; /* read, and read as another */
+
+/* a word of today, to a question that version 2 answered by `was`: the number and the hop that its functions read now,
+ * with the route and the value that they read then; and where number and hop are those of then, the same word */
+static void reads(const char *what, bcube_answer now, uint64_t was, uint32_t number, uint32_t hop) {
+    bcube_answer then = {was};
+    int the_same = bcube_refusal(then) == number && bcube_hop(then) == hop;
+    words++;
+    if (bcube_refusal(now) == number && bcube_hop(now) == hop && bcube_route(now) == bcube_route(then) &&
+        bcube_value(now) == bcube_value(then) && (!the_same || now.word == was))
+        return;
+    printf("%s: %016" PRIx64 ", which was %016" PRIx64 "\n", what, now.word, was);
+    others++;
+}
+
+static uint64_t refused(uint64_t number, uint64_t route, uint64_t hop) { return number | route << 8 | hop << 16; }
+
+/* arrays, servers and lists of the (4,1) room from server 0 */
+static void read_words(void) {
+    static const uint8_t table[16], level[8] = {0x80}, after[8] = {3, 1}, far[8] = {1, 0x41, 2, 0x42, 3, 0x43, 0, 0x41};
+    static const uint8_t by_switch[8] = {1, 3}, and_back[8] = {1, 0}, around[8] = {1, 0x41, 0, 0x40};
+    static const uint8_t twice[16] = {3, 0, 0, 0, 0, 0, 0, 0, 3}, good[16] = {0x41, 3, 0, 0, 0, 0, 0, 0, 3, 0x41};
+    static const uint8_t second[16] = {0x41, 3, 0, 0, 0, 0, 0, 0, 2, 1}, late[16] = {0x41, 3, 0, 0, 0, 0, 0, 0, 2, 0x41, 3};
+    static const uint64_t three[] = {0, 1, 3}, six[] = {0, 1, 5, 4, 0, 3}, apart[] = {0, 1, 6};
+    bcube_room room = bcube_room_of(4, 1);
+    uint64_t met[9];
+    uint8_t path[8];
+    reads("a level", bcube_read(room, 0, 3, level, 8, met), refused(8, 1, 1), 8, 1);
+    reads("a byte after", bcube_reverse(room, 0, 3, after, 8, path), refused(14, 1, 2), 14, 2);
+    reads("eight hops", bcube_read(room, 0, 8, far, 8, met), refused(13, 1, 8), 13, 8);
+    reads("no neighbours", bcube_write(room, apart, 3, path), refused(23, 1, 2), 23, 2);
+    reads("a good list", bcube_check(room, 0, 7, table, 16, good, 16), 0, 0, 0);
+    reads("a good array", bcube_read(room, 0, 7, good, 8, met), UINT64_C(3) << 32, 0, 0);
+    reads("a switch", bcube_read(room, 0, 3, by_switch, 8, met), refused(12, 1, 2), 29, 2);
+    reads("the source", bcube_read(room, 0, 3, and_back, 8, met), refused(12, 1, 2), 28, 2);
+    reads("the source, reversed", bcube_reverse(room, 0, 3, around, 8, path), refused(12, 1, 4), 28, 4);
+    reads("a switch, written", bcube_write(room, three, 3, path), refused(12, 1, 2), 29, 2);
+    reads("the source, written", bcube_write(room, six, 6, path), refused(12, 1, 4), 28, 4);
+    reads("a switch, in a list", bcube_check(room, 0, 7, table, 16, second, 16), refused(12, 2, 2), 29, 2);
+    reads("one route twice", bcube_check(room, 0, 3, table, 16, twice, 16), refused(15, 2, 0), 15, 1);
+    reads("a switch of two", bcube_check(room, 0, 7, table, 16, late, 16), refused(15, 2, 0), 15, 3);
+}
+
 int main(void) {
     static const uint64_t third[] = {0, 1, 2, 3, 4, 7, 8, 9, 255, 256, UINT64_MAX};
     static const struct {
@@ -90,7 +147,8 @@ int main(void) {
             return 1;
         }
     unsigned read = read_steps();
-    if (read == 0) return 1;
-    printf("%u rooms, %u steps", made, read);
+    read_words();
+    if (read == 0 || others != 0) return 1;
+    printf("%u rooms, %u steps, %u words", made, read, words);
     return 0;
 }

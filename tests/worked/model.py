@@ -8,8 +8,8 @@ A row is a question, ' = ' and an answer. A question names its room by (n,k) whe
 not. A step names the bytes of its neighbour table and the one entry that is filled, or says 'all': the entry of each byte then
 has the byte as its MAC, the byte's level as its OutPort, and flag 1. The model shares nothing with the library: digits are
 lists, switches are counted one by one, neighbours are found by comparing digits, the level and the old value of a hop by comparing
-its two servers, an alternate is found by trying all routes in order, and failed links are counted by going through all
-servers of the room.
+its two servers, an alternate is found by trying all routes in order, failed links are counted by going through all
+servers of the room, and where two routes first meet is the least of all their meetings.
 """
 import collections
 import functools
@@ -25,13 +25,15 @@ Shape = collections.namedtuple('Shape', 'n k m')
 
 
 class Refused(Exception):
-    def __init__(self, number, route=0, hop=0):
+    """A refusal with its place; beside it the earlier hop that 28 and 29 name, and the earlier route and hop of 15."""
+
+    def __init__(self, number, route=0, hop=0, earlier=''):
         super().__init__(number)
-        self.place = (number, route, hop)
+        self.place = (number, route, hop, earlier)
 
     def __str__(self):
-        n, r, h = self.place
-        return f'refused {n}' + (f' route {r} hop {h}' if r else '')
+        n, r, h, earlier = self.place
+        return f'refused {n}' + (f' route {r} hop {h}' if r else '') + (f' earlier {earlier}' if earlier else '')
 
 
 def bounds(s):
@@ -214,19 +216,33 @@ def hop(s, a, byte):
     return land(s, a, byte, 1, 1)
 
 
+def hop_with(x, pairs):
+    """The hop that a set of hops with what they meet or use has for x, which is one hop at most; None where it has none."""
+    hops = [h for h, y in pairs if y == x]
+    if len(hops) > 1:
+        raise SystemExit(f'{x} has the hops {hops}')
+    return hops[0] if hops else None
+
+
+def test_again(met, used, there, sw, route, h):
+    """Whether the route already has the server that hop h leads to, or else the switch that it uses."""
+    for number, earlier in (28, hop_with(there, met)), (29, hop_with(sw, used)):
+        if earlier is not None:
+            raise Refused(number, route, h, f'hop {earlier}')
+
+
 def walk(s, table, a, d, path, route=1):
-    """The servers met and the switches used."""
-    met, used, here = [a], [], a
+    """The servers met, each with the hop that leads to it, and the switches used, each with its hop. The source has hop 0."""
+    met, used, here = {(0, a)}, set(), a
     for h, byte in enumerate(path, 1):
         there = land(s, here, byte, route, h)
         level, = differing(s, here, there)
         if not live(table, level, here, there):
             raise Refused(11, route, h)
         sw = switch(s, here, level)
-        if there in met or sw in used:
-            raise Refused(12, route, h)
-        met.append(there)
-        used.append(sw)
+        test_again(met, used, there, sw, route, h)
+        met.add((h, there))
+        used.add((h, sw))
         here = there
         if here == d:
             for j in range(h, 8):
@@ -251,16 +267,15 @@ def write(s, servers):
     test_server(s, *servers)
     if servers[0] == servers[-1]:
         raise Refused(5)
-    met, used = [servers[0]], []
+    met, used = {(0, servers[0])}, set()
     for h, (a, b) in enumerate(zip(servers, servers[1:]), 1):
         apart = differing(s, a, b)
         if len(apart) != 1:
             raise Refused(23, 1, h)
         sw = switch(s, a, apart[0])
-        if b in met or sw in used:
-            raise Refused(12, 1, h)
-        met.append(b)
-        used.append(sw)
+        test_again(met, used, b, sw, 1, h)
+        met.add((h, b))
+        used.add((h, sw))
     return encode(s, servers)
 
 
@@ -268,7 +283,7 @@ def read(s, a, d, path):
     test_ends(s, a, d)
     if len(path) != 8:
         raise Refused(7)
-    return walk(s, [], a, d, path)[0]
+    return [server for _, server in sorted(walk(s, [], a, d, path)[0])]
 
 
 def reverse(s, a, d, path):
@@ -281,8 +296,9 @@ def reverse(s, a, d, path):
     return turned
 
 
-def parallel(one, other):
-    return not set(one[1]) & set(other[1]) and not set(one[0][1:-1]) & set(other[0][1:-1])
+def meetings(one, other, ends):
+    """Every hop of one route with every hop of another that uses its switch, or leads to its server, the ends left out."""
+    return {(g, h) for mine, yours in zip(one, other) for g, x in mine for h, y in yours if x == y and x not in ends}
 
 
 def arrays(data):
@@ -296,8 +312,10 @@ def check(s, table, a, d, data):
         raise Refused(7)
     routes = [walk(s, table, a, d, x, i) for i, x in enumerate(arrays(data), 1)]
     for i, j in itertools.combinations(range(len(routes)), 2):
-        if not parallel(routes[i], routes[j]):
-            raise Refused(15, j + 1, 0)
+        met = meetings(routes[i], routes[j], (a, d))
+        if met:
+            earlier, later = min(met)
+            raise Refused(15, j + 1, later, f'route {i + 1} hop {earlier}')
 
 
 def pick(s, table, a, d, fresh, kept):

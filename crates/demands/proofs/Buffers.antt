@@ -6,7 +6,7 @@ use mathlib.Core.List.{List, [], _∷_}
 use native.Mathlib.Omega.{arith}
 use lib.Dec.{lit<}
 use Rattle.refusals.specs.declared.Refusal.{Refusal}
-use Rattle.refusals.specs.Refusals.{answer}
+use Rattle.refusals.specs.Refusals.{earlierRoute, earlierHop, answer}
 use Rattle.refusals.proofs.NumberLaws.{one-le}
 use Rattle.room.specs.Refusals.{shapeRefusal}
 use Rattle.room.proofs.NumberLaws.{shape-numbers}
@@ -57,13 +57,13 @@ every-room = record { refused = room-refused; shape = room-shape; number = room-
 
 -- ---- the words
 
--- the byte above the refusal
-between : (r : Refusal) (v : ℕ) → Small r v → word r v .word / 16777216 % 256 ≡ 0
+-- the byte above the refusal's hop
+earlier : (r : Refusal) (v : ℕ) → Small r v → word r v .word / 16777216 % 256 ≡ 16 * earlierRoute r + earlierHop r
 unfolding word
-between r v h = omega (arith, h .number, h .route, h .hop)
+earlier r v h = omega (arith, h .number, h .route, h .hop, h .earlier-route, h .earlier-hop)
 
 tells : {r : Refusal} {v : ℕ} → Small r v → Tells (word r v) r v
-tells {r} {v} h = record { refusal = refusal-back r v h; value = value-back r v h; between = between r v h }
+tells {r} {v} h = record { refusal = refusal-back r v h; value = value-back r v h; earlier = earlier r v h }
 
 -- a word that was made of a refusal and a number
 said : {r : Refusal} {v : ℕ} {w : Answer} → w ≡ word r v → Small r v → Tells w r v
@@ -95,7 +95,8 @@ tells-step x h =
       level = ap (λ (y : ℕ). y / 64) (f .back) ∙ b .0;
       old = ap (λ (y : ℕ). y % 64) (f .back) ∙ b .1;
       mac = ap (λ (y : ℕ). y ∷ m / 4294967296 % 256 ∷ m / 16777216 % 256 ∷ m / 65536 % 256 ∷ m / 256 % 256 ∷ m % 256 ∷ []) (high m (omega (arith, mac-made (x .mac) (h .long), h .mac .at 0, h .mac .at 1, h .mac .at 2, h .mac .at 3, h .mac .at 4, h .mac .at 5))) ∙ ap (λ (y : Step). y .mac) (unpack-packed x h);
-      route = h .fits .route;
+      route = ap (λ (r : Refusal). r .route) (h .fits .place);
+      no-earlier = (ap earlierRoute (h .fits .place), ap earlierHop (h .fits .place));
     }
   where
     high : (m : ℕ) → m < 281474976710656 → m / 1099511627776 ≡ m / 1099511627776 % 256

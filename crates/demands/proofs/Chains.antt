@@ -193,6 +193,14 @@ fails refused (t ∷ A) q r m (inr h) (inr k) = (λ z. eqb-false (t .0) 0 (not-t
 pub failing : {R : Type 0} (refused : ℕ → R) (A : Tests) (q : ℕ) → some A ≡ true → Number A q → q ≢ 0 → Refused refused A (λ x. ⊥) (refused q)
 failing refused A q m h n = carry refused refused (λ x. ⊥) A q (made refused refused A (λ k. refl) m) h (λ a. n (zero-of A q h a))
 
+-- a test fails, and all before it hold; numbers of its own
+module _ (A B : Tests) (n : ℕ) (P : Type 0) where
+  pub at-fails : Hold A → (P → ⊥) → Refused (λ x. x) (A ++ ((n, P) ∷ B)) (λ x. ⊥) n
+  at-fails h k = join (λ x. x) (λ x. ⊥) A ((n, P) ∷ B) n (held (λ x. x) (Refused (λ x. x) ((n, P) ∷ B) (λ x. ⊥)) A n h (inr (k, refl)))
+
+  pub fails-at : Others (λ x. x) A n → Refused (λ x. x) (A ++ ((n, P) ∷ B)) (λ x. ⊥) n → Hold A
+  fails-at o h = others (λ x. x) (Refused (λ x. x) ((n, P) ∷ B) (λ x. ⊥)) A n o (split (λ x. x) (λ x. ⊥) A ((n, P) ∷ B) n h) .0
+
 -- ---- answers
 
 -- an answer that is a refusal of the whole, or what was asked for
@@ -239,3 +247,12 @@ both t u e f = (λ h. let w = both-held t u h in (e .0 (w .0), f .0 (w .1)), λ 
   where
     go : (t u : Bool) → t ≡ true → u ≡ true → (t && u) ≡ true
     go t u h k = rw (h, k)
+
+-- ---- numbers of a chain
+
+-- a number that a chain fails with is one of its own
+pub fails-in : (A : Tests) (n : ℕ) → Refused (λ x. x) A (λ x. ⊥) n → isIn n (numbersOf A) ≡ true
+unfolding isIn
+fails-in [] n h = absurd h
+fails-in (t ∷ A) n (inl h) = or-right (eqb n (t .0)) (isIn n (numbersOf A)) (fails-in A n (h .1))
+fails-in (t ∷ A) n (inr h) = rw (eq-eqb n (t .0) (h .1))

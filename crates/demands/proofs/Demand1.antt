@@ -3,15 +3,15 @@ use Prim.Native.Nat.{ℕ, suc, _+_, _-_, _/_, _≤_, _<_}
 use mathlib.Core.Path.{_≡_, refl, sym, ap, _∙_, subst}
 use mathlib.Core.Logic.{_≢_, inl, inr}
 use mathlib.Core.Bool.{Bool, true, false, cond}
-use mathlib.Core.List.{List, [], _∷_}
+use mathlib.Core.List.{List, [], _∷_, _++_}
 use native.Mathlib.Omega.{arith}
 use native.Mathlib.Decide.{decLt, ℕ-discrete}
 use lib.Dec.{eqb}
 use lib.ListN.{length, getD, replicate, length-append, List·getD-eq-default}
 use Rattle.lists.specs.Lists.{isIn, inTurn}
-use Rattle.lists.proofs.ListLaws.{length-turn}
+use Rattle.lists.proofs.ListLaws.{length-turn, in-left, in-right}
 use Rattle.refusals.specs.declared.Refusal.{Refusal}
-use Rattle.refusals.specs.Refusals.{none, plain, refusedAt, OneOf, listed}
+use Rattle.refusals.specs.Refusals.{none, plain, refusedAt, ofRoute, withEarlier, OneOf, listed}
 use Rattle.room.specs.declared.Shape.{Shape}
 use Rattle.room.specs.Shapes.{serversOf}
 use Rattle.room.specs.Refusals.{shapeRefusal, levelRefusal, serverRefusal, pairRefusal, linkRefusal, valueRefusal, placesRefusal, endsRefusal}
@@ -26,8 +26,8 @@ use Rattle.summary.specs.Answers.{deadAnswer}
 use Rattle.summary.proofs.AnswerLaws.{first-refusal}
 use Rattle.path.specs.declared.Hop.{Hop}
 use Rattle.path.specs.Bytes.{madeRefusal, byteAnswer, partsRefusal, noParts, someParts, partsAnswer}
-use Rattle.path.specs.Routes.{byteTo, switchesOf, encode, levelOf, valueOf}
-use Rattle.path.specs.Walks.{Walk, stopped, arrived, walk, hopRefusal, fault}
+use Rattle.path.specs.Routes.{byteTo, switchAt, switchTo, switchesOf, encode, levelOf, valueOf}
+use Rattle.path.specs.Walks.{Walk, stopped, arrived, walk, hopTo, hopRefusal, fault}
 use Rattle.path.specs.Answers.{noHop, hopBy, hopFrom, hopAnswer, arrayRefusal, noWalk, walked, walkAnswer, reading, readAnswer, noWriting, aWriting, reversed, reverseAnswer, writeRefusal, written, onTheWay, writeAnswer}
 use Rattle.path.proofs.NumberLaws.{fault-numbers}
 use Rattle.verdict.specs.Checks.{checkAnswer}
@@ -45,12 +45,12 @@ use Rattle.pick.proofs.Promises.{empty-exactly}
 use Rattle.step.specs.declared.Step.{Step}
 use Rattle.step.specs.Steps.{stepRefusal, withPlace, noStep, delivery, forwarded, stepAnswer}
 use Rattle.demands.specs.Tests.{Refused, Exactly}
-use Rattle.demands.specs.Demand1.{ofAHop, at-hop, no-arrival, later, PartsOf, WalkedOf, ReadingOf, WritingOf, FoundOf, SelectionOf, PlaceOf, StepOf, RefusalOf, HopOf, EveryCall}
-use Rattle.demands.specs.Refusals.{shapeTests, levelTests, serverTests, pairTests, linkTests, valueTests, portTests, madeTests, partsTests, placesTests, tableTests, tableLinkTests, tableServerTests, countedLinkTests, countedServerTests, summaryTests, entriesTests, endsTests, roomTests, arrayTests, layTests, checkTests, selectTests, pickTests, endOf, hopTests, readTests, writeTests, serversTests, givenTests, stepTests, Stops, hop-fails, never-arrives, goes-on, Reads, Writes, Checks, Steps}
-use Rattle.demands.proofs.Chains.{back, all, one-listed, fails}
-use Rattle.demands.proofs.Refusing.{Of, none-of, some-of, hop-of, chain-of, whole-of, bare-none, bare-is, bare-answer, refuses, answer-refuses}
+use Rattle.demands.specs.Demand1.{ofAHop, at-hop, no-arrival, server-again, switch-again, meeting, PartsOf, WalkedOf, ReadingOf, WritingOf, FoundOf, SelectionOf, PlaceOf, StepOf, RefusalOf, HopOf, EveryCall}
+use Rattle.demands.specs.Meetings.{Earlier, server, switch, no-hop, Meet, at-switch, at-server}
+use Rattle.demands.specs.Refusals.{FailsWith, shapeTests, levelTests, serverTests, pairTests, linkTests, valueTests, portTests, madeTests, partsTests, placesTests, tableTests, tableLinkTests, tableServerTests, countedLinkTests, countedServerTests, summaryTests, entriesTests, endsTests, roomTests, arrayTests, layTests, checkTests, selectTests, pickTests, endOf, hopTests, readTests, writeTests, serversTests, givenTests, stepTests, Stops, hop-fails, never-arrives, goes-on, Reads, Writes, Checks, Steps}
+use Rattle.demands.proofs.Chains.{back, all, one-listed, fails, fails-in}
+use Rattle.demands.proofs.Refusing.{all-at, apart-in, Of, none-of, some-of, hop-of, chain-of, whole-of, bare-none, bare-is, bare-answer, refuses, answer-refuses}
 use Rattle.demands.proofs.Numbers.{read-number, plain-numbers}
-use Rattle.demands.proofs.Hops.{stops-walk}
 use Rattle.demands.proofs.Exactly.{refused-exactly}
 
 -- what a call refuses meets its chain
@@ -63,29 +63,47 @@ alone m F r h = refuses (λ x. x) (λ x. x) (λ x. refl) m F r h (λ n. refl)
 
 -- ---- reading
 
-module _ (s : Shape) (t F B : List ℕ) (hops : all ofAHop F ≡ true) (some : all (λ x. isIn x B) F ≡ true) (thirteen : isIn 13 B ≡ true) (fourteen : isIn 14 B ≡ true) (numbers : (met used : List ℕ) (a b : ℕ) → OneOf F (fault s t met used a b)) where
+-- F are the numbers of a hop but 28 and 29, B all numbers of the call
+module _ (s : Shape) (t F B : List ℕ) (hops : all ofAHop F ≡ true) (some : all (λ x. isIn x B) (F ++ (28 ∷ 29 ∷ 13 ∷ 14 ∷ [])) ≡ true) (numbers : (met used : List ℕ) (a b : ℕ) → OneOf (F ++ (28 ∷ 29 ∷ [])) (fault s t met used a b)) where
+  -- a number of the call
+  among : {n : ℕ} → isIn n (F ++ (28 ∷ 29 ∷ 13 ∷ 14 ∷ [])) ≡ true → OneOf B n
+  among {n} e = listed (all-at (λ x. isIn x B) (F ++ (28 ∷ 29 ∷ 13 ∷ 14 ∷ [])) n some e)
+
   -- an array that stops does so at a hop of its route
-  stops-of : {a d : ℕ} {bs : List ℕ} {r : Refusal} (m i : ℕ) → 1 ≤ i → i ≤ m → length bs ≡ 8 → Stops s t a d bs r → Of m B (refusedAt (r .number) i (r .hop))
-  stops-of {a} {d} {bs} {r} m i p q l (hop-fails {vs} {b} {left} h k) =
-      let f = fault s t vs (switchesOf s vs) (endOf vs) b in
-      let w = fails (λ n. refusedAt n 1 (length vs)) (readTests s t vs b) f r refl (read-number s t vs b) k in
-      let count : length bs ≡ length vs - 1 + suc (length left) = ap length (h .bytes) ∙ length-append (inTurn (byteTo s) vs) (b ∷ left) ∙ ap (λ (x : ℕ). x + suc (length left)) (length-turn (byteTo s) vs) in
-      subst (λ (x : Refusal). Of m B (refusedAt (x .number) i (x .hop))) (sym (w .1))
-      (hop-of F B f i (length vs) hops some (some-of (numbers vs (switchesOf s vs) (endOf vs) b) (w .0)) p q (h .way .some) (omega (arith, h .way .some)))
-  stops-of m i p q l (never-arrives h) = (listed thirteen, no-arrival p q)
+  stops-of : {a d : ℕ} {bs : List ℕ} {r : Refusal} (m i : ℕ) → 1 ≤ i → i ≤ m → length bs ≡ 8 → Stops s t a d bs r → Of m B (ofRoute i r)
+  unfolding isIn
+  stops-of {a} {d} {bs} {r} m i p q l (hop-fails {vs} {b} {left} h k e) = go k e
+    where
+      few : length vs ≤ 8
+      few =
+          let count : length bs ≡ length vs - 1 + suc (length left) = ap length (h .bytes) ∙ length-append (inTurn (byteTo s) vs) (b ∷ left) ∙ ap (λ (x : ℕ). x + suc (length left)) (length-turn (byteTo s) vs) in
+          omega (arith, h .way .some)
+
+      go : {n g : ℕ} → FailsWith (readTests s t vs b) n → Earlier s vs (hopTo s (endOf vs) b) (switchAt s (levelOf b) (endOf vs)) n g → Of m B (ofRoute i (withEarlier 0 g (refusedAt n 1 (length vs))))
+      go k (server x) = (among (in-right 28 F (28 ∷ 29 ∷ 13 ∷ 14 ∷ []) refl), server-again p q (x .within) few)
+      go k (switch x) = (among (in-right 29 F (28 ∷ 29 ∷ 13 ∷ 14 ∷ []) refl), switch-again p q (x .some) (x .within) few)
+      go {n} k (no-hop x y) =
+          let w = fails (λ z. z) (readTests s t vs b) (fault s t vs (switchesOf s vs) (endOf vs) b) n refl (read-number s t vs b) k in
+          let z = apart-in F n x y (subst (λ (f : ℕ). isIn f (F ++ (28 ∷ 29 ∷ [])) ≡ true) (sym (w .1)) (some-of (numbers vs (switchesOf s vs) (endOf vs) b) (w .0))) in
+          (among (in-left n F (28 ∷ 29 ∷ 13 ∷ 14 ∷ []) z), at-hop (all-at ofAHop F n hops z) p q (h .way .some) few)
+  stops-of m i p q l (never-arrives h) = (among (in-right 13 F (28 ∷ 29 ∷ 13 ∷ 14 ∷ []) refl), no-arrival p q)
   stops-of {a} {d} {bs} m i p q l (goes-on {p = j} h) = (
-    listed fourteen,
+    among (in-right 14 F (28 ∷ 29 ∷ 13 ∷ 14 ∷ []) refl),
     at-hop {h = suc j} refl p q (omega arith) (elim (decLt j 8) [
       | yes y ↦ y
       | no n ↦ absurd (h .here (List·getD-eq-default bs 0 {n = j} (omega arith)))
     ]),
   )
 
+  -- a single array is route 1
+  stops-route : {a d : ℕ} {bs : List ℕ} {r : Refusal} → Stops s t a d bs r → ofRoute 1 r ≡ r
+  stops-route (hop-fails h k e) = refl
+  stops-route (never-arrives h) = refl
+  stops-route (goes-on h) = refl
+
   reads-of : {a d : ℕ} {bs : List ℕ} {r : Refusal} → length bs ≡ 8 → Reads s t a d bs r → Of 1 B r
   reads-of l (inl h) = none-of (h .1)
-  reads-of {a} {d} {bs} {r} l (inr h) =
-      let e = stops-walk h .3 in
-      subst (Of 1 B) (ap (λ (x : Refusal). refusedAt (x .number) 1 (x .hop)) (sym e) ∙ e) (stops-of 1 1 (omega arith) (omega arith) l h)
+  reads-of {a} {d} {bs} {r} l (inr h) = subst (Of 1 B) (stops-route h) (stops-of 1 1 (omega arith) (omega arith) l h)
 
   array-of : {a d : ℕ} {bs : List ℕ} {r : Refusal} → all (λ x. isIn x B) (1 ∷ 2 ∷ 26 ∷ 3 ∷ 4 ∷ 5 ∷ 7 ∷ []) ≡ true → Refused plain (arrayTests s a d bs) (Reads s t a d bs) r → Of 1 B r
   array-of {a} {d} {bs} {r} u h = whole-of 1 B (arrayTests s a d bs) (Reads s t a d bs) r refl u (λ k. reads-of (back (endsTests s a d) ((7, length bs ≡ 8) ∷ []) k .0)) h
@@ -104,29 +122,29 @@ module _ (s : Shape) where
       (bare-answer (λ x. x .refusal) noParts (λ r. refl) (λ r. refusedAt r 1 1) (partsRefusal s b) (someParts (levelOf b) (valueOf b)) (bare-none (λ x. x .refusal) noParts (λ r. refl) (someParts (levelOf b) (valueOf b)) refl)))
 
   bare-walked : (w : Walk) → walked w .refusal .number ≢ 0 → walked w ≡ noWalk (walked w .refusal)
-  bare-walked (stopped r h) n = refl
+  bare-walked (stopped r) n = refl
   bare-walked (arrived vs ws) n = absurd (n refl)
 
   bare-reversed : (w : Walk) → reversed s w .refusal .number ≢ 0 → reversed s w ≡ noWriting (reversed s w .refusal)
-  bare-reversed (stopped r h) n = refl
+  bare-reversed (stopped r) n = refl
   bare-reversed (arrived vs ws) n = absurd (n refl)
 
-  walk-of : (t : List ℕ) (a d : ℕ) (bs : List ℕ) → WalkedOf (1 ∷ 2 ∷ 26 ∷ 3 ∷ 4 ∷ 5 ∷ 7 ∷ 8 ∷ 9 ∷ 10 ∷ 11 ∷ 12 ∷ 13 ∷ 14 ∷ []) (walkAnswer s t a d bs)
+  walk-of : (t : List ℕ) (a d : ℕ) (bs : List ℕ) → WalkedOf (1 ∷ 2 ∷ 26 ∷ 3 ∷ 4 ∷ 5 ∷ 7 ∷ 8 ∷ 9 ∷ 10 ∷ 11 ∷ 28 ∷ 29 ∷ 13 ∷ 14 ∷ []) (walkAnswer s t a d bs)
   unfolding walkAnswer isIn
   walk-of t a d bs =
-      refuses _ _ (λ r. refl) 1 _ (walkAnswer s t a d bs) (array-of s t (8 ∷ 9 ∷ 10 ∷ 11 ∷ 12 ∷ []) _ refl refl refl refl (fault-numbers s t) refl (meets (refused-exactly .walk s t a d bs)))
+      refuses _ _ (λ r. refl) 1 _ (walkAnswer s t a d bs) (array-of s t (8 ∷ 9 ∷ 10 ∷ 11 ∷ []) _ refl refl (fault-numbers s t) refl (meets (refused-exactly .walk s t a d bs)))
       (bare-answer (λ x. x .refusal) noWalk (λ r. refl) plain (arrayRefusal s a d bs) (walked (walk s t a d bs)) (bare-walked (walk s t a d bs)))
 
-  read-path : (a d : ℕ) (bs : List ℕ) → ReadingOf (1 ∷ 2 ∷ 26 ∷ 3 ∷ 4 ∷ 5 ∷ 7 ∷ 8 ∷ 9 ∷ 10 ∷ 12 ∷ 13 ∷ 14 ∷ []) (readAnswer s a d bs)
+  read-path : (a d : ℕ) (bs : List ℕ) → ReadingOf (1 ∷ 2 ∷ 26 ∷ 3 ∷ 4 ∷ 5 ∷ 7 ∷ 8 ∷ 9 ∷ 10 ∷ 28 ∷ 29 ∷ 13 ∷ 14 ∷ []) (readAnswer s a d bs)
   unfolding readAnswer isIn
   read-path a d bs =
-      refuses _ _ (λ r. refl) 1 _ (readAnswer s a d bs) (array-of s [] (8 ∷ 9 ∷ 10 ∷ 12 ∷ []) _ refl refl refl refl (plain-numbers s) refl (meets (refused-exactly .read-path s a d bs)))
+      refuses _ _ (λ r. refl) 1 _ (readAnswer s a d bs) (array-of s [] (8 ∷ 9 ∷ 10 ∷ []) _ refl refl (plain-numbers s) refl (meets (refused-exactly .read-path s a d bs)))
       (λ n. ap reading (walk-of [] a d bs .nothing-else n))
 
-  reverse-path : (a d : ℕ) (bs : List ℕ) → WritingOf (1 ∷ 2 ∷ 26 ∷ 3 ∷ 4 ∷ 5 ∷ 7 ∷ 8 ∷ 9 ∷ 10 ∷ 12 ∷ 13 ∷ 14 ∷ []) (reverseAnswer s a d bs)
+  reverse-path : (a d : ℕ) (bs : List ℕ) → WritingOf (1 ∷ 2 ∷ 26 ∷ 3 ∷ 4 ∷ 5 ∷ 7 ∷ 8 ∷ 9 ∷ 10 ∷ 28 ∷ 29 ∷ 13 ∷ 14 ∷ []) (reverseAnswer s a d bs)
   unfolding reverseAnswer isIn
   reverse-path a d bs =
-      refuses _ _ (λ r. refl) 1 _ (reverseAnswer s a d bs) (array-of s [] (8 ∷ 9 ∷ 10 ∷ 12 ∷ []) _ refl refl refl refl (plain-numbers s) refl (meets (refused-exactly .reverse-path s a d bs)))
+      refuses _ _ (λ r. refl) 1 _ (reverseAnswer s a d bs) (array-of s [] (8 ∷ 9 ∷ 10 ∷ []) _ refl refl (plain-numbers s) refl (meets (refused-exactly .reverse-path s a d bs)))
       (bare-answer (λ x. x .refusal) noWriting (λ r. refl) plain (arrayRefusal s a d bs) (reversed s (walk s [] a d bs)) (bare-reversed (walk s [] a d bs)))
 
   hop-one : (a b : ℕ) → HopOf (1 ∷ 2 ∷ 26 ∷ 3 ∷ 4 ∷ 8 ∷ 9 ∷ 10 ∷ []) (hopAnswer s a b)
@@ -142,21 +160,27 @@ module _ (s : Shape) where
       (bare-answer (λ x. x .refusal) noHop (λ r. refl) plain (serverRefusal s a) _
       (bare-answer (λ x. x .refusal) noHop (λ r. refl) (λ r. refusedAt r 1 1) (hopRefusal s a b) goes (bare-none (λ x. x .refusal) noHop (λ r. refl) goes refl)))
 
-  lay-route : (t : List ℕ) (a d : ℕ) (bs : List ℕ) (r : Refusal) (u : List ℕ) → Lays s t a d bs r u → RefusalOf 1 (1 ∷ 2 ∷ 26 ∷ 3 ∷ 4 ∷ 5 ∷ 6 ∷ 7 ∷ 8 ∷ 9 ∷ 10 ∷ 12 ∷ 13 ∷ 14 ∷ []) r
+  lay-route : (t : List ℕ) (a d : ℕ) (bs : List ℕ) (r : Refusal) (u : List ℕ) → Lays s t a d bs r u → RefusalOf 1 (1 ∷ 2 ∷ 26 ∷ 3 ∷ 4 ∷ 5 ∷ 6 ∷ 7 ∷ 8 ∷ 9 ∷ 10 ∷ 28 ∷ 29 ∷ 13 ∷ 14 ∷ []) r
   unfolding isIn
   lay-route t a d bs r u h =
       alone _ _ _ (whole-of 1 _ (layTests s t a d bs) (Reads s [] a d bs) r refl refl
-      (λ k. reads-of s [] (8 ∷ 9 ∷ 10 ∷ 12 ∷ []) _ refl refl refl refl (plain-numbers s) (back (roomTests s t a d) ((7, length bs ≡ 8) ∷ []) k .0)) (meets (refused-exactly .lay-route s t a d bs r u h)))
+      (λ k. reads-of s [] (8 ∷ 9 ∷ 10 ∷ []) _ refl refl (plain-numbers s) (back (roomTests s t a d) ((7, length bs ≡ 8) ∷ []) k .0)) (meets (refused-exactly .lay-route s t a d bs r u h)))
 
   -- ---- writing
 
-  writes-of : {vs : List ℕ} {r : Refusal} → length vs ≤ 9 → Writes s vs r → Of 1 (1 ∷ 2 ∷ 26 ∷ 3 ∷ 22 ∷ 4 ∷ 5 ∷ 23 ∷ 12 ∷ []) r
+  writes-of : {vs : List ℕ} {r : Refusal} → length vs ≤ 9 → Writes s vs r → Of 1 (1 ∷ 2 ∷ 26 ∷ 3 ∷ 22 ∷ 4 ∷ 5 ∷ 23 ∷ 28 ∷ 29 ∷ []) r
   unfolding isIn
   writes-of l (inl h) = none-of (h .1)
-  writes-of {vs} {r} l (inr h) =
-      let count = ap length (h .servers) ∙ length-append (h .before) (h .next ∷ h .rest) in
-      chain-of (λ n. refusedAt n 1 (length (h .before))) 1 _ (writeTests s (h .before) (h .next)) (λ x. ⊥) r
-      (λ n e. hop-of (23 ∷ 12 ∷ []) (1 ∷ 2 ∷ 26 ∷ 3 ∷ 22 ∷ 4 ∷ 5 ∷ 23 ∷ 12 ∷ []) n 1 (length (h .before)) refl refl e (omega arith) (omega arith) (h .way .some) (omega arith)) (λ k z. absurd z) (h .refused)
+  writes-of {vs} {r} l (inr h) = subst (Of 1 _) (sym (h .here)) (go (h .refused) (h .names))
+    where
+      few : length (h .before) ≤ 8
+      few = let count = ap length (h .servers) ∙ length-append (h .before) (h .next ∷ h .rest) in omega arith
+
+      go : {n g : ℕ} → FailsWith (writeTests s (h .before) (h .next)) n → Earlier s (h .before) (h .next) (switchTo s (endOf (h .before)) (h .next)) n g → Of 1 (1 ∷ 2 ∷ 26 ∷ 3 ∷ 22 ∷ 4 ∷ 5 ∷ 23 ∷ 28 ∷ 29 ∷ []) (withEarlier 0 g (refusedAt n 1 (length (h .before))))
+      go k (server x) = (listed refl, server-again {i = 1} (omega arith) (omega arith) (x .within) few)
+      go k (switch x) = (listed refl, switch-again {i = 1} (omega arith) (omega arith) (x .some) (x .within) few)
+      go {n} k (no-hop x y) =
+          hop-of (23 ∷ []) _ n 1 (length (h .before)) refl refl (apart-in (23 ∷ []) n x y (fails-in (writeTests s (h .before) (h .next)) n k)) (omega arith) (omega arith) (h .way .some) few
 
   bare-written : (vs : List ℕ) (r : Refusal) → written s vs r .refusal .number ≢ 0 → written s vs r ≡ noWriting (written s vs r .refusal)
   bare-written vs r = go (eqb (r .number) 0)
@@ -165,7 +189,7 @@ module _ (s : Shape) where
       go true n = absurd (n refl)
       go false n = refl
 
-  write-path : (vs : List ℕ) → WritingOf (1 ∷ 2 ∷ 26 ∷ 3 ∷ 22 ∷ 4 ∷ 5 ∷ 23 ∷ 12 ∷ []) (writeAnswer s vs)
+  write-path : (vs : List ℕ) → WritingOf (1 ∷ 2 ∷ 26 ∷ 3 ∷ 22 ∷ 4 ∷ 5 ∷ 23 ∷ 28 ∷ 29 ∷ []) (writeAnswer s vs)
   unfolding writeAnswer isIn
   write-path vs =
       refuses _ _ (λ r. refl) 1 _ (writeAnswer s vs) (whole-of 1 _ (serversTests s vs) (Writes s vs) _ refl refl (λ k. writes-of (back (shapeTests s) ((22, (2 ≤ length vs) × (length vs ≤ 9)) ∷ (4, (i : ℕ) → i < length vs → getD vs i 0 < serversOf s) ∷ (5, getD vs 0 0 ≢ endOf vs) ∷ []) k .0 .1)) (meets (refused-exactly .write-path s vs)))
@@ -173,16 +197,24 @@ module _ (s : Shape) where
 
   -- ---- lists
 
-  checks-of : {t : List ℕ} {a d : ℕ} {bs : List ℕ} {r : Refusal} → Checks s t a d bs r → Of (length bs / 8) (1 ∷ 2 ∷ 26 ∷ 3 ∷ 4 ∷ 5 ∷ 6 ∷ 7 ∷ 8 ∷ 9 ∷ 10 ∷ 11 ∷ 12 ∷ 13 ∷ 14 ∷ 15 ∷ []) r
+  -- hops that meet are hops of the routes
+  met-hops : {us vs : List ℕ} {g h : ℕ} → Meet s us vs g h → (1 ≤ g) × (g < length us) × (1 ≤ h) × (h < length vs)
+  met-hops (at-switch w a b) = (a .some, a .within, b .some, b .within)
+  met-hops (at-server w a b) = (a .some, omega (arith, a .within), b .some, omega (arith, b .within))
+
+  checks-of : {t : List ℕ} {a d : ℕ} {bs : List ℕ} {r : Refusal} → Checks s t a d bs r → Of (length bs / 8) (1 ∷ 2 ∷ 26 ∷ 3 ∷ 4 ∷ 5 ∷ 6 ∷ 7 ∷ 8 ∷ 9 ∷ 10 ∷ 11 ∷ 28 ∷ 29 ∷ 13 ∷ 14 ∷ 15 ∷ []) r
   unfolding isIn
   checks-of (inl h) = none-of (h .1)
   checks-of {t} {a} {d} {bs} {r} (inr (inl h)) =
       subst (Of (length bs / 8) _) (sym (h .here))
-      (stops-of s t (8 ∷ 9 ∷ 10 ∷ 11 ∷ 12 ∷ []) _ refl refl refl refl (fault-numbers s t) (length bs / 8) (suc (h .place)) (omega arith) (h .within) (array-long (h .place) bs (h .within)) (h .stops))
+      (stops-of s t (8 ∷ 9 ∷ 10 ∷ 11 ∷ []) _ refl refl (fault-numbers s t) (length bs / 8) (suc (h .place)) (omega arith) (h .within) (array-long (h .place) bs (h .within)) (h .stops))
   checks-of {t} {a} {d} {bs} {r} (inr (inr h)) =
-      subst (Of (length bs / 8) _) (sym (h .here)) (listed refl, later (omega (arith, h .order)) (h .within))
+      let a = met-hops (h .meet .meet) in
+      let f = h .read (h .first) (omega (arith, h .order, h .within)) .route .route .few in
+      let g = h .read (h .second) (h .within) .route .route .few in
+      subst (Of (length bs / 8) _) (sym (h .here)) (listed refl, meeting (omega arith) (omega (arith, h .order)) (h .within) (a .0) (omega (arith, a .1)) (a .2) (omega (arith, a .3)))
 
-  check-list : (t : List ℕ) (a d : ℕ) (bs : List ℕ) → RefusalOf (length bs / 8) (1 ∷ 2 ∷ 26 ∷ 3 ∷ 4 ∷ 5 ∷ 6 ∷ 7 ∷ 8 ∷ 9 ∷ 10 ∷ 11 ∷ 12 ∷ 13 ∷ 14 ∷ 15 ∷ []) (checkAnswer s t a d bs)
+  check-list : (t : List ℕ) (a d : ℕ) (bs : List ℕ) → RefusalOf (length bs / 8) (1 ∷ 2 ∷ 26 ∷ 3 ∷ 4 ∷ 5 ∷ 6 ∷ 7 ∷ 8 ∷ 9 ∷ 10 ∷ 11 ∷ 28 ∷ 29 ∷ 13 ∷ 14 ∷ 15 ∷ []) (checkAnswer s t a d bs)
   unfolding isIn
   check-list t a d bs = alone _ _ _ (whole-of _ _ (checkTests s t a d bs) (Checks s t a d bs) _ refl refl (λ k. checks-of) (meets (refused-exactly .check-list s t a d bs)))
 

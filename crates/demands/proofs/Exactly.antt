@@ -111,7 +111,7 @@ unfolding reverseAnswer
 reverse-path s = reads (λ (x : Writing). x .refusal) (λ r. noWriting (plain r)) (λ r. refl) (reversed s) alike s []
   where
     alike : (w : Walk) → reversed s w .refusal ≡ walked w .refusal
-    alike (stopped r h) = refl
+    alike (stopped r) = refl
     alike (arrived vs ws) = refl
 
 read-path : (s : Shape) (a d : ℕ) (bs : List ℕ) → Exactly (readAnswer s a d bs .refusal) (Refused plain (arrayTests s a d bs) (Reads s [] a d bs))

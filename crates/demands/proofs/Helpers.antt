@@ -8,6 +8,7 @@ use native.Mathlib.Omega.{arith}
 use native.Mathlib.Decide.{ℕ-discrete, decLe}
 use native.Mathlib.Nat.{mul-zero}
 use lib.ListN.{length}
+use Rattle.lists.proofs.FirstPlaces.{place-most, place-there, place-before}
 use Rattle.room.specs.declared.Shape.{Shape}
 use Rattle.room.specs.Shapes.{bound, powerOf, serverCount, Link, Value}
 use Rattle.room.specs.Sides.{sideOf, sideAt}
@@ -82,7 +83,9 @@ no-link b a l t (inr h) = sym (change-above b a l t h)
 pub every-helper : EveryHelper
 every-helper =
     record {
-      of-route = λ r i. record { number = refl; route = refl; hop = refl };
+      of-route = λ r i. record { number = refl; route = refl; hop = refl; earlier = (refl, refl) };
+      with-earlier = λ r i h. record { number = refl; place = (refl, refl); earlier = (refl, refl) };
+      place-in = λ x xs. record { most = place-most x xs; there = place-there x xs; before = place-before x xs };
       shape-new = λ n k m. refl;
       shape-full = λ n k. refl;
       power = power-within;

@@ -2,12 +2,14 @@ pub mod Chains
 pub mod Entries
 pub mod Summaries
 pub mod Numbers
+pub mod Meetings
 pub mod Hops
 pub mod Written
 pub mod Places
 pub mod Exactly
-pub mod SpelledOut
 pub mod Refusing
+pub mod ComesAgain
+pub mod SpelledOut
 pub mod Demand1
 pub mod Buffers
 pub mod Demand2

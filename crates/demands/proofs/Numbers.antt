@@ -27,12 +27,12 @@ use Rattle.summary.specs.Counts.{summaryOf}
 use Rattle.summary.specs.Refusals.{hasEntries, isCounted, areCounted, countedLinkRefusal, countedServerRefusal, summaryRefusal, entriesRefusal}
 use Rattle.path.specs.Bytes.{madeRefusal, partsRefusal}
 use Rattle.path.specs.Routes.{switchAt, switchTo, switchesOf, levelOf, valueOf}
-use Rattle.path.specs.Walks.{hopTo, hopRefusal, fault, single, writeFault}
+use Rattle.path.specs.Walks.{hopTo, hopRefusal, again, fault, single, writeFault}
 use Rattle.path.specs.Answers.{arrayRefusal, serversRefusal, writeRefusal}
 use Rattle.verdict.specs.Checks.{listRefusal}
 use Rattle.pick.specs.Picks.{fits, listsRefusal}
 use Rattle.step.specs.Steps.{flagAt, givenRefusal, byteRefusal}
-use Rattle.demands.specs.Tests.{Number, Hold}
+use Rattle.demands.specs.Tests.{Tests, Number, Hold}
 use Rattle.demands.specs.Refusals.{shapeTests, levelTests, serverTests, pairTests, linkTests, valueTests, portTests, madeTests, partsTests, tableServerTests, Fits, placesTests, tableTests, tableLinkTests, countedLinkTests, countedServerTests, summaryTests, entriesTests, endsTests, roomTests, arrayTests, Arrays, checkTests, NotIn, endOf, hopTests, readTests, writeTests, serversTests, givenTests, stepTests}
 use Rattle.demands.specs.Summaries.{switchTotal, EntryCounts, Summarizes}
 use Rattle.demands.proofs.Entries.{entries-exactly, counted-exactly, all-counted-exactly}
@@ -51,6 +51,12 @@ live-links t l a b = (
 
 not-in : (x : ℕ) (xs : List ℕ) → (not (isIn x xs) ≡ true) ↔ NotIn x xs
 not-in x xs = (λ e. in-missing x xs (not-true _ e) .not-at, λ h. ap not (missing-in x xs (record { not-at = h })))
+
+-- what comes on a route again
+again-number : (met used : List ℕ) (b w : ℕ) → Number ((28, NotIn b met) ∷ (29, NotIn w used) ∷ []) (again met used b w)
+unfolding again
+again-number met used b w =
+    chain ((28, NotIn b met) ∷ []) ((29, NotIn w used) ∷ []) _ _ refl (test 28 (not (isIn b met)) (not-in b met)) (λ h. test 29 (not (isIn w used)) (not-in w used))
 
 valid-held : {s : Shape} → Hold (shapeTests s) → Valid s
 valid-held h =
@@ -248,25 +254,28 @@ module _ (s : Shape) where
     abbrev links : Type 0
     links = (failed t a (levelOf b) ≡ false) × (failed t (hopTo s a b) (levelOf b) ≡ false)
 
-    abbrev fresh : Type 0
-    fresh = NotIn (hopTo s a b) met × NotIn (switchAt s (levelOf b) a) used
+    abbrev new-server : Type 0
+    new-server = NotIn (hopTo s a b) met
+
+    abbrev new-switch : Type 0
+    new-switch = NotIn (switchAt s (levelOf b) a) used
 
     -- the tests of a walk that has met these servers and used these switches
-    pub fault-number : Number (hopTests s a b ++ ((11, links) ∷ (12, fresh) ∷ [])) (fault s t met used a b)
+    pub fault-number : Number (hopTests s a b ++ ((11, links) ∷ (28, new-server) ∷ (29, new-switch) ∷ [])) (fault s t met used a b)
     unfolding fault
     fault-number =
-        chain (hopTests s a b ++ ((11, links) ∷ [])) ((12, fresh) ∷ []) _ _ refl
+        chain (hopTests s a b ++ ((11, links) ∷ [])) ((28, new-server) ∷ (29, new-switch) ∷ []) _ _ refl
         (chain (hopTests s a b) ((11, links) ∷ []) _ _ refl (hop-number a b) (λ h. test 11 (live t (levelOf b) a (hopTo s a b)) (live-links t (levelOf b) a (hopTo s a b))))
-        (λ h. test 12 (not (isIn (hopTo s a b) met) && not (isIn (switchAt s (levelOf b) a) used)) (both _ _ (not-in (hopTo s a b) met) (not-in (switchAt s (levelOf b) a) used)))
+        (λ h. again-number met used (hopTo s a b) (switchAt s (levelOf b) a))
 
   -- plain reading has no 11
-  pub plain-numbers : (met used : List ℕ) (a b : ℕ) → OneOf (8 ∷ 9 ∷ 10 ∷ 12 ∷ []) (fault s [] met used a b)
+  pub plain-numbers : (met used : List ℕ) (a b : ℕ) → OneOf (8 ∷ 9 ∷ 10 ∷ 28 ∷ 29 ∷ []) (fault s [] met used a b)
   plain-numbers met used a b =
       let q = fault s [] met used a b in
       let l = links [] met used a b in
-      let f = fresh [] met used a b in
-      one-listed (hopTests s a b ++ ((12, f) ∷ [])) q
-      (under (hopTests s a b) ((11, l) ∷ (12, f) ∷ []) q ((12, f) ∷ []) (λ h. idle 11 l ((12, f) ∷ []) q (live-links [] (levelOf b) a (hopTo s a b) .0 (live-empty (levelOf b) a (hopTo s a b)))) (fault-number [] met used a b))
+      let f : Tests = (28, new-server [] met used a b) ∷ (29, new-switch [] met used a b) ∷ [] in
+      one-listed (hopTests s a b ++ f) q
+      (under (hopTests s a b) ((11, l) ∷ f) q f (λ h. idle 11 l f q (live-links [] (levelOf b) a (hopTo s a b) .0 (live-empty (levelOf b) a (hopTo s a b)))) (fault-number [] met used a b))
 
   pub read-number : (t vs : List ℕ) (b : ℕ) → Number (readTests s t vs b) (fault s t vs (switchesOf s vs) (endOf vs) b)
   read-number t vs b = fault-number t vs (switchesOf s vs) (endOf vs) b
@@ -274,14 +283,14 @@ module _ (s : Shape) where
   -- ---- writing
 
   module _ (met used : List ℕ) (a b : ℕ) where
-    abbrev new : Type 0
-    new = NotIn b met × NotIn (switchTo s a b) used
+    abbrev fresh : Tests
+    fresh = (28, NotIn b met) ∷ (29, NotIn (switchTo s a b) used) ∷ []
 
-    write-fault-number : Number ((23, single (differing s a b) ≡ true) ∷ (12, new) ∷ []) (writeFault s met used a b)
+    write-fault-number : Number ((23, single (differing s a b) ≡ true) ∷ fresh) (writeFault s met used a b)
     unfolding writeFault
     write-fault-number =
-        chain ((23, single (differing s a b) ≡ true) ∷ []) ((12, new) ∷ []) _ _ refl (test 23 (single (differing s a b)) (λ e. e, λ e. e))
-        (λ h. test 12 (not (isIn b met) && not (isIn (switchTo s a b) used)) (both _ _ (not-in b met) (not-in (switchTo s a b) used)))
+        chain ((23, single (differing s a b) ≡ true) ∷ []) fresh _ _ refl (test 23 (single (differing s a b)) (λ e. e, λ e. e))
+        (λ h. again-number met used b (switchTo s a b))
 
   single-neighbours : {a b : ℕ} → Server s a → Server s b → (single (differing s a b) ≡ true) ↔ ((l : ℕ) × Neighbours s l a b)
   single-neighbours {a} {b} ha hb = (
@@ -291,7 +300,7 @@ module _ (s : Shape) where
 
   pub write-hop-number : (vs : List ℕ) (b : ℕ) → Server s (endOf vs) → Server s b → Number (writeTests s vs b) (writeFault s vs (switchesOf s vs) (endOf vs) b)
   write-hop-number vs b ha hb =
-      reword 23 (single (differing s (endOf vs) b) ≡ true) ((l : ℕ) × Neighbours s l (endOf vs) b) ((12, new vs (switchesOf s vs) (endOf vs) b) ∷ []) (writeFault s vs (switchesOf s vs) (endOf vs) b) (single-neighbours ha hb)
+      reword 23 (single (differing s (endOf vs) b) ≡ true) ((l : ℕ) × Neighbours s l (endOf vs) b) (fresh vs (switchesOf s vs) (endOf vs) b) (writeFault s vs (switchesOf s vs) (endOf vs) b) (single-neighbours ha hb)
       (write-fault-number vs (switchesOf s vs) (endOf vs) b)
 
   -- each of these is below N

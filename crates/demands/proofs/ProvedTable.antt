@@ -5,8 +5,8 @@ use mathlib.Core.Bool.{true, false}
 use mathlib.Core.List.{List, [], _∷_, List·Memᴰ, List·Memᴰ·head, List·Memᴰ·eq-of-singleton}
 use native.Mathlib.Omega.{arith}
 use lib.ListN.{replicate}
-use Rattle.lists.specs.Lists.{filled, isIn, inTurn, middle}
-use Rattle.refusals.specs.Refusals.{none, refusedAt, _or-else_}
+use Rattle.lists.specs.Lists.{firstWhere, placeIn, filled, isIn, inTurn, middle}
+use Rattle.refusals.specs.Refusals.{none, refusedAt, withEarlier, _or-else_}
 use Rattle.room.specs.declared.Shape.{Shape}
 use Rattle.room.specs.Shapes.{serversOf, bound, Server, fullRoom}
 use Rattle.room.specs.Digits.{digitsOf, addressOf, differFrom}
@@ -16,7 +16,7 @@ use Rattle.room.specs.Answers.{aNumber, someDigits, addressAnswer, digitsAnswer
 use Rattle.room.proofs.RefusalLaws.{server-of}
 use Rattle.links.specs.Table.{bit, failed, live, marked, bitsFit, fitsLevels, tableRefusal, withBit, roomRefusal, changed}
 use Rattle.path.specs.Routes.{byteOf, switchAt, levelTo, switchTo, byteTo, switchesOf, encode, RouteTo, Parallel}
-use Rattle.path.specs.Walks.{arrived, hopTo, hopRefusal, fault, ended, walkFrom, walk}
+use Rattle.path.specs.Walks.{arrived, hopTo, hopRefusal, again, earlierOf, fault, ended, walkFrom, walk}
 use Rattle.path.specs.Answers.{arrayRefusal, walkAnswer, readAnswer, aWriting, reverseAnswer}
 use Rattle.path.proofs.RouteLaws.{read-sound}
 use Rattle.verdict.specs.Checks.{disjoint}
@@ -89,11 +89,11 @@ abbrev Reads : Shape → ℕ → ℕ → List ℕ → ℕ → Type 0
 Reads s a d bs hops = (readAnswer s a d (array bs) .refusal ≡ none) × (readAnswer s a d (array bs) .count - 1 ≡ hops)
 
 reads : Reads (fullRoom 8 3) 1 521 (0xc1 ∷ 0x41 ∷ []) 2 × Reads (fullRoom 8 3) 1 521 (0x81 ∷ 0x41 ∷ 0xc1 ∷ 0x80 ∷ []) 4 × Reads (fullRoom 8 3) 1 521 (0x41 ∷ 0xc1 ∷ []) 2 × Reads (fullRoom 8 3) 1 521 (0x02 ∷ 0xc1 ∷ 0x41 ∷ 0x01 ∷ []) 4 × Reads (fullRoom 2 0) 1 0 [] 1
-unfolding readAnswer walkAnswer arrayRefusal endsRefusal pairRefusal serverRefusal shapeRefusal serversOf bound _or-else_ walk walkFrom fault hopRefusal hopTo addresses.withDigit addresses.digit addresses.digits digitsOf addressOf live failed bit isIn switchAt addresses.switchOf ended filled
+unfolding readAnswer walkAnswer arrayRefusal endsRefusal pairRefusal serverRefusal shapeRefusal serversOf bound _or-else_ walk walkFrom fault again hopRefusal hopTo addresses.withDigit addresses.digit addresses.digits digitsOf addressOf live failed bit isIn switchAt addresses.switchOf ended filled
 reads = ((refl, refl), (refl, refl), (refl, refl), (refl, refl), (refl, refl))
 
-twice : readAnswer (fullRoom 4 1) 0 3 (array (0x01 ∷ 0x03 ∷ [])) ≡ record { refusal = refusedAt 12 1 2; count = 0; servers = replicate 9 0 }
-unfolding readAnswer walkAnswer arrayRefusal endsRefusal pairRefusal serverRefusal shapeRefusal serversOf bound _or-else_ walk walkFrom fault hopRefusal hopTo addresses.withDigit addresses.digit addresses.digits digitsOf addressOf live failed bit isIn switchAt addresses.switchOf ended filled
+twice : readAnswer (fullRoom 4 1) 0 3 (array (0x01 ∷ 0x03 ∷ [])) ≡ record { refusal = withEarlier 0 1 (refusedAt 29 1 2); count = 0; servers = replicate 9 0 }
+unfolding readAnswer walkAnswer arrayRefusal endsRefusal pairRefusal serverRefusal shapeRefusal serversOf bound _or-else_ walk walkFrom fault again earlierOf placeIn firstWhere hopRefusal hopTo addresses.withDigit addresses.digit addresses.digits digitsOf addressOf live failed bit isIn switchAt addresses.switchOf ended filled
 twice = refl
 
 same-switch : switchTo (fullRoom 4 1) 0 1 ≡ switchTo (fullRoom 4 1) 1 3
@@ -101,7 +101,7 @@ unfolding switchTo switchAt levelTo addresses.differing differFrom addresses.swi
 same-switch = refl
 
 reversed : reverseAnswer (fullRoom 8 3) 1 521 (array (0xc1 ∷ 0x41 ∷ [])) ≡ aWriting (array (0x40 ∷ 0xc0 ∷ []))
-unfolding reverseAnswer arrayRefusal endsRefusal pairRefusal serverRefusal shapeRefusal serversOf bound _or-else_ walk walkFrom fault hopRefusal hopTo addresses.withDigit addresses.digit addresses.digits digitsOf addressOf live failed bit isIn switchAt addresses.switchOf ended filled encode inTurn byteTo byteOf levelTo addresses.differing differFrom
+unfolding reverseAnswer arrayRefusal endsRefusal pairRefusal serverRefusal shapeRefusal serversOf bound _or-else_ walk walkFrom fault again hopRefusal hopTo addresses.withDigit addresses.digit addresses.digits digitsOf addressOf live failed bit isIn switchAt addresses.switchOf ended filled encode inTurn byteTo byteOf levelTo addresses.differing differFrom
 reversed = refl
 
 -- a row of bytes and hops, of an answer that holds them
@@ -122,7 +122,7 @@ unfolding serverRefusal shapeRefusal serversOf _or-else_
 source = server-of (fullRoom 4 1) 0 refl
 
 walks : (walk (fullRoom 4 1) dead03 0 7 (array (0x41 ∷ 0x03 ∷ [])) ≡ arrived direct (4096 ∷ 1 ∷ [])) × (walk (fullRoom 4 1) dead03 0 7 (array (0x01 ∷ 0x42 ∷ 0x03 ∷ 0x41 ∷ [])) ≡ arrived around (0 ∷ 4097 ∷ 2 ∷ 4099 ∷ []))
-unfolding bound _or-else_ walk walkFrom fault hopRefusal hopTo addresses.withDigit addresses.digit addresses.digits digitsOf addressOf live failed bit isIn switchAt addresses.switchOf ended filled
+unfolding bound _or-else_ walk walkFrom fault again hopRefusal hopTo addresses.withDigit addresses.digit addresses.digits digitsOf addressOf live failed bit isIn switchAt addresses.switchOf ended filled
 walks = (refl, refl)
 
 direct-route : RouteTo (fullRoom 4 1) dead03 0 7 direct

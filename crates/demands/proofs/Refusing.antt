@@ -2,16 +2,16 @@
 use Prim.Native.Nat.{ℕ, zero, suc, _≤_}
 use mathlib.Core.Path.{_≡_, refl, sym, ap, _∙_, subst}
 use mathlib.Core.Logic.{_≢_, _⊎_, inl, inr, ⊎-elim}
-use mathlib.Core.Bool.{Bool, true, false, _||_}
-use mathlib.Core.List.{List, [], _∷_}
+use mathlib.Core.Bool.{Bool, true, false, not, _||_}
+use mathlib.Core.List.{List, [], _∷_, _++_}
 use native.Mathlib.Omega.{arith}
 use lib.Dec.{eqb}
-use borrow.Author.Tests.{eq-eqb, eqb-true}
+use borrow.Author.Tests.{eq-eqb, ne-eqb, eqb-true, eqb-false, not-true}
 use Rattle.lists.proofs.ListLaws.{both-held}
 use Rattle.lists.specs.Lists.{isIn}
 use Rattle.refusals.specs.declared.Refusal.{Refusal}
 use Rattle.refusals.specs.Refusals.{none, plain, refusedAt, answer, OneOf, nought, listed}
-use Rattle.demands.specs.Tests.{Tests, Refused, Whole, Hold}
+use Rattle.demands.specs.Tests.{Tests, Refused, Whole, Hold, Others}
 use Rattle.demands.specs.Demand1.{ofTheWhole, ofAHop, RefusalForm, whole, at-hop, Refuses}
 use Rattle.demands.proofs.Chains.{or-right, all, numbersOf}
 
@@ -24,12 +24,26 @@ either false y e = inr e
 or-left : (x y : Bool) → x ≡ true → x || y ≡ true
 or-left x y e = rw e
 
-all-at : (f : ℕ → Bool) (A : List ℕ) (r : ℕ) → all f A ≡ true → isIn r A ≡ true → f r ≡ true
+pub all-at : (f : ℕ → Bool) (A : List ℕ) (r : ℕ) → all f A ≡ true → isIn r A ≡ true → f r ≡ true
 unfolding isIn
 all-at f [] r h e = let z : _≡_ {A = ℕ} 0 1 = cc in let n : ⊥ = omega arith in absurd n
 all-at f (a ∷ A) r h e =
     let w = both-held (f a) (all f A) h in
     ⊎-elim (λ g. ap f (eqb-true r a g) ∙ w .0) (λ g. all-at f A r (w .1) g) (either (eqb r a) (isIn r A) e)
+
+-- none of the numbers but 28 and 29
+pub apart-in : (F : List ℕ) (n : ℕ) → n ≢ 28 → n ≢ 29 → isIn n (F ++ (28 ∷ 29 ∷ [])) ≡ true → isIn n F ≡ true
+unfolding isIn
+apart-in [] n x y e = rw (ne-eqb n 28 x, ne-eqb n 29 y) at e
+apart-in (a ∷ F) n x y e =
+    ⊎-elim (λ g. or-left (eqb n a) (isIn n F) g) (λ g. or-right (eqb n a) (isIn n F) (apart-in F n x y g)) (either (eqb n a) (isIn n (F ++ (28 ∷ 29 ∷ []))) e)
+
+-- a refusal with a number that no test has is none of theirs
+pub other-numbers : (refused : ℕ → Refusal) (A : Tests) (r : Refusal) → ((n : ℕ) → refused n .number ≡ n) → all (λ n. not (eqb n (r .number))) (numbersOf A) ≡ true → Others refused A r
+other-numbers refused [] r f u = tt
+other-numbers refused (t ∷ A) r f u =
+    let w = both-held (not (eqb (t .0) (r .number))) (all (λ n. not (eqb n (r .number))) (numbersOf A)) u in
+    (λ e. eqb-false (t .0) (r .number) (not-true _ (w .0)) (sym (f (t .0)) ∙ ap (λ (x : Refusal). x .number) e), other-numbers refused A r f (w .1))
 
 -- ---- refusals
 

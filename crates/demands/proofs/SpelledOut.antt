@@ -9,9 +9,8 @@ use native.Mathlib.Decide.{ℕ-discrete}
 use lib.Dec.{eqb}
 use lib.ListN.{length, getD}
 use borrow.Author.Tests.{eqb-false, not-true}
-use Rattle.lists.proofs.ListLaws.{both-held}
 use Rattle.refusals.specs.declared.Refusal.{Refusal}
-use Rattle.refusals.specs.Refusals.{none, plain, refusedAt}
+use Rattle.refusals.specs.Refusals.{none, plain, refusedAt, withEarlier}
 use Rattle.room.specs.declared.Shape.{Shape}
 use Rattle.room.specs.Shapes.{serversOf, bound}
 use Rattle.room.specs.Refusals.{shapeRefusal}
@@ -22,19 +21,14 @@ use Rattle.path.specs.Walks.{walk}
 use Rattle.path.specs.Answers.{hopAnswer, walkAnswer}
 use Rattle.verdict.specs.Checks.{checkAnswer}
 use Rattle.step.specs.Steps.{flagAt, stepAnswer}
-use Rattle.demands.specs.Tests.{Tests, Refused, Hold, Others}
+use Rattle.demands.specs.Tests.{Tests, Refused, Hold}
 use Rattle.demands.specs.Summaries.{switchTotal, EntryCounts, Summarizes}
-use Rattle.demands.specs.Refusals.{serverTests, hopTests, tableTests, tableLinkTests, roomTests, arrayTests, Arrays, readTests, FirstAfterArrival, Stops, hop-fails, never-arrives, goes-on, Reads, checkTests, FirstPair, Checks, givenTests, stepTests, Steps, SpelledOut}
-use Rattle.demands.proofs.Chains.{all, others, chain-means, numbersOf}
+use Rattle.demands.specs.Refusals.{serverTests, hopTests, tableTests, tableLinkTests, roomTests, arrayTests, Arrays, FailsWith, readTests, FirstAfterArrival, Stops, hop-fails, never-arrives, goes-on, Reads, checkTests, FirstPair, Checks, givenTests, stepTests, Steps, SpelledOut}
+use Rattle.demands.proofs.Chains.{all, others, chain-means, fails-in, numbersOf}
+use Rattle.demands.proofs.Refusing.{all-at, other-numbers}
+use Rattle.demands.proofs.ComesAgain.{twenty-eight, twenty-nine, write-twenty-eight, write-twenty-nine}
 use Rattle.demands.proofs.Places.{check-list}
 use Rattle.demands.proofs.Exactly.{refused-exactly}
-
--- a refusal with a number that no test has is none of theirs
-other-numbers : (refused : ℕ → Refusal) (A : Tests) (r : Refusal) → ((n : ℕ) → refused n .number ≡ n) → all (λ n. not (eqb n (r .number))) (numbersOf A) ≡ true → Others refused A r
-other-numbers refused [] r f u = tt
-other-numbers refused (t ∷ A) r f u =
-    let w = both-held (not (eqb (t .0) (r .number))) (all (λ n. not (eqb n (r .number))) (numbersOf A)) u in
-    (λ e. eqb-false (t .0) (r .number) (not-true _ (w .0)) (sym (f (t .0)) ∙ ap (λ (x : Refusal). x .number) e), other-numbers refused A r f (w .1))
 
 twenty-six : (s : Shape) → (shapeRefusal s ≡ 26) ↔ (Hold ((1, (2 ≤ s .n) × (s .n ≤ 64)) ∷ (2, s .k ≤ 3) ∷ []) × ((2 ≤ s .m) × (s .m ≤ s .n) → ⊥))
 twenty-six s =
@@ -139,19 +133,18 @@ module _ (s : Shape) (a d i : ℕ) (bs e : List ℕ) where
       means = chain-means .otherwise plain (givenTests s a d bs e) (Steps s a d i bs e) (stepAnswer s a d i bs e .refusal) eightHere (refused-exactly .step-once s a d i bs e) (other-numbers plain (givenTests s a d bs e) eightHere (λ n. refl) refl)
 
 -- a hop fails with one of its tests' numbers
-hop-among : (s : Shape) (t vs : List ℕ) (b : ℕ) (r : Refusal) (h n : ℕ) → Refused (λ x. refusedAt x 1 h) (readTests s t vs b) (λ x. ⊥) r → all (λ x. not (eqb x n)) (8 ∷ 9 ∷ 10 ∷ 11 ∷ 12 ∷ []) ≡ true → r .number ≢ n
-hop-among s t vs b r h n k u e =
-    others (λ x. refusedAt x 1 h) (λ x. ⊥) (readTests s t vs b) r (other-numbers (λ x. refusedAt x 1 h) (readTests s t vs b) r (λ x. refl) (subst (λ (x : ℕ). all (λ y. not (eqb y x)) (8 ∷ 9 ∷ 10 ∷ 11 ∷ 12 ∷ []) ≡ true) (sym e) u)) k .1
+hop-among : (s : Shape) (t vs : List ℕ) (b m n : ℕ) → FailsWith (readTests s t vs b) m → all (λ x. not (eqb x n)) (8 ∷ 9 ∷ 10 ∷ 11 ∷ 28 ∷ 29 ∷ []) ≡ true → m ≢ n
+hop-among s t vs b m n k u =
+    eqb-false m n (not-true _ (all-at (λ x. not (eqb x n)) (8 ∷ 9 ∷ 10 ∷ 11 ∷ 28 ∷ 29 ∷ []) m u (fails-in (readTests s t vs b) m k)))
 
 -- an array stops with 14 for a byte after its arrival, and never with 15
 stops-fourteen : {s : Shape} {t : List ℕ} {a d : ℕ} {bs : List ℕ} {r : Refusal} (p : ℕ) → Stops s t a d bs r → r ≡ refusedAt 14 1 (suc p) → FirstAfterArrival s t a d bs p
-stops-fourteen {s} {t} p (hop-fails {vs} {b} h k) e =
-    absurd (hop-among s t vs b _ (length vs) 14 k refl (ap (λ (x : Refusal). x .number) e))
+stops-fourteen {s} {t} p (hop-fails {vs} {b} {n = m} h k g) e = absurd (hop-among s t vs b m 14 k refl (ap (λ (x : Refusal). x .number) e))
 stops-fourteen p (never-arrives h) e = let z = ap (λ (x : Refusal). x .number) e in let n : ⊥ = omega arith in absurd n
 stops-fourteen {s} {t} {a} {d} {bs} p (goes-on {p = q} h) e = let z = ap (λ (x : Refusal). x .hop) e in let y : q ≡ p = omega arith in subst (FirstAfterArrival s t a d bs) y h
 
 stops-fifteen : {s : Shape} {t : List ℕ} {a d : ℕ} {bs : List ℕ} {r : Refusal} → Stops s t a d bs r → r .number ≢ 15
-stops-fifteen {s} {t} (hop-fails {vs} {b} h k) e = hop-among s t vs b _ (length vs) 15 k refl e
+stops-fifteen {s} {t} (hop-fails {vs} {b} {n = m} h k g) e = hop-among s t vs b m 15 k refl e
 stops-fifteen (never-arrives h) e = omega arith
 stops-fifteen (goes-on h) e = omega arith
 
@@ -165,16 +158,19 @@ fourteen s t a d bs p = (λ q. let w = means .0 q in (w .0, go (w .1)), λ h. me
     go (inl h) = let z = ap (λ (x : Refusal). x .number) (h .1) in let n : ⊥ = omega arith in absurd n
     go (inr h) = stops-fourteen p h refl
 
-fifteen : (s : Shape) (t : List ℕ) (a d : ℕ) (bs : List ℕ) (j : ℕ) → (checkAnswer s t a d bs ≡ refusedAt 15 j 0) ↔ (Hold (checkTests s t a d bs) × FirstPair s t a d bs (refusedAt 15 j 0))
-fifteen s t a d bs j = (λ q. let w = means .0 q in (w .0, go (w .1)), λ h. means .1 (h .0, inr (inr (h .1))))
+fifteen : (s : Shape) (t : List ℕ) (a d : ℕ) (bs : List ℕ) (i g j h : ℕ) → (let r = withEarlier i g (refusedAt 15 j h) in (checkAnswer s t a d bs ≡ r) ↔ (Hold (checkTests s t a d bs) × FirstPair s t a d bs r))
+fifteen s t a d bs i g j h = (λ q. let w = means .0 q in (w .0, go (w .1)), λ k. means .1 (k .0, inr (inr (k .1))))
   where
-    means : (checkAnswer s t a d bs ≡ refusedAt 15 j 0) ↔ (Hold (checkTests s t a d bs) × Checks s t a d bs (refusedAt 15 j 0))
-    means = chain-means .otherwise plain (checkTests s t a d bs) (Checks s t a d bs) (checkAnswer s t a d bs) (refusedAt 15 j 0) (refused-exactly .check-list s t a d bs) (other-numbers plain (checkTests s t a d bs) (refusedAt 15 j 0) (λ n. refl) refl)
+    r : Refusal
+    r = withEarlier i g (refusedAt 15 j h)
 
-    go : Checks s t a d bs (refusedAt 15 j 0) → FirstPair s t a d bs (refusedAt 15 j 0)
-    go (inl h) = let z = ap (λ (x : Refusal). x .number) (h .1) in let n : ⊥ = omega arith in absurd n
-    go (inr (inl h)) = absurd (stops-fifteen (h .stops) (ap (λ (x : Refusal). x .number) (sym (h .here))))
-    go (inr (inr h)) = h
+    means : (checkAnswer s t a d bs ≡ r) ↔ (Hold (checkTests s t a d bs) × Checks s t a d bs r)
+    means = chain-means .otherwise plain (checkTests s t a d bs) (Checks s t a d bs) (checkAnswer s t a d bs) r (refused-exactly .check-list s t a d bs) (other-numbers plain (checkTests s t a d bs) r (λ n. refl) refl)
+
+    go : Checks s t a d bs r → FirstPair s t a d bs r
+    go (inl k) = let z = ap (λ (x : Refusal). x .number) (k .1) in let n : ⊥ = omega arith in absurd n
+    go (inr (inl k)) = absurd (stops-fifteen (k .stops) (ap (λ (x : Refusal). x .number) (sym (k .here))))
+    go (inr (inr k)) = k
 
 pub spelled-out : SpelledOut
-spelled-out = record { twenty-six = twenty-six; thirty = thirty; asked-thirty = asked-thirty; seven = seven; eight = eight; hop-eight = hop-eight; no-byte = no-byte; hop-nine = hop-nine; hop-ten = hop-ten; fourteen = fourteen; fifteen = fifteen }
+spelled-out = record { twenty-six = twenty-six; thirty = thirty; asked-thirty = asked-thirty; seven = seven; eight = eight; hop-eight = hop-eight; no-byte = no-byte; hop-nine = hop-nine; hop-ten = hop-ten; fourteen = fourteen; twenty-eight = twenty-eight; twenty-nine = twenty-nine; write-twenty-eight = write-twenty-eight; write-twenty-nine = write-twenty-nine; fifteen = fifteen }

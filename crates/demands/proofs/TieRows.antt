@@ -17,7 +17,7 @@ use Rattle.room.specs.Refusals.{shapeRefusal, serverRefusal, pairRefusal, endsR
 use Rattle.room.proofs.RefusalLaws.{ends-of}
 use Rattle.links.specs.Table.{bit, failed, live, bitsFit, fitsLevels, tableRefusal, roomRefusal}
 use Rattle.path.specs.Routes.{byteOf, switchAt, levelTo, switchTo, byteTo, switchesOf, encode, RouteTo, Parallel}
-use Rattle.path.specs.Walks.{arrived, hopTo, hopRefusal, fault, ended, walkFrom, walk}
+use Rattle.path.specs.Walks.{arrived, hopTo, hopRefusal, again, fault, ended, walkFrom, walk}
 use Rattle.path.proofs.RouteLaws.{read-sound}
 use Rattle.verdict.specs.Checks.{disjoint}
 use Rattle.verdict.proofs.AcceptLaws.{disjoint-apart}
@@ -91,19 +91,19 @@ module _ {s : Shape} {t : List ℕ} {a d : ℕ} {bs vs ws : List ℕ} (w : Row s
 -- ---- the search
 
 level-then-value : Row (fullRoom 3 1) (replicate 9 0) 0 7 (0x42 ∷ 0x01 ∷ []) (0 ∷ 6 ∷ 7 ∷ []) (4096 ∷ 2 ∷ [])
-unfolding endsRefusal pairRefusal serverRefusal shapeRefusal serversOf tableRefusal bitsFit fitsLevels bound _or-else_ walk walkFrom fault hopRefusal hopTo withDigit digit digits digitsOf addressOf live failed bit isIn switchAt switchOf ended filled hopBytes inTurn byteTo byteOf levelTo differing differFrom
+unfolding endsRefusal pairRefusal serverRefusal shapeRefusal serversOf tableRefusal bitsFit fitsLevels bound _or-else_ walk walkFrom fault again hopRefusal hopTo withDigit digit digits digitsOf addressOf live failed bit isIn switchAt switchOf ended filled hopBytes inTurn byteTo byteOf levelTo differing differFrom
 level-then-value = record { ends = refl; table = refl; eight = refl; walked = refl; bytes = refl }
 
 lower-value : Row (fullRoom 3 1) (1 ∷ replicate 8 0) 0 1 (0x41 ∷ 0x01 ∷ 0x40 ∷ []) (0 ∷ 3 ∷ 4 ∷ 1 ∷ []) (4096 ∷ 1 ∷ 4097 ∷ [])
-unfolding endsRefusal pairRefusal serverRefusal shapeRefusal serversOf tableRefusal bitsFit fitsLevels bound _or-else_ walk walkFrom fault hopRefusal hopTo withDigit digit digits digitsOf addressOf live failed bit isIn switchAt switchOf ended filled hopBytes inTurn byteTo byteOf levelTo differing differFrom
+unfolding endsRefusal pairRefusal serverRefusal shapeRefusal serversOf tableRefusal bitsFit fitsLevels bound _or-else_ walk walkFrom fault again hopRefusal hopTo withDigit digit digits digitsOf addressOf live failed bit isIn switchAt switchOf ended filled hopBytes inTurn byteTo byteOf levelTo differing differFrom
 lower-value = record { ends = refl; table = refl; eight = refl; walked = refl; bytes = refl }
 
 from-the-source : Row (fullRoom 2 2) (0 ∷ 0 ∷ 0 ∷ 0 ∷ 0 ∷ 0 ∷ 2 ∷ 0 ∷ []) 0 7 (0x81 ∷ 0x01 ∷ 0x41 ∷ []) (0 ∷ 4 ∷ 5 ∷ 7 ∷ []) (8192 ∷ 2 ∷ 4099 ∷ [])
-unfolding endsRefusal pairRefusal serverRefusal shapeRefusal serversOf tableRefusal bitsFit fitsLevels bound _or-else_ walk walkFrom fault hopRefusal hopTo withDigit digit digits digitsOf addressOf live failed bit isIn switchAt switchOf ended filled hopBytes inTurn byteTo byteOf levelTo differing differFrom
+unfolding endsRefusal pairRefusal serverRefusal shapeRefusal serversOf tableRefusal bitsFit fitsLevels bound _or-else_ walk walkFrom fault again hopRefusal hopTo withDigit digit digits digitsOf addressOf live failed bit isIn switchAt switchOf ended filled hopBytes inTurn byteTo byteOf levelTo differing differFrom
 from-the-source = record { ends = refl; table = refl; eight = refl; walked = refl; bytes = refl }
 
 level-and-value : Row (fullRoom 3 2) threeFailed 0 24 (0x01 ∷ 0x82 ∷ 0x00 ∷ 0x42 ∷ []) (0 ∷ 1 ∷ 19 ∷ 18 ∷ 24 ∷ []) (0 ∷ 8193 ∷ 6 ∷ 4102 ∷ [])
-unfolding endsRefusal pairRefusal serverRefusal shapeRefusal serversOf tableRefusal bitsFit fitsLevels bound _or-else_ walk walkFrom fault hopRefusal hopTo withDigit digit digits digitsOf addressOf live failed bit isIn switchAt switchOf ended filled hopBytes inTurn byteTo byteOf levelTo differing differFrom
+unfolding endsRefusal pairRefusal serverRefusal shapeRefusal serversOf tableRefusal bitsFit fitsLevels bound _or-else_ walk walkFrom fault again hopRefusal hopTo withDigit digit digits digitsOf addressOf live failed bit isIn switchAt switchOf ended filled hopBytes inTurn byteTo byteOf levelTo differing differFrom
 level-and-value = record { ends = refl; table = refl; eight = refl; walked = refl; bytes = refl }
 
 -- ---- selection, both built routes broken
@@ -116,7 +116,7 @@ abbrev low : List ℕ
 low = 0 ∷ 2 ∷ 14 ∷ 15 ∷ 7 ∷ []
 
 alternates : Row (fullRoom 4 1) manyFailed 0 7 (0x42 ∷ 0x01 ∷ 0x41 ∷ 0x03 ∷ []) high (4096 ∷ 2 ∷ 4097 ∷ 1 ∷ []) × Row (fullRoom 4 1) manyFailed 0 7 (0x02 ∷ 0x43 ∷ 0x03 ∷ 0x41 ∷ []) low (0 ∷ 4098 ∷ 3 ∷ 4099 ∷ [])
-unfolding endsRefusal pairRefusal serverRefusal shapeRefusal serversOf tableRefusal bitsFit fitsLevels bound _or-else_ walk walkFrom fault hopRefusal hopTo withDigit digit digits digitsOf addressOf live failed bit isIn switchAt switchOf ended filled hopBytes inTurn byteTo byteOf levelTo differing differFrom
+unfolding endsRefusal pairRefusal serverRefusal shapeRefusal serversOf tableRefusal bitsFit fitsLevels bound _or-else_ walk walkFrom fault again hopRefusal hopTo withDigit digit digits digitsOf addressOf live failed bit isIn switchAt switchOf ended filled hopBytes inTurn byteTo byteOf levelTo differing differFrom
 alternates = (
   record { ends = refl; table = refl; eight = refl; walked = refl; bytes = refl },
   record { ends = refl; table = refl; eight = refl; walked = refl; bytes = refl },

@@ -1,6 +1,6 @@
 -- What the writer refuses, and at which hop, proved.
 use Prim.Native.Nat.{ℕ, zero, suc, _+_, _-_, suc-le-suc, zero-le}
-use mathlib.Core.Path.{_≡_, refl, sym, ap, _∙_, subst}
+use mathlib.Core.Path.{_≡_, refl, sym, ap, ap₂, _∙_, subst}
 use mathlib.Core.Logic.{_≢_, inl, inr}
 use mathlib.Core.Bool.{Bool, cond}
 use mathlib.Core.List.{List, [], _∷_, _++_}
@@ -12,20 +12,22 @@ use borrow.Author.Tests.{eq-eqb, ne-eqb}
 use Rattle.lists.specs.Lists.{inTurn}
 use Rattle.lists.proofs.ListLaws.{length-snoc}
 use Rattle.refusals.specs.declared.Refusal.{Refusal}
-use Rattle.refusals.specs.Refusals.{none, plain, refusedAt}
+use Rattle.refusals.specs.Refusals.{none, plain, refusedAt, withEarlier}
 use Rattle.refusals.proofs.AnswerLaws.{answer-none}
 use Rattle.room.specs.declared.Shape.{Shape}
 use Rattle.room.specs.Shapes.{Server}
 use Rattle.path.specs.declared.Writing.{Writing}
-use Rattle.path.specs.Routes.{switchesOf, encode, Prefix}
-use Rattle.path.specs.Walks.{writeFault, writeFrom}
+use Rattle.path.specs.Routes.{switchTo, switchesOf, encode, Prefix}
+use Rattle.path.specs.Walks.{earlierOf, stopsAt, writeFault, writeFrom}
 use Rattle.path.specs.Answers.{noWriting, aWriting, writeRefusal, written, onTheWay, writeAnswer}
 use Rattle.path.proofs.CodecLaws.{write-step, write-refused, write-goes, way-along, write-given, write-exactly, Servers, listed-of}
+use Rattle.path.proofs.NumberLaws.{write-fault-met, write-fault-used}
 use Rattle.path.proofs.RouteLaws.{lastOf, prefix-one, prefix-snoc}
 use Rattle.demands.specs.Tests.{Refused, Hold, Exactly}
 use Rattle.demands.specs.Refusals.{endOf, writeTests, serversTests, WriteStops, Writes}
 use Rattle.demands.proofs.Chains.{fails, failing, zero-of, answers, exactly}
 use Rattle.demands.proofs.Numbers.{write-number, write-hop-number}
+use Rattle.demands.proofs.Meetings.{earlier-is, is-earlier}
 
 -- ---- why it stops
 
@@ -34,8 +36,19 @@ unfolding writeFrom
 write-why s h whole vs [] p q l e n = absurd (n refl)
 write-why s h whole vs (b ∷ rest) p q l e n =
     elim (ℕ-discrete fail 0) [
-      | no y ↦ subst (WriteStops s whole) (sym (write-refused s h vs b rest y ∙ ap (refusedAt fail 1) (let z : h + 1 ≡ length vs = omega arith in z)))
-          (record { before = vs; next = b; rest = rest; servers = e; way = p; refused = failing (λ z. refusedAt z 1 (length vs)) (writeTests s vs b) fail refl (write-hop-number s vs b ha hb) y })
+      | no y ↦ subst (WriteStops s whole) (sym (write-refused s h vs b rest y ∙ ap (λ (x : ℕ). stopsAt fail x vs (switchesOf s vs) b (switchTo s (lastOf vs) b)) (let z : h + 1 ≡ length vs = omega arith in z)))
+          (record {
+            before = vs;
+            next = b;
+            rest = rest;
+            servers = e;
+            way = p;
+            number = fail;
+            earlier = earlierOf fail vs (switchesOf s vs) b (switchTo s (lastOf vs) b);
+            refused = failing (λ z. z) (writeTests s vs b) fail refl (write-hop-number s vs b ha hb) y;
+            names = is-earlier b (switchTo s (lastOf vs) b) fail (write-fault-met s vs (switchesOf s vs) (lastOf vs) b) (write-fault-used s vs (switchesOf s vs) (lastOf vs) b);
+            here = refl;
+          })
       | yes y ↦ let f = write-goes s h vs b rest (p .some) y in
           subst (WriteStops s whole) (sym f)
           (write-why s (h + 1) whole (vs ++ (b ∷ [])) rest (prefix-snoc vs b p (write-step vs ha hb .0 y)) (record { each = λ i k. q .each (suc i) (suc-le-suc k) })
@@ -60,7 +73,7 @@ way-stops s (v ∷ vs) h n =
 -- ---- and back
 
 stops-way : (s : Shape) (vs : List ℕ) (r : Refusal) → Servers s vs → WriteStops s vs r → (onTheWay s vs ≡ r) × (r .number ≢ 0)
-stops-way s vs r h w = (ap (onTheWay s) (w .servers) ∙ way-along s (w .before) (w .next ∷ w .rest) (w .way) ∙ refused ∙ sym (k .1), λ z. k .0 (ap (λ (x : Refusal). x .number) (sym (k .1)) ∙ z))
+stops-way s vs r h w = (ap (onTheWay s) (w .servers) ∙ way-along s (w .before) (w .next ∷ w .rest) (w .way) ∙ refused ∙ sym (w .here), λ z. k .0 (sym (k .1) ∙ sym (ap (λ (x : Refusal). x .number) (w .here)) ∙ z))
   where
     ha : Server s (endOf (w .before))
     ha = w .way .servers (length (w .before) - 1) (omega (arith, w .way .some))
@@ -73,13 +86,15 @@ stops-way s vs r h w = (ap (onTheWay s) (w .servers) ∙ way-along s (w .before)
     f : ℕ
     f = writeFault s (w .before) (switchesOf s (w .before)) (endOf (w .before)) (w .next)
 
-    k : (f ≢ 0) × (r ≡ refusedAt f 1 (length (w .before)))
-    k = fails (λ z. refusedAt z 1 (length (w .before))) (writeTests s (w .before) (w .next)) f r refl (write-hop-number s (w .before) (w .next) ha hb) (w .refused)
+    k : (f ≢ 0) × (w .number ≡ f)
+    k = fails (λ z. z) (writeTests s (w .before) (w .next)) f (w .number) refl (write-hop-number s (w .before) (w .next) ha hb) (w .refused)
 
-    refused : writeFrom s (length (w .before) - 1) (w .before) (switchesOf s (w .before)) (lastOf (w .before)) (w .next ∷ w .rest) ≡ refusedAt f 1 (length (w .before))
+    refused : writeFrom s (length (w .before) - 1) (w .before) (switchesOf s (w .before)) (lastOf (w .before)) (w .next ∷ w .rest) ≡ withEarlier 0 (w .earlier) (refusedAt (w .number) 1 (length (w .before)))
     refused =
+        let z : length (w .before) - 1 + 1 ≡ length (w .before) = omega (arith, w .way .some) in
         write-refused s (length (w .before) - 1) (w .before) (w .next) (w .rest) (k .0)
-        ∙ ap (refusedAt f 1) (let z : length (w .before) - 1 + 1 ≡ length (w .before) = omega (arith, w .way .some) in z)
+        ∙ ap₂ (λ (x y : ℕ). stopsAt x y (w .before) (switchesOf s (w .before)) (w .next) (switchTo s (lastOf (w .before)) (w .next))) (sym (k .1)) z
+        ∙ ap (λ (x : ℕ). withEarlier 0 x (refusedAt (w .number) 1 (length (w .before)))) (sym (earlier-is (w .way .servers-once) (w .way .switches-once) (w .names)))
 
 -- ---- the answer
 

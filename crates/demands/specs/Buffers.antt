@@ -8,7 +8,7 @@ use mathlib.Core.Bool.{true, false, cond}
 use lib.Dec.{eqb}
 use lib.ListN.{set}
 use Rattle.refusals.specs.declared.Refusal.{Refusal}
-use Rattle.refusals.specs.Refusals.{plain}
+use Rattle.refusals.specs.Refusals.{earlierRoute, earlierHop, plain}
 use Rattle.room.specs.declared.Shape.{Shape}
 use Rattle.room.specs.Refusals.{shapeRefusal}
 use Rattle.room.specs.Answers.{serversAnswer, boundAnswer, digitsAnswer, digitAnswer, addressAnswer, switchAnswer, neighbourAnswer, betweenAnswer}
@@ -83,11 +83,11 @@ pub record EveryRoom : Type 0 where
 
 -- ---- the words that the calls from C give back
 
--- a driver reads this refusal and this number out of a word, and the byte between them is zero
+-- a driver reads this refusal and this number out of a word; the fourth byte is 16 times the earlier route plus the earlier hop
 pub record Tells (w : Answer) (r : Refusal) (v : ℕ) : Type 0 where
   pub refusal : refusalIn w ≡ r
   pub value : valueIn w ≡ v
-  pub between : w .word / 16777216 % 256 ≡ 0
+  pub earlier : w .word / 16777216 % 256 ≡ 16 * earlierRoute r + earlierHop r
 
 -- the two numbers of a step. The first, from its lowest byte: the refusal's number, its hop, 1 if delivered, the next index, the next server
 -- in two bytes, the OutPort, and the path byte of the way back, which is 64 times the level plus the old value. The second: the MAC, its first
@@ -106,6 +106,7 @@ pub record TellsStep (w : Stepped) (x : Step) : Type 0 where
   pub old : w .word / 72057594037927936 % 64 ≡ x .old
   pub mac : w .mac / 1099511627776 ∷ w .mac / 4294967296 % 256 ∷ w .mac / 16777216 % 256 ∷ w .mac / 65536 % 256 ∷ w .mac / 256 % 256 ∷ w .mac % 256 ∷ [] ≡ x .mac
   pub route : x .refusal .route ≡ cond (eqb (x .refusal .hop) 0) 0 1
+  pub no-earlier : (earlierRoute (x .refusal) ≡ 0) × (earlierHop (x .refusal) ≡ 0)
 
 -- a driver reads out of a number whether a dead switch is found, its level and its number
 pub record DeadParts (v : ℕ) (x : DeadSwitch) : Type 0 where

@@ -1,7 +1,7 @@
 -- Demand 1: every call takes every input: it answers, or refuses with the rules' number and place and nothing else, and every lent
 -- buffer keeps its bytes. That a call may be made with every input is `EveryInput` in Uniqueness; here stands what it then answers, in
 -- Refusals exactly when it refuses, and in Buffers what it leaves of what it was lent.
-use Prim.Native.Nat.{ℕ, _/_, _≤_}
+use Prim.Native.Nat.{ℕ, _/_, _≤_, _<_}
 use mathlib.Core.Path.{_≡_}
 use mathlib.Core.Logic.{_≢_}
 use mathlib.Core.List.{List, [], _∷_}
@@ -9,7 +9,7 @@ use mathlib.Core.Bool.{Bool, true, false, _&&_, _||_}
 use lib.Dec.{leb, eqb}
 use lib.ListN.{length, replicate}
 use Rattle.refusals.specs.declared.Refusal.{Refusal}
-use Rattle.refusals.specs.Refusals.{plain, refusedAt, OneOf}
+use Rattle.refusals.specs.Refusals.{plain, refusedAt, withEarlier, OneOf}
 use Rattle.room.specs.declared.Shape.{Shape}
 use Rattle.room.specs.declared.Number.{Number}
 use Rattle.room.specs.declared.Digits.{Digits}
@@ -51,17 +51,20 @@ use Rattle.step.specs.Steps.{stepAnswer}
 abbrev pub ofTheWhole : ℕ → Bool
 ofTheWhole r = leb r 7 || ((leb 16 r && leb r 18) || ((leb 20 r && leb r 22) || (eqb r 26 || eqb r 30)))
 
--- 8 to 12, 14, 19 and 23 arise at a hop
+-- 8 to 11, 14, 19 and 23 arise at a hop
 abbrev pub ofAHop : ℕ → Bool
-ofAHop r = (leb 8 r && leb r 12) || (eqb r 14 || (eqb r 19 || eqb r 23))
+ofAHop r = (leb 8 r && leb r 11) || (eqb r 14 || (eqb r 19 || eqb r 23))
 
 -- the form of a refusal of m routes, by rule 8.3: routes and hops count from 1; both are zero for a refusal of the whole; for 13 the
--- hop is 8; for 15 the hop is zero. Which number is given, and at which route and hop, is said exactly in Refusals.
+-- hop is 8; 28 names an earlier hop of the same route, from 0 on, 29 one from 1 on, 15 an earlier route and its hop, and no other number
+-- names an earlier route or hop. Which number is given, and at which routes and hops, is said exactly in Refusals.
 pub data RefusalForm (m : ℕ) : Refusal → Type 0 where
   whole : {r : ℕ} → ofTheWhole r ≡ true → RefusalForm m (plain r)
   at-hop : {r i h : ℕ} → ofAHop r ≡ true → 1 ≤ i → i ≤ m → 1 ≤ h → h ≤ 8 → RefusalForm m (refusedAt r i h)
   no-arrival : {i : ℕ} → 1 ≤ i → i ≤ m → RefusalForm m (refusedAt 13 i 8)
-  later : {i : ℕ} → 2 ≤ i → i ≤ m → RefusalForm m (refusedAt 15 i 0)
+  server-again : {i g h : ℕ} → 1 ≤ i → i ≤ m → g < h → h ≤ 8 → RefusalForm m (withEarlier 0 g (refusedAt 28 i h))
+  switch-again : {i g h : ℕ} → 1 ≤ i → i ≤ m → 1 ≤ g → g < h → h ≤ 8 → RefusalForm m (withEarlier 0 g (refusedAt 29 i h))
+  meeting : {i g j h : ℕ} → 1 ≤ i → i < j → j ≤ m → 1 ≤ g → g ≤ 8 → 1 ≤ h → h ≤ 8 → RefusalForm m (withEarlier i g (refusedAt 15 j h))
 
 -- ---- an answer, or a refusal and nothing else
 
@@ -159,17 +162,17 @@ pub record EveryCall : Type 0 where
   pub byte-of : (s : Shape) (l v : ℕ) → NumberOf (1 ∷ 2 ∷ 26 ∷ 3 ∷ 20 ∷ 21 ∷ []) (byteAnswer s l v)
   pub parts-of : (s : Shape) (b : ℕ) → PartsOf (1 ∷ 2 ∷ 26 ∷ 3 ∷ 8 ∷ 9 ∷ []) (partsAnswer s b)
   pub hop-of : (s : Shape) (a b : ℕ) → HopOf (1 ∷ 2 ∷ 26 ∷ 3 ∷ 4 ∷ 8 ∷ 9 ∷ 10 ∷ []) (hopAnswer s a b)
-  pub walk : (s : Shape) (t : List ℕ) (a d : ℕ) (bs : List ℕ) → WalkedOf (1 ∷ 2 ∷ 26 ∷ 3 ∷ 4 ∷ 5 ∷ 7 ∷ 8 ∷ 9 ∷ 10 ∷ 11 ∷ 12 ∷ 13 ∷ 14 ∷ []) (walkAnswer s t a d bs)
-  pub read-path : (s : Shape) (a d : ℕ) (bs : List ℕ) → ReadingOf (1 ∷ 2 ∷ 26 ∷ 3 ∷ 4 ∷ 5 ∷ 7 ∷ 8 ∷ 9 ∷ 10 ∷ 12 ∷ 13 ∷ 14 ∷ []) (readAnswer s a d bs)
-  pub reverse-path : (s : Shape) (a d : ℕ) (bs : List ℕ) → WritingOf (1 ∷ 2 ∷ 26 ∷ 3 ∷ 4 ∷ 5 ∷ 7 ∷ 8 ∷ 9 ∷ 10 ∷ 12 ∷ 13 ∷ 14 ∷ []) (reverseAnswer s a d bs)
-  pub write-path : (s : Shape) (vs : List ℕ) → WritingOf (1 ∷ 2 ∷ 26 ∷ 3 ∷ 22 ∷ 4 ∷ 5 ∷ 23 ∷ 12 ∷ []) (writeAnswer s vs)
+  pub walk : (s : Shape) (t : List ℕ) (a d : ℕ) (bs : List ℕ) → WalkedOf (1 ∷ 2 ∷ 26 ∷ 3 ∷ 4 ∷ 5 ∷ 7 ∷ 8 ∷ 9 ∷ 10 ∷ 11 ∷ 28 ∷ 29 ∷ 13 ∷ 14 ∷ []) (walkAnswer s t a d bs)
+  pub read-path : (s : Shape) (a d : ℕ) (bs : List ℕ) → ReadingOf (1 ∷ 2 ∷ 26 ∷ 3 ∷ 4 ∷ 5 ∷ 7 ∷ 8 ∷ 9 ∷ 10 ∷ 28 ∷ 29 ∷ 13 ∷ 14 ∷ []) (readAnswer s a d bs)
+  pub reverse-path : (s : Shape) (a d : ℕ) (bs : List ℕ) → WritingOf (1 ∷ 2 ∷ 26 ∷ 3 ∷ 4 ∷ 5 ∷ 7 ∷ 8 ∷ 9 ∷ 10 ∷ 28 ∷ 29 ∷ 13 ∷ 14 ∷ []) (reverseAnswer s a d bs)
+  pub write-path : (s : Shape) (vs : List ℕ) → WritingOf (1 ∷ 2 ∷ 26 ∷ 3 ∷ 22 ∷ 4 ∷ 5 ∷ 23 ∷ 28 ∷ 29 ∷ []) (writeAnswer s vs)
   -- verdict: the routes are the arrays of the list
   pub check-list : (s : Shape) (t : List ℕ) (a d : ℕ) (bs : List ℕ)
-      → RefusalOf (length bs / 8) (1 ∷ 2 ∷ 26 ∷ 3 ∷ 4 ∷ 5 ∷ 6 ∷ 7 ∷ 8 ∷ 9 ∷ 10 ∷ 11 ∷ 12 ∷ 13 ∷ 14 ∷ 15 ∷ []) (checkAnswer s t a d bs)
+      → RefusalOf (length bs / 8) (1 ∷ 2 ∷ 26 ∷ 3 ∷ 4 ∷ 5 ∷ 6 ∷ 7 ∷ 8 ∷ 9 ∷ 10 ∷ 11 ∷ 28 ∷ 29 ∷ 13 ∷ 14 ∷ 15 ∷ []) (checkAnswer s t a d bs)
   -- build, laying, finder, select
   pub build-routes : (s : Shape) (a d : ℕ) → BuildingOf (1 ∷ 2 ∷ 26 ∷ 3 ∷ 4 ∷ 5 ∷ []) (buildAnswer s a d)
   pub lay-route : (s : Shape) (t : List ℕ) (a d : ℕ) (bs : List ℕ) (r : Refusal) (u : List ℕ)
-      → Lays s t a d bs r u → RefusalOf 1 (1 ∷ 2 ∷ 26 ∷ 3 ∷ 4 ∷ 5 ∷ 6 ∷ 7 ∷ 8 ∷ 9 ∷ 10 ∷ 12 ∷ 13 ∷ 14 ∷ []) r
+      → Lays s t a d bs r u → RefusalOf 1 (1 ∷ 2 ∷ 26 ∷ 3 ∷ 4 ∷ 5 ∷ 6 ∷ 7 ∷ 8 ∷ 9 ∷ 10 ∷ 28 ∷ 29 ∷ 13 ∷ 14 ∷ []) r
   pub find-route : (s : Shape) (t : List ℕ) (a d : ℕ) (x : Found) → Finding s t a d x → FoundOf (1 ∷ 2 ∷ 26 ∷ 3 ∷ 4 ∷ 5 ∷ 6 ∷ []) x
   pub select-routes : (s : Shape) (t : List ℕ) (a d : ℕ) (x : Selection) → Selecting s t a d x → SelectionOf (1 ∷ 2 ∷ 26 ∷ 3 ∷ 4 ∷ 5 ∷ 6 ∷ 16 ∷ []) x
   -- pick: the number through the companion, and on a refusal the part is empty

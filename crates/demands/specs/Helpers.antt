@@ -1,13 +1,14 @@
--- Demand 2, of the functions that serve the layers above them: a refusal moved to a route, the numbers of a shape, the servers at a switch, one
--- link changed with no test, and what a path byte names.
+-- Demand 2, of the functions that serve the layers above them: a refusal moved to a route and with an earlier hop, the numbers of a shape, the
+-- servers at a switch, one link changed with no test, what a path byte names, and the place of a number in a list.
 use Prim.Native.Nat.{ℕ, _+_, _*_, _/_, _%_, _^_, _≤_, _<_}
 use mathlib.Core.Path.{_≡_}
 use mathlib.Core.Logic.{_≢_, _⊎_}
 use mathlib.Core.Bool.{Bool, false}
 use mathlib.Core.List.{List}
-use lib.ListN.{length}
+use lib.ListN.{length, getD}
+use Rattle.lists.specs.Lists.{placeIn}
 use Rattle.refusals.specs.declared.Refusal.{Refusal}
-use Rattle.refusals.specs.Refusals.{ofRoute}
+use Rattle.refusals.specs.Refusals.{earlierRoute, earlierHop, ofRoute, withEarlier}
 use Rattle.room.specs.declared.Shape.{Shape}
 use Rattle.room.specs.declared.Side.{Side}
 use Rattle.room.specs.Shapes.{shapeOf, fullRoom, serversOf, bound, powerOf, serverCount, Link}
@@ -27,6 +28,19 @@ pub record OfRoute (r : Refusal) (i : ℕ) (q : Refusal) : Type 0 where
   pub number : q .number ≡ r .number
   pub route : q .route ≡ i
   pub hop : q .hop ≡ r .hop
+  pub earlier : (earlierRoute q ≡ earlierRoute r) × (earlierHop q ≡ earlierHop r)
+
+-- the refusal q is r, with hop h of route i as the earlier one
+pub record WithEarlier (r : Refusal) (i h : ℕ) (q : Refusal) : Type 0 where
+  pub number : q .number ≡ r .number
+  pub place : (q .route ≡ r .route) × (q .hop ≡ r .hop)
+  pub earlier : (earlierRoute q ≡ i) × (earlierHop q ≡ h)
+
+-- p is the first place of x in a list, counted from 0, or its length where x is not in it
+pub record FirstPlace (x : ℕ) (xs : List ℕ) (p : ℕ) : Type 0 where
+  pub most : p ≤ length xs
+  pub there : p < length xs → getD xs p 0 ≡ x
+  pub before : (i : ℕ) → i < p → getD xs i 0 ≢ x
 
 -- the servers at the switch of server a at level l, as many as digit l has values, by the value that they have there
 pub record ServersAt (s : Shape) (a l : ℕ) (x : Side) : Type 0 where
@@ -46,6 +60,8 @@ pub record OneLink (b : Bool) (a l : ℕ) (t u : List ℕ) : Type 0 where
 
 pub record EveryHelper : Type 0 where
   pub of-route : (r : Refusal) (i : ℕ) → OfRoute r i (ofRoute i r)
+  pub with-earlier : (r : Refusal) (i h : ℕ) → WithEarlier r i h (withEarlier i h r)
+  pub place-in : (x : ℕ) (xs : List ℕ) → FirstPlace x xs (placeIn x xs)
   pub shape-new : (n k m : ℕ) → shapeOf n k m ≡ record { n = n; k = k; m = m }
   pub shape-full : (n k : ℕ) → fullRoom n k ≡ record { n = n; k = k; m = n }
   pub power : (n l : ℕ) → 1 ≤ n → n ≤ 64 → l ≤ 3 → powerOf n l ≡ n ^ l

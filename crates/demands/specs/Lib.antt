@@ -1,5 +1,6 @@
 pub mod Tests
 pub mod Demand1
+pub mod Meetings
 pub mod Refusals
 pub mod Buffers
 pub mod Demand2

@@ -7,7 +7,7 @@ use mathlib.Core.Logic.{_↔_}
 use mathlib.Core.List.{List, [], _∷_}
 use lib.ListN.{replicate}
 use Rattle.lists.specs.Lists.{filled}
-use Rattle.refusals.specs.Refusals.{none, refusedAt}
+use Rattle.refusals.specs.Refusals.{none, refusedAt, withEarlier}
 use Rattle.room.specs.declared.Shape.{Shape}
 use Rattle.room.specs.Shapes.{fullRoom}
 use Rattle.room.specs.Answers.{aNumber, someDigits, addressAnswer, digitsAnswer}
@@ -78,6 +78,6 @@ pub record ProvedTable : Type 0 where
   pub only-zeros : buildAnswer (fullRoom 2 0) 1 0 ≡ aBuilding (setOf (replicate 8 0 ∷ []))
   -- 0 to 0: refusal 5
   pub same-ends : buildAnswer (fullRoom 2 0) 0 0 ≡ noBuilding 5
-  -- (4,1), 00 to 03 with bytes 01 03: refusal 12 at the second hop, same switch
-  pub twice : readAnswer (fullRoom 4 1) 0 3 (array (0x01 ∷ 0x03 ∷ [])) ≡ record { refusal = refusedAt 12 1 2; count = 0; servers = replicate 9 0 }
+  -- (4,1), 00 to 03 with bytes 01 03: refusal 29 at the second hop, the switch of the first
+  pub twice : readAnswer (fullRoom 4 1) 0 3 (array (0x01 ∷ 0x03 ∷ [])) ≡ record { refusal = withEarlier 0 1 (refusedAt 29 1 2); count = 0; servers = replicate 9 0 }
   pub same-switch : switchTo (fullRoom 4 1) 0 1 ≡ switchTo (fullRoom 4 1) 1 3

@@ -8,7 +8,7 @@ use mathlib.Core.List.{List, [], _∷_, _++_}
 use lib.ListN.{length, getD}
 use Rattle.lists.specs.Lists.{inTurn}
 use Rattle.refusals.specs.declared.Refusal.{Refusal}
-use Rattle.refusals.specs.Refusals.{none, plain, refusedAt}
+use Rattle.refusals.specs.Refusals.{none, plain, refusedAt, ofRoute, withEarlier}
 use Rattle.room.specs.declared.Shape.{Shape}
 use Rattle.room.specs.Shapes.{serversOf, bound}
 use Rattle.room.specs.Addresses.{digit, switchesAt, Neighbours}
@@ -33,6 +33,7 @@ use Rattle.select.specs.Selection.{Selecting}
 use Rattle.pick.specs.Picks.{pickAnswer, arrayAt}
 use Rattle.pick.specs.Places.{placeAnswer}
 use Rattle.step.specs.Steps.{flagAt, stepAnswer}
+use Rattle.demands.specs.Meetings.{Reached, Used, Earlier, MeetFirst}
 use Rattle.demands.specs.Tests.{Tests, _then_, Refused, Number, Whole, Exactly, Hold}
 use Rattle.demands.specs.Summaries.{switchTotal, EntryCounts, Summarizes}
 
@@ -169,13 +170,18 @@ readTests s t vs b =
     let next = hopTo s a b in
     hopTests s a b
     then (11, (failed t a (levelOf b) ≡ false) × (failed t next (levelOf b) ≡ false))
-    then (12, NotIn next vs × NotIn (switchAt s (levelOf b) a) (switchesOf s vs))
+    then (28, NotIn next vs)
+    then (29, NotIn (switchAt s (levelOf b) a) (switchesOf s vs))
 
 -- server b after the way vs, when servers are written: it differs from the last in exactly one digit
 abbrev pub writeTests : Shape → List ℕ → ℕ → Tests
 writeTests s vs b =
     let a = endOf vs in
-    (23, (l : ℕ) × Neighbours s l a b) ∷ (12, NotIn b vs × NotIn (switchTo s a b) (switchesOf s vs)) ∷ []
+    (23, (l : ℕ) × Neighbours s l a b) ∷ (28, NotIn b vs) ∷ (29, NotIn (switchTo s a b) (switchesOf s vs)) ∷ []
+
+-- n is the number of the first of these tests that fails
+abbrev pub FailsWith : Tests → ℕ → Type 0
+FailsWith tests = Refused (λ x. x) tests (λ x. ⊥)
 
 -- ---- reading an array
 
@@ -200,8 +206,12 @@ pub record FirstAfterArrival (s : Shape) (t : List ℕ) (a d : ℕ) (bs : List �
 
 -- why and where reading an array stops
 pub data Stops (s : Shape) (t : List ℕ) (a d : ℕ) (bs : List ℕ) : Refusal → Type 0 where
-  -- a test of the next byte fails: the hop is the number of servers met
-  hop-fails : {vs : List ℕ} {b : ℕ} {left : List ℕ} {r : Refusal} → Along s t a d bs vs (b ∷ left) → Refused (λ n. refusedAt n 1 (length vs)) (readTests s t vs b) (λ x. ⊥) r → Stops s t a d bs r
+  -- a test of the next byte fails: the hop is the number of servers met; 28 and 29 name an earlier hop beside it
+  hop-fails : {vs : List ℕ} {b : ℕ} {left : List ℕ} {n h : ℕ}
+      → Along s t a d bs vs (b ∷ left)
+      → FailsWith (readTests s t vs b) n
+      → Earlier s vs (hopTo s (endOf vs) b) (switchAt s (levelOf b) (endOf vs)) n h
+      → Stops s t a d bs (withEarlier 0 h (refusedAt n 1 (length vs)))
   -- all eight bytes are hops, and it has not arrived
   never-arrives : {vs : List ℕ} → Along s t a d bs vs [] → Stops s t a d bs (refusedAt 13 1 8)
   -- a byte after arrival is not zero: the hop is its place
@@ -220,14 +230,19 @@ serversTests s vs =
     then (4, (i : ℕ) → i < length vs → getD vs i 0 < serversOf s)
     then (5, getD vs 0 0 ≢ endOf vs)
 
--- the first server that is no hop from those before it, which are the beginning of a route: the hop is their number
+-- the first server that is no hop from those before it, which are the beginning of a route: the hop is their number; 28 and 29 name an
+-- earlier hop beside it
 pub record WriteStops (s : Shape) (vs : List ℕ) (r : Refusal) : Type 0 where
   pub before : List ℕ
   pub next : ℕ
   pub rest : List ℕ
   pub servers : vs ≡ before ++ (next ∷ rest)
   pub way : Prefix s [] before
-  pub refused : Refused (λ n. refusedAt n 1 (length before)) (writeTests s before next) (λ x. ⊥) r
+  pub number : ℕ
+  pub earlier : ℕ
+  pub refused : FailsWith (writeTests s before next) number
+  pub names : Earlier s before next (switchTo s (endOf before) next) number earlier
+  pub here : r ≡ withEarlier 0 earlier (refusedAt number 1 (length before))
 
 -- servers are a route, or writing them stops
 abbrev pub Writes : Shape → List ℕ → Refusal → Type 0
@@ -235,17 +250,17 @@ Writes s vs r = (Route s [] vs × (r ≡ none)) ⊎ WriteStops s vs r
 
 -- ---- checking a list
 
--- the first array that is not read, with its own number and hop; routes count from 1
+-- the first array that is not read, with its own refusal; routes count from 1
 pub record FirstRefused (s : Shape) (t : List ℕ) (a d : ℕ) (bs : List ℕ) (r : Refusal) : Type 0 where
   pub place : ℕ
-  pub number : ℕ
-  pub hop : ℕ
+  pub own : Refusal
   pub within : place < length bs / 8
   pub before : (i : ℕ) → i < place → IsRead s t a d bs i
-  pub stops : Stops s t a d (arrayAt place bs) (refusedAt number 1 hop)
-  pub here : r ≡ refusedAt number (suc place) hop
+  pub stops : Stops s t a d (arrayAt place bs) own
+  pub here : r ≡ ofRoute (suc place) own
 
--- all are read; of the pairs, by first, then second route, the first that is not parallel: the route is the later of the two
+-- all are read; of the pairs, by first, then second route, the first that is not parallel: route and hop are those of the later of the two where
+-- they first meet, and the earlier ones those of the other
 pub record FirstPair (s : Shape) (t : List ℕ) (a d : ℕ) (bs : List ℕ) (r : Refusal) : Type 0 where
   pub routes : ℕ → List ℕ
   pub read : (i : ℕ) → i < length bs / 8 → Encodes s t a d (arrayAt i bs) (routes i)
@@ -254,8 +269,10 @@ pub record FirstPair (s : Shape) (t : List ℕ) (a d : ℕ) (bs : List ℕ) (r :
   pub order : first < second
   pub within : second < length bs / 8
   pub before : (i j : ℕ) → i < j → j < length bs / 8 → (i < first) ⊎ ((i ≡ first) × (j < second)) → Parallel s (routes i) (routes j)
-  pub meet : Parallel s (routes first) (routes second) → ⊥
-  pub here : r ≡ refusedAt 15 (suc second) 0
+  pub hop : ℕ
+  pub other : ℕ
+  pub meet : MeetFirst s (routes first) (routes second) hop other
+  pub here : r ≡ withEarlier (suc first) hop (refusedAt 15 (suc second) other)
 
 -- a list is accepted; or an array of it is not read; or all are, and two are not parallel
 abbrev pub Checks : Shape → List ℕ → ℕ → ℕ → List ℕ → Refusal → Type 0
@@ -276,6 +293,50 @@ abbrev pub Steps : Shape → ℕ → ℕ → ℕ → List ℕ → List ℕ → R
 Steps s a d i bs e r =
     ((a ≡ d) × (r ≡ none))
     ⊎ ((a ≢ d) × Refused plain ((18, i < 8) ∷ []) (Refused (λ n. refusedAt n 1 (i + 1)) (stepTests s a e (getD bs i 0)) (λ x. x ≡ none)) r)
+
+-- ---- a server met again, a switch used again
+
+-- reading comes to its hop h: after the way over these servers the next byte is a hop of the room, over two live links
+pub record ComesTo (s : Shape) (t : List ℕ) (a d : ℕ) (bs : List ℕ) (h : ℕ) : Type 0 where
+  pub servers : List ℕ
+  pub byte : ℕ
+  pub left : List ℕ
+  pub along : Along s t a d bs servers (byte ∷ left)
+  pub count : length servers ≡ h
+  pub hop : Hold (hopTests s (endOf servers) byte)
+  pub links : (failed t (endOf servers) (levelOf byte) ≡ false) × (failed t (hopTo s (endOf servers) byte) (levelOf byte) ≡ false)
+
+-- it leads to the server that hop g reached
+pub record MeetsAgain (s : Shape) (t : List ℕ) (a d : ℕ) (bs : List ℕ) (g h : ℕ) : Type 0 where
+  pub comes : ComesTo s t a d bs h
+  pub again : Reached (comes .servers) (hopTo s (endOf (comes .servers)) (comes .byte)) g
+
+-- it leads to a server not met before, over the switch that hop g used
+pub record UsesAgain (s : Shape) (t : List ℕ) (a d : ℕ) (bs : List ℕ) (g h : ℕ) : Type 0 where
+  pub comes : ComesTo s t a d bs h
+  pub new : NotIn (hopTo s (endOf (comes .servers)) (comes .byte)) (comes .servers)
+  pub again : Used s (comes .servers) (switchAt s (levelOf (comes .byte)) (endOf (comes .servers))) g
+
+-- writing comes to its hop h: the first h servers are the beginning of a route, and the next is a neighbour of the last of them
+pub record WritesTo (s : Shape) (vs : List ℕ) (h : ℕ) : Type 0 where
+  pub before : List ℕ
+  pub next : ℕ
+  pub rest : List ℕ
+  pub servers : vs ≡ before ++ (next ∷ rest)
+  pub count : length before ≡ h
+  pub way : Prefix s [] before
+  pub hop : (l : ℕ) × Neighbours s l (endOf before) next
+
+-- that is the server that hop g reached
+pub record WritesAgain (s : Shape) (vs : List ℕ) (g h : ℕ) : Type 0 where
+  pub comes : WritesTo s vs h
+  pub again : Reached (comes .before) (comes .next) g
+
+-- it is new, and the hop to it is over the switch that hop g used
+pub record WritesOver (s : Shape) (vs : List ℕ) (g h : ℕ) : Type 0 where
+  pub comes : WritesTo s vs h
+  pub new : NotIn (comes .next) (comes .before)
+  pub again : Used s (comes .before) (switchTo s (endOf (comes .before)) (comes .next)) g
 
 -- ---- every call
 
@@ -362,6 +423,17 @@ pub record SpelledOut : Type 0 where
   -- 14 at hop p + 1, exactly when the byte at place p, counted from 0, is the first after arrival that is not zero
   pub fourteen : (s : Shape) (t : List ℕ) (a d : ℕ) (bs : List ℕ) (p : ℕ)
       → (walkAnswer s t a d bs .refusal ≡ refusedAt 14 1 (suc p)) ↔ (Hold (arrayTests s a d bs) × FirstAfterArrival s t a d bs p)
-  -- 15 at route j, exactly when that is the later of the first pair that is not parallel
-  pub fifteen : (s : Shape) (t : List ℕ) (a d : ℕ) (bs : List ℕ) (j : ℕ)
-      → (checkAnswer s t a d bs ≡ refusedAt 15 j 0) ↔ (Hold (checkTests s t a d bs) × FirstPair s t a d bs (refusedAt 15 j 0))
+  -- 28 at hop h, which reading came to over live links, exactly when that hop leads to the server that hop g reached
+  pub twenty-eight : (s : Shape) (t : List ℕ) (a d : ℕ) (bs : List ℕ) (g h : ℕ)
+      → (walkAnswer s t a d bs .refusal ≡ withEarlier 0 g (refusedAt 28 1 h)) ↔ (Hold (arrayTests s a d bs) × MeetsAgain s t a d bs g h)
+  -- 29, exactly when it leads to a server not met before, over the switch that hop g used
+  pub twenty-nine : (s : Shape) (t : List ℕ) (a d : ℕ) (bs : List ℕ) (g h : ℕ)
+      → (walkAnswer s t a d bs .refusal ≡ withEarlier 0 g (refusedAt 29 1 h)) ↔ (Hold (arrayTests s a d bs) × UsesAgain s t a d bs g h)
+  -- and so the writer, whose first server is hop 0
+  pub write-twenty-eight : (s : Shape) (vs : List ℕ) (g h : ℕ)
+      → (writeAnswer s vs .refusal ≡ withEarlier 0 g (refusedAt 28 1 h)) ↔ (Hold (serversTests s vs) × WritesAgain s vs g h)
+  pub write-twenty-nine : (s : Shape) (vs : List ℕ) (g h : ℕ)
+      → (writeAnswer s vs .refusal ≡ withEarlier 0 g (refusedAt 29 1 h)) ↔ (Hold (serversTests s vs) × WritesOver s vs g h)
+  -- 15 at hop h of route j, with hop g of route i, exactly when these are the first pair that is not parallel and they first meet there
+  pub fifteen : (s : Shape) (t : List ℕ) (a d : ℕ) (bs : List ℕ) (i g j h : ℕ)
+      → (let r = withEarlier i g (refusedAt 15 j h) in (checkAnswer s t a d bs ≡ r) ↔ (Hold (checkTests s t a d bs) × FirstPair s t a d bs r))

@@ -16,6 +16,8 @@ use Rattle.refusals.proofs.Refusal.at.Reads as refusal-at-reads
 use Rattle.refusals.proofs.Refusal.at.Kinds as refusal-at-kinds
 use Rattle.refusals.proofs.Refusal.of_route.Reads as refusal-of-route-reads
 use Rattle.refusals.proofs.Refusal.of_route.Kinds as refusal-of-route-kinds
+use Rattle.refusals.proofs.Refusal.with_earlier.Reads as refusal-with-earlier-reads
+use Rattle.refusals.proofs.Refusal.with_earlier.Kinds as refusal-with-earlier-kinds
 use Rattle.room.proofs.Shape.new.Reads as shape-new-reads
 use Rattle.room.proofs.Shape.new.Kinds as shape-new-kinds
 use Rattle.room.proofs.Shape.full.Reads as shape-full-reads
@@ -96,8 +98,8 @@ use Rattle.path.proofs.level_of.Reads as level-of-reads
 use Rattle.path.proofs.level_of.Kinds as level-of-kinds
 use Rattle.path.proofs.value_of.Reads as value-of-reads
 use Rattle.path.proofs.value_of.Kinds as value-of-kinds
-use Rattle.path.proofs.is_among.Reads as is-among-reads
-use Rattle.path.proofs.is_among.Kinds as is-among-kinds
+use Rattle.path.proofs.place_in.Reads as place-in-reads
+use Rattle.path.proofs.place_in.Kinds as place-in-kinds
 use Rattle.path.proofs.walk.Reads as walk-reads
 use Rattle.path.proofs.walk.Kinds as walk-kinds
 use Rattle.path.proofs.read_path.Reads as read-path-reads
@@ -216,6 +218,7 @@ pub record EveryInput : Type 0 where
   pub refusal-plain : Takes 0 refusal-plain-kinds.ps refusal-plain-reads.Pre
   pub refusal-at : Takes 0 refusal-at-kinds.ps refusal-at-reads.Pre
   pub refusal-of-route : Takes 0 refusal-of-route-kinds.ps refusal-of-route-reads.Pre
+  pub refusal-with-earlier : Takes 0 refusal-with-earlier-kinds.ps refusal-with-earlier-reads.Pre
   pub shape-refusal : Takes 0 shape-refusal-kinds.ps shape-refusal-reads.Pre
   pub server-refusal : Takes 0 server-refusal-kinds.ps server-refusal-reads.Pre
   pub pair-refusal : Takes 0 pair-refusal-kinds.ps pair-refusal-reads.Pre
@@ -258,7 +261,7 @@ pub record EveryInput : Type 0 where
   pub hop-of : Takes 0 hop-of-kinds.ps hop-of-reads.Pre
   pub level-of : Takes 0 level-of-kinds.ps level-of-reads.Pre
   pub value-of : Takes 0 value-of-kinds.ps value-of-reads.Pre
-  pub is-among : Takes 1 is-among-kinds.ps is-among-reads.Pre
+  pub place-in : Takes 1 place-in-kinds.ps place-in-reads.Pre
   pub ends-refusal : Takes 0 ends-refusal-kinds.ps ends-refusal-reads.Pre
   pub walk : Takes 2 walk-kinds.ps walk-reads.Pre
   pub read-path : Takes 1 read-path-kinds.ps read-path-reads.Pre
@@ -330,6 +333,7 @@ pub record Uniqueness : Type 0 where
   pub refusal-plain : Determined 0 refusal-plain-kinds.ps refusal-plain-kinds.r refusal-plain-reads.Post
   pub refusal-at : Determined 0 refusal-at-kinds.ps refusal-at-kinds.r refusal-at-reads.Post
   pub refusal-of-route : Determined 0 refusal-of-route-kinds.ps refusal-of-route-kinds.r refusal-of-route-reads.Post
+  pub refusal-with-earlier : Determined 0 refusal-with-earlier-kinds.ps refusal-with-earlier-kinds.r refusal-with-earlier-reads.Post
   pub shape-refusal : Determined 0 shape-refusal-kinds.ps shape-refusal-kinds.r shape-refusal-reads.Post
   pub server-refusal : Determined 0 server-refusal-kinds.ps server-refusal-kinds.r server-refusal-reads.Post
   pub pair-refusal : Determined 0 pair-refusal-kinds.ps pair-refusal-kinds.r pair-refusal-reads.Post
@@ -386,7 +390,7 @@ pub record Uniqueness : Type 0 where
   pub hop-of : Determined 0 hop-of-kinds.ps hop-of-kinds.r hop-of-reads.Post
   pub level-of : Determined 0 level-of-kinds.ps level-of-kinds.r level-of-reads.Post
   pub value-of : Determined 0 value-of-kinds.ps value-of-kinds.r value-of-reads.Post
-  pub is-among : Determined 1 is-among-kinds.ps is-among-kinds.r is-among-reads.Post
+  pub place-in : Determined 1 place-in-kinds.ps place-in-kinds.r place-in-reads.Post
   pub ends-refusal : Determined 0 ends-refusal-kinds.ps ends-refusal-kinds.r ends-refusal-reads.Post
   pub walk : Determined 2 walk-kinds.ps walk-kinds.r walk-reads.Post
   pub read-path : Determined 1 read-path-kinds.ps read-path-kinds.r read-path-reads.Post

@@ -9,6 +9,7 @@ use native.Mathlib.Decide.{ℕ-discrete}
 use lib.ListN.{length, getD, replicate}
 use lib.Dec.{eqb, lit<, lit≤}
 use borrow.Author.Tests.{eq-eqb, ne-eqb}
+use Rattle.refusals.specs.declared.Refusal.{Refusal}
 use Rattle.refusals.specs.Refusals.{plain, refusedAt, answer}
 use Rattle.refusals.proofs.NumberLaws.{one-le}
 use Rattle.room.specs.declared.Shape.{Shape}
@@ -23,20 +24,23 @@ use Rattle.driver.specs.Packed.{flagOf, bytesNumber, macNumber, stepWord
 
 -- ---- how large a step's numbers are
 
-module _ (s : Shape) (a d i : ℕ) (bs e : List ℕ) where
-  with-place-route : (r : ℕ) → withPlace i r .route ≡ cond (eqb (withPlace i r .hop) 0) 0 1
-  unfolding withPlace
-  with-place-route r = go (atHop r)
-    where
-      go : (t : Bool) → cond t (refusedAt r 1 (i + 1)) (plain r) .route ≡ cond (eqb (cond t (refusedAt r 1 (i + 1)) (plain r) .hop) 0) 0 1
-      go true = rw (ne-eqb (i + 1) 0 (λ z. omega arith))
-      go false = refl
+-- a refusal by its number and hop alone, as a step has it: its route is 1 where its hop is not 0
+abbrev byHop : ℕ → ℕ → Refusal
+byHop n h = refusedAt n (cond (eqb h 0) 0 1) h
 
--- each of a step's numbers fits its place in the word, and the route is known by the hop
+with-place-hop : (i r : ℕ) → withPlace i r ≡ byHop (withPlace i r .number) (withPlace i r .hop)
+unfolding withPlace
+with-place-hop i r = go (atHop r)
+  where
+    go : (t : Bool) → (let x = cond t (refusedAt r 1 (i + 1)) (plain r) in x ≡ byHop (x .number) (x .hop))
+    go true = rw (ne-eqb (i + 1) 0 (λ z. omega arith))
+    go false = refl
+
+-- each of a step's numbers fits its place in the word, and the refusal is known by its number and hop
 pub record Fits (x : Step) : Type 0 where
   pub number : x .refusal .number < 256
   pub hop : x .refusal .hop < 256
-  pub route : x .refusal .route ≡ cond (eqb (x .refusal .hop) 0) 0 1
+  pub place : x .refusal ≡ byHop (x .refusal .number) (x .refusal .hop)
   pub index : x .index < 256
   pub next : x .next < 65536
   pub level : x .level ≤ 3
@@ -95,12 +99,12 @@ module _ (s : Shape) (a d i : ℕ) (bs e : List ℕ) where
       let m = one-le 255 refl (step-numbers s a d i bs e) in
       let k = hop-le s a d i bs e in
       let p = with-place-number i (stepRefusal s a d i bs e) in
-      record { number = omega arith; hop = omega arith; route = with-place-route s a d i bs e (stepRefusal s a d i bs e); index = lit< tt; next = lit< tt; level = lit≤ tt; old = lit< tt })
-      (λ h. record { number = lit< tt; hop = lit< tt; route = refl; index = lit< tt; next = lit< tt; level = lit≤ tt; old = lit< tt })
+      record { number = omega arith; hop = omega arith; place = with-place-hop i (stepRefusal s a d i bs e); index = lit< tt; next = lit< tt; level = lit≤ tt; old = lit< tt })
+      (λ h. record { number = lit< tt; hop = lit< tt; place = refl; index = lit< tt; next = lit< tt; level = lit≤ tt; old = lit< tt })
       (λ z away.
       let g = goes-of s a d i bs e z away in
       let k = hop-server (g .given .here) (getD bs i 0) (g .taken) in
-      record { number = lit< tt; hop = lit< tt; route = refl; index = omega (arith, g .index); next = omega (arith, k .below, k .valid .small); level = hop-level-low (g .given .here) (getD bs i 0) (g .taken); old = hop-old-low (g .given .here) (getD bs i 0) (g .taken) })
+      record { number = lit< tt; hop = lit< tt; place = refl; index = omega (arith, g .index); next = omega (arith, k .below, k .valid .small); level = hop-level-low (g .given .here) (getD bs i 0) (g .taken); old = hop-old-low (g .given .here) (getD bs i 0) (g .taken) })
 
   pub step-small : Bytes e → Small (stepAnswer s a d i bs e)
   unfolding portAt macAt entry
@@ -147,11 +151,9 @@ flag-le : (t : Bool) → flagOf t ≤ 1
 flag-le true = lit≤ tt
 flag-le false = lit≤ tt
 
-step-same : (x y : Step) → x .refusal .number ≡ y .refusal .number → x .refusal .route ≡ y .refusal .route → x .refusal .hop ≡ y .refusal .hop → x .delivered ≡ y .delivered → x .next ≡ y .next → x .index ≡ y .index → x .mac ≡ y .mac → x .port ≡ y .port → x .level ≡ y .level → x .old ≡ y .old → x ≡ y
-step-same x y a b c d e f g h k o =
-    ap (λ (z : ℕ). record { refusal = record { number = z; route = x .refusal .route; hop = x .refusal .hop }; delivered = x .delivered; next = x .next; index = x .index; mac = x .mac; port = x .port; level = x .level; old = x .old }) a
-    ∙ ap (λ (z : ℕ). record { refusal = record { number = y .refusal .number; route = z; hop = x .refusal .hop }; delivered = x .delivered; next = x .next; index = x .index; mac = x .mac; port = x .port; level = x .level; old = x .old }) b
-    ∙ ap (λ (z : ℕ). record { refusal = record { number = y .refusal .number; route = y .refusal .route; hop = z }; delivered = x .delivered; next = x .next; index = x .index; mac = x .mac; port = x .port; level = x .level; old = x .old }) c
+step-same : (x y : Step) → x .refusal ≡ y .refusal → x .delivered ≡ y .delivered → x .next ≡ y .next → x .index ≡ y .index → x .mac ≡ y .mac → x .port ≡ y .port → x .level ≡ y .level → x .old ≡ y .old → x ≡ y
+step-same x y a d e f g h k o =
+    ap (λ (z : Refusal). record { refusal = z; delivered = x .delivered; next = x .next; index = x .index; mac = x .mac; port = x .port; level = x .level; old = x .old }) a
     ∙ ap (λ (z : Bool). record { refusal = y .refusal; delivered = z; next = x .next; index = x .index; mac = x .mac; port = x .port; level = x .level; old = x .old }) d
     ∙ ap (λ (z : ℕ). record { refusal = y .refusal; delivered = y .delivered; next = z; index = x .index; mac = x .mac; port = x .port; level = x .level; old = x .old }) e
     ∙ ap (λ (z : ℕ). record { refusal = y .refusal; delivered = y .delivered; next = y .next; index = z; mac = x .mac; port = x .port; level = x .level; old = x .old }) f
@@ -183,9 +185,8 @@ pub unpack-packed : (x : Step) → Small x → unpacked (packed x) ≡ x
 unfolding packed unpacked stepIn
 unpack-packed x h =
     let f = word-fields x h in
-    step-same (stepIn (stepWord x) (macNumber (x .mac))) x (f .number)
-    (ap (λ (z : ℕ). cond (eqb z 0) 0 1) (f .hop) ∙ sym (h .fits .route))
-    (f .hop)
+    step-same (stepIn (stepWord x) (macNumber (x .mac))) x
+    (ap₂ byHop (f .number) (f .hop) ∙ sym (h .fits .place))
     (ap (λ (z : ℕ). eqb z 1) (f .delivered) ∙ flag-back (x .delivered))
     (f .next) (f .index) (mac-back (x .mac) (h .long) (h .mac)) (f .port)
     (ap levelOf (f .back) ∙ byte-apart (x .level) (x .old) (h .fits .old) .0)

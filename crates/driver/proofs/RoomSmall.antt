@@ -37,7 +37,7 @@ use Rattle.driver.proofs.WordLaws.{none-small, plain-small, number-smal
 -- ---- a refusal of a call as a whole, with any number
 
 plain-with : (r v : ℕ) → r ≤ 255 → v < 4294967296 → Small (plain r) v
-plain-with r v h k = record { number = omega arith; route = lit< tt; hop = lit< tt; value = k }
+plain-with r v h k = record { number = omega arith; route = lit< tt; hop = lit< tt; earlier-route = lit< tt; earlier-hop = lit< tt; value = k }
 
 pub plain-fits : {r q : ℕ} {x : Refusal} (v : ℕ) → q ≤ 255 → v < 4294967296 → r ≡ q → x ≡ plain r → Small x v
 plain-fits {r} {q} {x} v h k e g = subst (λ (z : Refusal). Small z v) (sym (g ∙ ap plain e)) (plain-with q v h k)

@@ -1,12 +1,12 @@
 -- Laws of the result word.
 use Prim.Native.Nat.{ℕ, zero, suc, _+_, _*_, _/_, _%_, _≤_, _<_}
 use native.Mathlib.Omega.{arith}
-use mathlib.Core.Path.{_≡_, refl, sym, ap, _∙_, subst}
+use mathlib.Core.Path.{_≡_, refl, sym, ap, ap₂, _∙_, subst}
 use mathlib.Core.Logic.{_≢_}
 use mathlib.Core.List.{List}
 use lib.Dec.{lit<}
 use Rattle.refusals.specs.declared.Refusal.{Refusal}
-use Rattle.refusals.specs.Refusals.{none, plain, answer}
+use Rattle.refusals.specs.Refusals.{refusal, earlierRoute, earlierHop, none, plain, answer}
 use Rattle.room.specs.declared.Shape.{Shape}
 use Rattle.room.specs.declared.Number.{Number}
 use Rattle.room.specs.Answers.{noNumber, aNumber}
@@ -14,39 +14,32 @@ use Rattle.driver.specs.declared.Answer.{Answer}
 use Rattle.driver.specs.Words.{word, refusalIn, valueIn, Small, left}
 
 -- the sum that the code makes is the word
-pub word-made : (r : Refusal) (v : ℕ) → _≡_ {A = Answer} (record { word = 4294967296 * v + (65536 * r .hop + (256 * r .route + r .number)) }) (word r v)
+pub word-made : (r : Refusal) (v : ℕ) → _≡_ {A = Answer} (record { word = 4294967296 * v + (16777216 * (16 * earlierRoute r + earlierHop r) + (65536 * r .hop + (256 * r .route + r .number))) }) (word r v)
 unfolding word
 word-made r v = refl
 
-refusal-same : (x y : Refusal) → x .number ≡ y .number → x .route ≡ y .route → x .hop ≡ y .hop → x ≡ y
-refusal-same x y a b c =
-    ap (λ (n : ℕ). record { number = n; route = x .route; hop = x .hop }) a
-    ∙ ap (λ (i : ℕ). record { number = y .number; route = i; hop = x .hop }) b
-    ∙ ap (λ (h : ℕ). record { number = y .number; route = y .route; hop = h }) c
+pub refusal-same : (x y : Refusal) → x .number ≡ y .number → x .route ≡ y .route → x .hop ≡ y .hop → earlierRoute x ≡ earlierRoute y → earlierHop x ≡ earlierHop y → x ≡ y
+refusal-same x y a b c d e =
+    ap (λ (n : ℕ). refusal n (x .route) (x .hop) (earlierRoute x) (earlierHop x)) a
+    ∙ ap₂ (λ (i h : ℕ). refusal (y .number) i h (earlierRoute x) (earlierHop x)) b c
+    ∙ ap₂ (λ (i h : ℕ). refusal (y .number) (y .route) (y .hop) i h) d e
 
--- a driver reads back of a word the refusal and the number that were put into it
-pub refusal-back : (r : Refusal) (v : ℕ) → Small r v → refusalIn (word r v) ≡ r
-unfolding word refusalIn
-refusal-back r v h =
-    let a = h .number in
-    let b = h .route in
-    let c = h .hop in
-    let w = 4294967296 * v + (65536 * r .hop + (256 * r .route + r .number)) in
-    let e0 : w % 256 ≡ r .number = omega arith in
-    let f1 : w / 256 ≡ 256 * (65536 * v + r .hop) + r .route = omega arith in
-    let e1 : (256 * (65536 * v + r .hop) + r .route) % 256 ≡ r .route = omega arith in
-    let f2 : w / 65536 ≡ 256 * (256 * v) + r .hop = omega arith in
-    let e2 : (256 * (256 * v) + r .hop) % 256 ≡ r .hop = omega arith in
-    refusal-same (refusalIn (record { word = w })) r e0 (ap (λ (q : ℕ). q % 256) f1 ∙ e1) (ap (λ (q : ℕ). q % 256) f2 ∙ e2)
+-- the parts of a word, each below its bound
+parts : (n i h j g v : ℕ) → n < 256 → i < 256 → h < 256 → j < 16 → g < 16
+    → (let w = 4294967296 * v + (16777216 * (16 * j + g) + (65536 * h + (256 * i + n))) in (w % 256 ≡ n) × (w / 256 % 256 ≡ i) × (w / 65536 % 256 ≡ h) × (w / 268435456 % 16 ≡ j) × (w / 16777216 % 16 ≡ g) × (w / 4294967296 ≡ v))
+parts n i h j g v a b c d e = (omega arith, omega arith, omega arith, omega arith, omega arith, omega arith)
 
-pub value-back : (r : Refusal) (v : ℕ) → Small r v → valueIn (word r v) ≡ v
-unfolding word valueIn
-value-back r v h =
-    let a = h .number in
-    let b = h .route in
-    let c = h .hop in
-    let e : (4294967296 * v + (65536 * r .hop + (256 * r .route + r .number))) / 4294967296 ≡ v = omega arith in
-    e
+module _ (r : Refusal) (v : ℕ) (h : Small r v) where
+  -- a driver reads back of a word the refusal and the number that were put into it
+  pub refusal-back : refusalIn (word r v) ≡ r
+  unfolding word refusalIn
+  refusal-back =
+      let p = parts (r .number) (r .route) (r .hop) (earlierRoute r) (earlierHop r) v (h .number) (h .route) (h .hop) (h .earlier-route) (h .earlier-hop) in
+      refusal-same (refusalIn (word r v)) r (p .0) (p .1) (p .2) (p .3) (p .4)
+
+  pub value-back : valueIn (word r v) ≡ v
+  unfolding word valueIn
+  value-back = parts (r .number) (r .route) (r .hop) (earlierRoute r) (earlierHop r) v (h .number) (h .route) (h .hop) (h .earlier-route) (h .earlier-hop) .5
 
 -- what a call says of its answer, where it was asked with a shape that is t
 pub said : {X : Type 0} (says : X → Answer) (f : Shape → X) {s t : Shape} {x : X} {w : Answer} → w ≡ says x → x ≡ f s → s ≡ t → w ≡ says (f t)
@@ -60,11 +53,11 @@ number-fits y x h e = subst (λ (z : Number). Small (z .refusal) (z .value)) (sy
 
 -- no refusal, with a number
 pub none-small : (v : ℕ) → v < 4294967296 → Small none v
-none-small v h = record { number = lit< tt; route = lit< tt; hop = lit< tt; value = h }
+none-small v h = record { number = lit< tt; route = lit< tt; hop = lit< tt; earlier-route = lit< tt; earlier-hop = lit< tt; value = h }
 
 -- a refusal of a call as a whole
 pub plain-small : (r : ℕ) → r ≤ 255 → Small (plain r) 0
-plain-small r h = record { number = omega arith; route = lit< tt; hop = lit< tt; value = lit< tt }
+plain-small r h = record { number = omega arith; route = lit< tt; hop = lit< tt; earlier-route = lit< tt; earlier-hop = lit< tt; value = lit< tt }
 
 -- a number, or the refusal of a call as a whole
 pub number-small : (r v : ℕ) → r ≤ 255 → (r ≡ 0 → v < 4294967296) → Small (answer r noNumber (aNumber v) .refusal) (answer r noNumber (aNumber v) .value)

@@ -4,6 +4,7 @@ use mathlib.Core.List.{List, [], _∷_}
 use mathlib.Core.Bool.{Bool, cond}
 use lib.Dec.{eqb}
 use lib.ListN.{getD}
+use Rattle.refusals.specs.Refusals.{refusedAt}
 use Rattle.path.specs.Routes.{byteOf, levelOf, valueOf}
 use Rattle.step.specs.declared.Step.{Step}
 use Rattle.driver.specs.declared.Stepped.{Stepped}
@@ -32,7 +33,7 @@ packed x = record { word = stepWord x; mac = macNumber (x .mac) }
 unfoldable pub stepIn : ℕ → ℕ → Step
 stepIn w m =
     record {
-      refusal = record { number = w % 256; route = cond (eqb (w / 256 % 256) 0) 0 1; hop = w / 256 % 256 };
+      refusal = refusedAt (w % 256) (cond (eqb (w / 256 % 256) 0) 0 1) (w / 256 % 256);
       delivered = eqb (w / 65536 % 256) 1;
       next = w / 4294967296 % 65536;
       index = w / 16777216 % 256;

@@ -3,6 +3,7 @@ use Prim.Native.Nat.{ℕ, zero, suc, _+_, _*_, _/_, _%_, _<_}
 use mathlib.Core.List.{List}
 use mathlib.Core.Bool.{cond}
 use Rattle.refusals.specs.declared.Refusal.{Refusal}
+use Rattle.refusals.specs.Refusals.{refusal, earlierRoute, earlierHop}
 use Rattle.room.specs.declared.Number.{Number}
 use Rattle.room.specs.declared.Digits.{Digits}
 use Rattle.room.specs.declared.Switch.{Switch}
@@ -18,13 +19,14 @@ use Rattle.build.specs.declared.Building.{Building}
 use Rattle.pick.specs.declared.Place.{Place}
 use Rattle.driver.specs.declared.Answer.{Answer}
 
--- from the lowest byte: the refusal's number, its route, its hop, 0, and a number of four bytes
+-- from the lowest byte: the refusal's number, its route, its hop, 16 times the earlier route plus the earlier hop, and a number of four bytes
 unfoldable pub word : Refusal → ℕ → Answer
-word r v = record { word = 4294967296 * v + (65536 * r .hop + (256 * r .route + r .number)) }
+word r v =
+    record { word = 4294967296 * v + (16777216 * (16 * earlierRoute r + earlierHop r) + (65536 * r .hop + (256 * r .route + r .number))) }
 
 -- what a driver reads back of a word
 unfoldable pub refusalIn : Answer → Refusal
-refusalIn a = record { number = a .word % 256; route = a .word / 256 % 256; hop = a .word / 65536 % 256 }
+refusalIn a = refusal (a .word % 256) (a .word / 256 % 256) (a .word / 65536 % 256) (a .word / 268435456 % 16) (a .word / 16777216 % 16)
 
 unfoldable pub valueIn : Answer → ℕ
 valueIn a = a .word / 4294967296
@@ -34,6 +36,8 @@ pub record Small (r : Refusal) (v : ℕ) : Type 0 where
   pub number : r .number < 256
   pub route : r .route < 256
   pub hop : r .hop < 256
+  pub earlier-route : earlierRoute r < 16
+  pub earlier-hop : earlierHop r < 16
   pub value : v < 4294967296
 
 -- what a call leaves in a buffer: what it writes where it refuses nothing, its number being 0, else what was lent

@@ -62,7 +62,7 @@ pub struct Room {
     pub number: u64,
 }
 
-// The answer of a call: the refusal's number, route and hop, and a value, in one word.
+// The answer of a call: the refusal, which is its number, route, hop, and earlier route and hop, and a value, in one word.
 #[repr(C)]
 pub struct Answer {
     pub word: u64,

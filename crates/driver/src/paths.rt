@@ -41,7 +41,7 @@ pub extern "C" fn bcube_hop_of(room: Room, server: usize, byte: usize) -> Answer
 }
 
 // The servers that an array meets, source first, into nine places with zeros past them; the value is
-// their count. Refusals 1, 2, 26, 3, 4, 5, 7, then 8, 9, 10, 12, 13, 14 at a hop.
+// their count. Refusals 1, 2, 26, 3, 4, 5, 7, then 8, 9, 10, 28, 29, 13, 14 at a hop.
 #[no_mangle]
 pub extern "C" fn bcube_read(
     room: Room,
@@ -64,7 +64,7 @@ pub extern "C" fn bcube_read(
 }
 
 // The path bytes of servers in turn, source first, into eight bytes with zeros past them.
-// Refusals 1, 2, 26, 3, 22, 4, 5, then 23, 12 at a hop.
+// Refusals 1, 2, 26, 3, 22, 4, 5, then 23, 28, 29 at a hop.
 #[no_mangle]
 pub extern "C" fn bcube_write(room: Room, servers: &[usize], path: &mut [u8; 8]) -> Answer
     ensures { λ r. ⌜ (r ≡ writingWord (writeAnswer (shapeIn room) (now (servers .entry)))) × (now (path .exit) ≡ writingLeft (now (path .entry)) (writeAnswer (shapeIn room) (now (servers .entry)))) ⌝ }
@@ -80,7 +80,7 @@ pub extern "C" fn bcube_write(room: Room, servers: &[usize], path: &mut [u8; 8])
 }
 
 // The path bytes of the route backwards, from the destination, into eight bytes.
-// Refusals 1, 2, 26, 3, 4, 5, 7, then 8, 9, 10, 12, 13, 14 at a hop.
+// Refusals 1, 2, 26, 3, 4, 5, 7, then 8, 9, 10, 28, 29, 13, 14 at a hop.
 #[no_mangle]
 pub extern "C" fn bcube_reverse(
     room: Room,
@@ -103,7 +103,7 @@ pub extern "C" fn bcube_reverse(
 }
 
 // Checks a list of arrays, one after another, as routes from source to destination over the live
-// links of the table. Refusals 1, 2, 26, 3 to 7; 8 to 14 at a route and hop; 15 at a route.
+// links of the table. Refusals 1, 2, 26, 3 to 7; 8 to 11, 28, 29, 13, 14 at a route and hop; 15 at two.
 #[no_mangle]
 pub extern "C" fn bcube_check(
     room: Room,

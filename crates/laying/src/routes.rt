@@ -6,7 +6,7 @@ use refusals::Refusal;
 use room::Shape;
 
 // Lays the route of an array into a failed-link table: marks each link of its middle servers, and each
-// link to a switch that it uses. Refusals 1, 2, 26, 3, 4, 5, 6, 7, 8, 9, 10, 12, 13, 14; the table then
+// link to a switch that it uses. Refusals 1, 2, 26, 3, 4, 5, 6, 7, 8, 9, 10, 28, 29, 13, 14; the table then
 // keeps its bytes.
 pub fn lay_route(
     shape: Shape,

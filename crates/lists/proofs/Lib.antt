@@ -1,2 +1,3 @@
 pub mod ListLaws
+pub mod FirstPlaces
 pub mod ListCounts

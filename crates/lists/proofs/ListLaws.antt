@@ -182,20 +182,6 @@ in-right x xs ys e =
     let m = in-among x ys e in
     at-in x (xs ++ ys) (length xs + m .place) (omega (arith, m .inside, length-append xs ys)) (getD-append-add xs ys (m .place) 0 ∙ m .there)
 
--- one place at a time
-module _ (x : ℕ) (l : List ℕ) where
-  pub isIn-hit : (j : ℕ) → j < length l → getD l j 0 ≡ x → isIn x (drop j l) ≡ true
-  unfolding isIn
-  isIn-hit j lt e = rw (left l j 0 lt, eq-eqb x (getD l j 0) (sym e))
-
-  pub isIn-miss : (j : ℕ) → j < length l → (getD l j 0 ≡ x → ⊥) → isIn x (drop (j + 1) l) ≡ isIn x (drop j l)
-  unfolding isIn
-  isIn-miss j lt e = rw (left l j 0 lt, ne-eqb x (getD l j 0) (λ q. e (sym q)))
-
-  pub isIn-end : (j : ℕ) → length l ≤ j → isIn x (drop j l) ≡ false
-  unfolding isIn
-  isIn-end j ge = rw (drop-of-length-le l ge)
-
 -- ---- one more at the end
 
 pub snoc-last : (xs : List ℕ) (x : ℕ) → getD (xs ++ (x ∷ [])) (length (xs ++ (x ∷ [])) - 1) 0 ≡ x

@@ -1,8 +1,8 @@
--- Lists: what is in them, what is in them twice, what they share, and lists in a fixed number of places.
+-- Lists: what is in them and where, what is in them twice, what they share, and lists in a fixed number of places.
 use Prim.Native.Nat.{ℕ, zero, suc, _-_, _<_}
 use mathlib.Core.Logic.{_≢_}
 use mathlib.Core.List.{List, [], _∷_, _++_}
-use mathlib.Core.Bool.{Bool, true, false, _&&_, _||_}
+use mathlib.Core.Bool.{Bool, true, false, cond, _&&_, _||_}
 use lib.Dec.{eqb}
 use lib.ListN.{length, getD, take, drop, replicate}
 
@@ -10,6 +10,15 @@ use lib.ListN.{length, getD, take, drop, replicate}
 unfoldable pub isIn : ℕ → List ℕ → Bool
 isIn x [] = false
 isIn x (y ∷ ys) = eqb x y || isIn x ys
+
+-- the first of 0, .. , m-1 at which a test holds; m where it holds at none
+unfoldable pub firstWhere : (ℕ → Bool) → ℕ → ℕ
+firstWhere test zero = zero
+firstWhere test (suc m) = cond (test 0) 0 (suc (firstWhere (λ i. test (suc i)) m))
+
+-- the first place of x in a list, counted from 0; the list's length where x is not in it
+unfoldable pub placeIn : ℕ → List ℕ → ℕ
+placeIn x xs = firstWhere (λ i. eqb x (getD xs i 0)) (length xs)
 
 -- whether two lists are the same
 unfoldable pub same : List ℕ → List ℕ → Bool

@@ -30,11 +30,12 @@ use Rattle.path.specs.declared.Walked.{Walked}
 use Rattle.path.specs.declared.Reading.{Reading}
 use Rattle.path.specs.declared.Writing.{Writing}
 use Rattle.path.specs.Routes.{switchAt, levelTo, switchTo, byteTo, switchesOf, encode, Route, Prefix, Encodes}
-use Rattle.path.specs.Walks.{Walk, stopped, arrived, hopTo, hopRefusal, fault, ended, walkFrom, walk, single, writeFault, writeFrom}
+use Rattle.path.specs.Walks.{Walk, stopped, arrived, hopTo, hopRefusal, again, stopsAt, fault, ended, walkFrom, walk, single, writeFault, writeFrom}
 use Rattle.path.specs.Answers.{arrayRefusal, noWalk, walked, walkAnswer, reading, readAnswer, noWriting, reversed, reverseAnswer, serversRefusal, writeRefusal, written, onTheWay, writeAnswer}
 use Rattle.path.proofs.HopLaws.{byte-small}
 use Rattle.path.proofs.RouteLaws.{lastOf, Step, route-prefix, prefix-route, prefix-one, prefix-front, prefix-step, prefix-snoc, switches-snoc, walk-refused, walk-arrives, walk-goes, read-sound, read-complete}
 use Rattle.path.proofs.ReverseLaws.{source-server, dest-server, ends-differ, first-arrival, route-to-reverse}
+use Rattle.path.proofs.RepeatLaws.{again-none, again-new}
 
 -- ---- the bytes of a route
 
@@ -91,24 +92,31 @@ encodes-none {s} {t} {a} {d} {bs} {vs} h =
 
 -- ---- a walk that stops has a refusal
 
-ended-stopped : (h : ℕ) (met used bs : List ℕ) (r q : ℕ) → ended h met used bs ≡ stopped r q → r ≢ 0
+pub same-stop : {x r : Refusal} → stopped x ≡ stopped r → x ≡ r
+same-stop e = cc
+
+-- one that stops with such a number does not stop with 0
+stops-not : (n : ℕ) → n ≢ 0 → {x r : Refusal} → x .number ≡ n → stopped x ≡ stopped r → r .number ≢ 0
+stops-not n h f e z = let u : _ ≡ _ = same-stop e in h (sym f ∙ ap (λ (y : Refusal). y .number) u ∙ z)
+
+ended-stopped : (h : ℕ) (met used bs : List ℕ) (r : Refusal) → ended h met used bs ≡ stopped r → r .number ≢ 0
 unfolding ended
-ended-stopped h met used [] r q e = let z : _≡_ {A = ℕ} 0 1 = cc in let n : ⊥ = omega arith in absurd n
-ended-stopped h met used (b ∷ bs) r q e =
+ended-stopped h met used [] r e = let z : _≡_ {A = ℕ} 0 1 = cc in let n : ⊥ = omega arith in absurd n
+ended-stopped h met used (b ∷ bs) r e =
     elim (ℕ-discrete b 0) [
-      | yes y ↦ ended-stopped (h + 1) met used bs r q (rw (eq-eqb b 0 y) at e)
-      | no y ↦ let w : stopped 14 (h + 1) ≡ stopped r q = rw (ne-eqb b 0 y) at e in let u : 14 ≡ r = cc in λ z. omega arith
+      | yes y ↦ ended-stopped (h + 1) met used bs r (rw (eq-eqb b 0 y) at e)
+      | no y ↦ let w : stopped (refusedAt 14 1 (h + 1)) ≡ stopped r = rw (ne-eqb b 0 y) at e in λ z. stops-not 14 (λ q. omega arith) refl w z
     ]
 
-walk-stopped : (s : Shape) (t : List ℕ) (d h : ℕ) (met used : List ℕ) (a : ℕ) (bs : List ℕ) (r q : ℕ) → walkFrom s t d h met used a bs ≡ stopped r q → r ≢ 0
+walk-stopped : (s : Shape) (t : List ℕ) (d h : ℕ) (met used : List ℕ) (a : ℕ) (bs : List ℕ) (r : Refusal) → walkFrom s t d h met used a bs ≡ stopped r → r .number ≢ 0
 unfolding walkFrom
-walk-stopped s t d h met used a [] r q e = let u : 13 ≡ r = cc in λ z. omega arith
-walk-stopped s t d h met used a (b ∷ bs) r q e =
+walk-stopped s t d h met used a [] r e = stops-not 13 (λ q. omega arith) refl e
+walk-stopped s t d h met used a (b ∷ bs) r e =
     elim (ℕ-discrete (fault s t met used a b) 0) [
-      | no y ↦ let w = sym (walk-refused s t d h met used a b bs y) ∙ e in let u : fault s t met used a b ≡ r = cc in λ z. y (u ∙ z)
+      | no y ↦ stops-not (fault s t met used a b) y refl (sym (walk-refused s t d h met used a b bs y) ∙ e)
       | yes y ↦ elim (ℕ-discrete (hopTo s a b) d) [
-        | yes x ↦ ended-stopped (h + 1) _ _ bs r q (sym (walk-arrives s t d h met used a b bs y x) ∙ e)
-        | no x ↦ walk-stopped s t d (h + 1) _ _ (hopTo s a b) bs r q (sym (walk-goes s t d h met used a b bs y x) ∙ e)
+        | yes x ↦ ended-stopped (h + 1) _ _ bs r (sym (walk-arrives s t d h met used a b bs y x) ∙ e)
+        | no x ↦ walk-stopped s t d (h + 1) _ _ (hopTo s a b) bs r (sym (walk-goes s t d h met used a b bs y x) ∙ e)
       ]
     ]
 
@@ -120,7 +128,7 @@ pub record Arrives (w : Walk) : Type 0 where
 
 -- the refusal number that a walk comes to: 0 on arrival
 abbrev pub numberOf : Walk → ℕ
-numberOf (stopped r h) = r
+numberOf (stopped r) = r .number
 numberOf (arrived vs ws) = 0
 
 pub walk-arrival : (s : Shape) (t : List ℕ) (a d : ℕ) (bs : List ℕ) → numberOf (walk s t a d bs) ≡ 0 → Arrives (walk s t a d bs)
@@ -128,7 +136,7 @@ unfolding walk
 walk-arrival s t a d bs = go (walk s t a d bs) refl
   where
     go : (w : Walk) → walk s t a d bs ≡ w → numberOf w ≡ 0 → Arrives w
-    go (stopped r h) e z = absurd (walk-stopped s t d 0 (a ∷ []) [] a bs r h e z)
+    go (stopped r) e z = absurd (walk-stopped s t d 0 (a ∷ []) [] a bs r e z)
     go (arrived vs ws) e z = record { servers = vs; switches = ws; there = refl }
 
 -- ---- reading answers exactly the routes
@@ -144,7 +152,7 @@ pub encodes-walk : {s : Shape} {t : List ℕ} {a d : ℕ} {bs vs : List ℕ} →
 encodes-walk {s} {t} {a} {d} h = ap (walk s t a d) (h .bytes) ∙ read-complete (h .route)
 
 walked-number : (w : Walk) → walked w .refusal .number ≡ numberOf w
-walked-number (stopped r h) = refl
+walked-number (stopped r) = refl
 walked-number (arrived vs ws) = refl
 
 -- what is answered for the bytes of a route: its servers with their count, and its switches
@@ -184,25 +192,22 @@ pub write-step : {s : Shape} {a b : ℕ} (vs : List ℕ) → Server s a → Serv
 unfolding writeFault _or-else_ levelTo
 write-step {s} {a} {b} vs ha hb = (there, back)
   where
-    test : Bool
-    test = not (isIn b vs) && not (isIn (switchTo s a b) (switchesOf s vs))
-
     there : writeFault s vs (switchesOf s vs) a b ≡ 0 → Step s [] vs a b
     there e =
-        let z = or-else-zero (23 unless single (differing s a b)) (12 unless test) e in
-        let w = both-held (not (isIn b vs)) (not (isIn (switchTo s a b) (switchesOf s vs))) (test-held test 11 (z .1)) in
+        let z = or-else-zero (23 unless single (differing s a b)) (again vs (switchesOf s vs) b (switchTo s a b)) e in
+        let w = again-none vs (switchesOf s vs) b (switchTo s a b) (z .1) in
         record {
           server = hb;
           hop = neighbours-exactly ha hb (levelTo s a b) .0 (single-one (differing s a b) (test-held _ 22 (z .0)));
           alive = live-empty (levelTo s a b) a b;
-          fresh = not-true _ (w .0);
-          unused = not-true _ (w .1);
+          fresh = w .0;
+          unused = w .1;
         }
 
     back : Step s [] vs a b → writeFault s vs (switchesOf s vs) a b ≡ 0
     back st =
         let e : single (differing s a b) ≡ true = ap single (neighbours-exactly ha hb (levelTo s a b) .1 (st .hop)) in
-        rw (e, st .fresh, st .unused)
+        rw e (again-new vs (switchesOf s vs) b (switchTo s a b) (st .fresh) (st .unused))
 
 -- each element of a list is a server
 pub record Servers (s : Shape) (vs : List ℕ) : Type 0 where
@@ -239,7 +244,7 @@ write-sound s h vs (b ∷ rest) p q e =
 
 -- one hop of the writer: it is refused, or goes on
 module _ (s : Shape) (h : ℕ) (vs : List ℕ) (b : ℕ) (rest : List ℕ) where
-  pub write-refused : writeFault s vs (switchesOf s vs) (lastOf vs) b ≢ 0 → writeFrom s h vs (switchesOf s vs) (lastOf vs) (b ∷ rest) ≡ refusedAt (writeFault s vs (switchesOf s vs) (lastOf vs) b) 1 (h + 1)
+  pub write-refused : writeFault s vs (switchesOf s vs) (lastOf vs) b ≢ 0 → writeFrom s h vs (switchesOf s vs) (lastOf vs) (b ∷ rest) ≡ stopsAt (writeFault s vs (switchesOf s vs) (lastOf vs) b) (h + 1) vs (switchesOf s vs) b (switchTo s (lastOf vs) b)
   unfolding writeFrom
   write-refused n = rw (ne-eqb (writeFault s vs (switchesOf s vs) (lastOf vs) b) 0 n)
 
@@ -393,7 +398,7 @@ unfolding reverseAnswer
 reverse-given {s} h = answer-none _ _ _ (encodes-none h) ∙ ap (reversed s) (encodes-walk h)
 
 reversed-number : (s : Shape) (w : Walk) → reversed s w .refusal .number ≡ numberOf w
-reversed-number s (stopped r h) = refl
+reversed-number s (stopped r) = refl
 reversed-number s (arrived vs ws) = refl
 
 -- reversing is not refused exactly when the bytes are those of a route
@@ -435,7 +440,7 @@ reversed-servers s a d bs e =
 
 -- eight zeros are a route: in the room of two ports and one level, from server 1 to server 0
 pub zeros-read : readAnswer (fullRoom 2 0) 1 0 (replicate 8 0) ≡ record { refusal = none; count = 2; servers = 1 ∷ replicate 8 0 }
-unfolding readAnswer walkAnswer arrayRefusal endsRefusal pairRefusal serverRefusal shapeRefusal serversOf bound _or-else_ walk walkFrom fault hopRefusal hopTo withDigit digit digits digitsOf addressOf live failed bit isIn switchAt switchOf ended filled
+unfolding readAnswer walkAnswer arrayRefusal endsRefusal pairRefusal serverRefusal shapeRefusal serversOf bound _or-else_ walk walkFrom fault again hopRefusal hopTo withDigit digit digits digitsOf addressOf live failed bit isIn switchAt switchOf ended filled
 zeros-read = refl
 
 pub zeros-route : Encodes (fullRoom 2 0) [] 1 0 (replicate 8 0) (1 ∷ 0 ∷ [])

@@ -6,7 +6,7 @@ use mathlib.Core.Logic.{_≢_, _↔_}
 use mathlib.Core.Bool.{Bool, true, false, not, _&&_}
 use mathlib.Core.List.{List, [], _∷_}
 use native.Mathlib.Omega.{arith}
-use native.Mathlib.Decide.{ℕ-discrete}
+use native.Mathlib.Decide.{ℕ-discrete, decLt}
 use native.Mathlib.Nat.{mod-lt}
 use lib.ListN.{getD}
 use mir.Syntax.{w32, w64}
@@ -36,6 +36,7 @@ use Rattle.path.specs.declared.Hop.{Hop}
 use Rattle.path.specs.Routes.{byteOf, levelOf, valueOf, switchAt, levelTo, switchTo, byteTo}
 use Rattle.path.specs.Walks.{hopTo, hopRefusal}
 use Rattle.path.specs.Answers.{noHop, hopBy, hopFrom, hopAnswer}
+use Rattle.path.specs.Inside.{hopFault}
 
 -- ---- what the calls of the room found
 
@@ -126,6 +127,20 @@ hop-exactly {s} {a} h b = (there, λ p. back (p .0) (p .1))
 abbrev pub hopFits : ℕ → ℕ → ℕ → ℕ → ℕ → Bool
 hopFits k l v m o = leb l k && (ltb v m && not (eqb o v))
 
+-- why a level and a value are no hop, test by test
+module _ (k l v m : ℕ) where
+  pub fault-eight : k < l → 8 ≡ hopFault k l v m
+  unfolding hopFault _or-else_
+  fault-eight h = simp (lt-leb l k h)
+
+  pub fault-nine : l ≤ k → m ≤ v → 9 ≡ hopFault k l v m
+  unfolding hopFault _or-else_
+  fault-nine h g = simp (le-leb l k h, le-ltb v m g)
+
+  pub fault-ten : l ≤ k → v < m → 10 ≡ hopFault k l v m
+  unfolding hopFault _or-else_
+  fault-ten h g = simp (le-leb l k h, lt-ltb v m g)
+
 -- no hop, with its number at hop 1 of route 1
 abbrev pub stopsHop : ℕ → Hop
 stopsHop r = noHop (refusedAt r 1 1)
@@ -148,29 +163,32 @@ module _ (s : Shape) (a b l v : ℕ) (el : l ≡ levelOf b) (ev : v ≡ valueOf 
     unfolding hopRefusal _or-else_
     hop-nine x level h = let q : bound s l ≤ v = omega arith in refuses 8 x (rw (← el, ← ev) (simp (le-leb l (s .k) level, le-ltb v (bound s l) q)))
 
-    module _ (tested : serverRefusal s a ≡ 0) (p : ℕ) (power : p ≡ powerOf (s .n) l) where
+    module _ (tested : serverRefusal s a ≡ 0) (p : ℕ) (power : p ≡ powerOf (s .n) (l % 4)) where
       here : Server s a
       here = server-of s a tested
 
       pub hop-ports : 0 < s .n
       hop-ports = let k = here .valid in omega arith
 
-      -- a byte names no level above 3
-      within : b < 256 → p ≡ s .n ^ l
-      within h =
+      -- the power of a level above 3 is that of another, which is one too
+      within : p ≡ s .n ^ (l % 4)
+      within =
           let k = here .valid in
-          let low : l ≤ 3 = omega arith in
-          power ∙ power-within (s .n) l hop-ports (k .ports) low
+          let low : l % 4 ≤ 3 = omega arith in
+          power ∙ power-within (s .n) (l % 4) hop-ports (k .ports) low
 
-      pub hop-weight : b < 256 → 0 < p
-      hop-weight h = weight-pos (here .valid) l p (within h)
+      pub hop-weight : 0 < p
+      hop-weight = weight-pos (here .valid) (l % 4) p within
 
       -- server, power and n are numbers of 32 bits
       pub hop-server-fits : a < 4294967296
       hop-server-fits = omega (arith, here .below, here .valid .small)
 
-      pub hop-weight-fits : b < 256 → p < 4294967296
-      hop-weight-fits h = let k = here .valid in omega (arith, within h, pow-small (s .n) l (k .ports) (omega arith))
+      pub hop-weight-fits : p < 4294967296
+      hop-weight-fits =
+          let k = here .valid in
+          let low : l % 4 ≤ 4 = omega arith in
+          omega (arith, within, pow-small (s .n) (l % 4) (k .ports) low)
 
       pub hop-ports-fit : s .n < 4294967296
       hop-ports-fit = let k = here .valid in omega arith
@@ -181,7 +199,9 @@ module _ (s : Shape) (a b l v : ℕ) (el : l ≡ levelOf b) (ev : v ≡ valueOf 
           sets = record { link = record { server = here; level = level }; value = omega arith }
 
           weight : p ≡ s .n ^ l
-          weight = power ∙ power-link (sets .link)
+          weight =
+              let low : l % 4 ≡ l = omega (arith, level, here .valid .levels) in
+              power ∙ ap (powerOf (s .n)) low ∙ power-link (sets .link)
 
           own : o ≡ digit s l a
           own = eo ∙ digit-closed-at (sets .link) p weight
@@ -232,6 +252,18 @@ module _ (s : Shape) (a b l v : ℕ) (el : l ≡ levelOf b) (ev : v ≡ valueOf 
               let e = at-most-holds l (s .k) _ level _ (below-holds v m _ q _ refl) ∙ sym g ∙ h in
               same level q x (eqb-true o v (not-false _ e)) f
 
+          -- 8, 9 or 10
+          pub hop-none : t ≡ false → (q : ℕ) → q ≡ hopFault (s .k) l v m → (x : Hop) → x ≡ stopsHop q → x ≡ hopFrom s a b
+          hop-none h q e x f =
+              elim (decLt (s .k) l) [
+                | yes y ↦ hop-eight x y (f ∙ ap stopsHop (e ∙ sym (fault-eight (s .k) l v m y)))
+                | no y ↦ let k : l ≤ s .k = omega arith in
+                    elim (decLt v m) [
+                      | no z ↦ let w : m ≤ v = omega arith in hop-nine x k w (f ∙ ap stopsHop (e ∙ sym (fault-nine (s .k) l v m k w)))
+                      | yes z ↦ hop-ten h k z x (f ∙ ap stopsHop (e ∙ sym (fault-ten (s .k) l v m k z)))
+                    ]
+              ]
+
 -- ---- for a caller: the number is that of the byte, and with none the hop leads where it says
 
 module _ (s : Shape) (a b : ℕ) (x : Hop) (e : x ≡ hopFrom s a b) where
@@ -265,12 +297,6 @@ module _ (s : Shape) (a b r : ℕ) (e : r ≡ serverRefusal s a) where
     pub hop-tried : (x : Hop) → x ≡ hopFrom s a b → x ≡ hopAnswer s a b
     unfolding hopAnswer
     hop-tried x k = answer-given r _ (λ (y : ℕ). noHop (plain y)) x _ e z k
-
-    -- a number above 255 is no byte: 8
-    pub hop-no-byte : 255 < b → (x : Hop) → x ≡ stopsHop 8 → x ≡ hopAnswer s a b
-    hop-no-byte h x k =
-        let v = server-of s a (sym e ∙ z) .valid in
-        hop-tried x (hop-eight s a b (levelOf b) (valueOf b) refl refl x (omega (arith, v .levels)) k)
 
 -- ---- where a hop leads
 

@@ -1,3 +1,4 @@
+pub mod RepeatLaws
 pub mod NumberLaws
 pub mod HopLaws
 pub mod RouteLaws

@@ -1,13 +1,13 @@
 -- Each chain of a path byte, of an array and of the writer gives one of its numbers.
 use Prim.Native.Nat.{ℕ, _-_}
-use mathlib.Core.Path.{refl}
-use mathlib.Core.Bool.{not, _&&_}
-use mathlib.Core.List.{List, [], _∷_}
+use mathlib.Core.Bool.{true, not, _&&_}
+use mathlib.Core.Path.{_≡_, refl}
+use mathlib.Core.List.{List, [], _∷_, _++_}
 use lib.Dec.{ltb, leb, eqb}
 use lib.ListN.{length, getD}
 use Rattle.lists.specs.Lists.{isIn}
-use Rattle.refusals.specs.Refusals.{OneOf, nought}
-use Rattle.refusals.proofs.NumberLaws.{test-one, chain-one, one-of}
+use Rattle.refusals.specs.Refusals.{OneOf, nought, _or-else_, _unless_}
+use Rattle.refusals.proofs.NumberLaws.{test-one, chain-one, one-of, one-not}
 use Rattle.room.specs.declared.Shape.{Shape}
 use Rattle.room.specs.Shapes.{bound}
 use Rattle.room.specs.Addresses.{digit, differing}
@@ -18,6 +18,7 @@ use Rattle.path.specs.Routes.{levelOf, valueOf, switchAt, switchTo}
 use Rattle.path.specs.Bytes.{madeRefusal, madeNumbers, partsRefusal, partsNumbers}
 use Rattle.path.specs.Walks.{hopTo, hopRefusal, hopNumbers, fault, faultNumbers, single, writeFault, writeFaultNumbers}
 use Rattle.path.specs.Answers.{arrayRefusal, arrayNumbers, serversRefusal, writeRefusal, writeNumbers}
+use Rattle.path.proofs.RepeatLaws.{again-one, again-met, again-used, again-last}
 
 module _ (s : Shape) where
   pub made-numbers : (l v : ℕ) → OneOf madeNumbers (madeRefusal s l v)
@@ -38,7 +39,20 @@ module _ (s : Shape) where
   unfolding fault
   fault-numbers t met used a b =
       chain-one _ _ (chain-one _ _ (hop-numbers a b) (test-one 11 (live t (levelOf b) a (hopTo s a b))))
-      (test-one 12 (not (isIn (hopTo s a b) met) && not (isIn (switchAt s (levelOf b) a) used)))
+      (again-one met used (hopTo s a b) (switchAt s (levelOf b) a))
+
+  -- 28 and 29 are of what comes on the route again
+  module _ (t met used : List ℕ) (a b : ℕ) where
+    before-again : OneOf (hopNumbers ++ (11 ∷ [])) (hopRefusal s a b or-else 11 unless live t (levelOf b) a (hopTo s a b))
+    before-again = chain-one _ _ (hop-numbers a b) (test-one 11 (live t (levelOf b) a (hopTo s a b)))
+
+    pub fault-met : fault s t met used a b ≡ 28 → isIn (hopTo s a b) met ≡ true
+    unfolding fault
+    fault-met e = again-met met used _ _ (again-last met used _ _ _ 28 (one-not 28 refl refl before-again) e)
+
+    pub fault-used : fault s t met used a b ≡ 29 → isIn (switchAt s (levelOf b) a) used ≡ true
+    unfolding fault
+    fault-used e = again-used met used _ _ (again-last met used _ _ _ 29 (one-not 29 refl refl before-again) e)
 
   pub array-numbers : (a d : ℕ) (bs : List ℕ) → OneOf arrayNumbers (arrayRefusal s a d bs)
   unfolding arrayRefusal
@@ -59,4 +73,13 @@ module _ (s : Shape) where
   pub write-fault-numbers : (met used : List ℕ) (a b : ℕ) → OneOf writeFaultNumbers (writeFault s met used a b)
   unfolding writeFault
   write-fault-numbers met used a b =
-      chain-one _ _ (test-one 23 (single (differing s a b))) (test-one 12 (not (isIn b met) && not (isIn (switchTo s a b) used)))
+      chain-one _ _ (test-one 23 (single (differing s a b))) (again-one met used b (switchTo s a b))
+
+  module _ (met used : List ℕ) (a b : ℕ) where
+    pub write-fault-met : writeFault s met used a b ≡ 28 → isIn b met ≡ true
+    unfolding writeFault
+    write-fault-met e = again-met met used b (switchTo s a b) (again-last met used b (switchTo s a b) _ 28 (one-not 28 refl refl (test-one 23 (single (differing s a b)))) e)
+
+    pub write-fault-used : writeFault s met used a b ≡ 29 → isIn (switchTo s a b) used ≡ true
+    unfolding writeFault
+    write-fault-used e = again-used met used b (switchTo s a b) (again-last met used b (switchTo s a b) _ 29 (one-not 29 refl refl (test-one 23 (single (differing s a b)))) e)

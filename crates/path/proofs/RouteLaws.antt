@@ -2,25 +2,26 @@
 use Prim.Native.Nat.{ℕ, zero, suc, _+_, _-_, _≤_, _<_, zero-le, suc-le-suc}
 use mathlib.Core.Path.{_≡_, refl, sym, ap, ap₂, _∙_, subst}
 use mathlib.Core.Logic.{_≢_, _↔_}
-use mathlib.Core.Bool.{true, false, not, _&&_}
+use mathlib.Core.Bool.{true, false}
 use mathlib.Core.List.{List, [], _∷_, _++_, append-nil}
 use native.Mathlib.Omega.{arith}
 use native.Mathlib.Nat.{add-zero}
 use native.Mathlib.Decide.{ℕ-discrete}
 use lib.ListN.{length, getD, take, replicate, length-append, drop-of-length-le, List·getD-append}
 use lib.Seq.{getD-append-seam, append-snoc, split-at, length-take-le}
-use borrow.Author.Tests.{eq-eqb, ne-eqb, not-true}
-use Rattle.lists.proofs.ListLaws.{both-held, length-snoc, snoc-last, snoc-at, once-snoc, once-front, length-turn, turn-snoc, turn-front}
+use borrow.Author.Tests.{eq-eqb, ne-eqb}
+use Rattle.lists.proofs.ListLaws.{length-snoc, snoc-last, snoc-at, once-snoc, once-front, length-turn, turn-snoc, turn-front}
 use Rattle.lists.specs.Lists.{isIn, inTurn, filled}
-use Rattle.refusals.specs.Refusals.{_or-else_, _unless_}
+use Rattle.refusals.specs.Refusals.{refusedAt, _or-else_, _unless_}
 use Rattle.refusals.proofs.ChainLaws.{or-else-zero, test-held}
 use Rattle.room.specs.declared.Shape.{Shape}
 use Rattle.room.specs.Shapes.{Server}
 use Rattle.room.specs.Addresses.{Neighbours}
 use Rattle.links.specs.Table.{live}
 use Rattle.path.specs.Routes.{levelOf, switchAt, levelTo, switchTo, byteTo, switchesOf, encode, Route, Prefix, RouteTo}
-use Rattle.path.specs.Walks.{stopped, arrived, hopTo, hopRefusal, fault, ended, walkFrom, walk}
+use Rattle.path.specs.Walks.{stopped, arrived, hopTo, hopRefusal, again, stopsAt, fault, ended, walkFrom, walk}
 use Rattle.path.proofs.HopLaws.{hop-server, hop-neighbours, hop-level, hop-byte, hop-switch, byte-hop, byte-taken, byte-switch, byte-level}
+use Rattle.path.proofs.RepeatLaws.{again-none, again-new}
 
 -- the last of a list
 abbrev pub lastOf : List ℕ → ℕ
@@ -150,29 +151,29 @@ pub fault-step : {s : Shape} {a : ℕ} → Server s a → (t vs : List ℕ) (x :
 unfolding fault
 fault-step {s} {a} h t vs x e =
     let b = hopTo s a x in
-    let test = not (isIn b vs) && not (isIn (switchAt s (levelOf x) a) (switchesOf s vs)) in
-    let p = or-else-zero (hopRefusal s a x or-else 11 unless live t (levelOf x) a b) (12 unless test) e in
+    let p = or-else-zero (hopRefusal s a x or-else 11 unless live t (levelOf x) a b) (again vs (switchesOf s vs) b (switchAt s (levelOf x) a)) e in
     let q = or-else-zero (hopRefusal s a x) (11 unless live t (levelOf x) a b) (p .0) in
-    let w = both-held (not (isIn b vs)) (not (isIn (switchAt s (levelOf x) a) (switchesOf s vs))) (test-held test 11 (p .1)) in (
+    let w = again-none vs (switchesOf s vs) b (switchAt s (levelOf x) a) (p .1) in (
       q .0,
       record {
         server = hop-server h x (q .0);
         hop = rw (hop-level h x (q .0)) (hop-neighbours h x (q .0));
         alive = rw (hop-level h x (q .0)) (test-held _ 10 (q .1));
-        fresh = not-true _ (w .0);
-        unused = rw (hop-switch h x (q .0)) (not-true _ (w .1));
+        fresh = w .0;
+        unused = rw (hop-switch h x (q .0)) (w .1);
       },
     )
 
 pub step-fault : {s : Shape} {t vs : List ℕ} {a b : ℕ} → Server s a → Step s t vs a b → fault s t vs (switchesOf s vs) a (byteTo s a b) ≡ 0
 unfolding fault _or-else_
 step-fault {s} {t} {vs} {a} {b} h st =
-    rw (byte-taken h (st .server) (st .hop), byte-switch h (st .server) (st .hop), byte-level h (st .server) (st .hop), byte-hop h (st .server) (st .hop), st .alive, st .fresh, st .unused)
+    rw (byte-taken h (st .server) (st .hop), byte-switch h (st .server) (st .hop), byte-level h (st .server) (st .hop), byte-hop h (st .server) (st .hop), st .alive)
+    (again-new vs (switchesOf s vs) b (switchTo s a b) (st .fresh) (st .unused))
 
 -- ---- the ways through one byte of a walk
 
 module _ (s : Shape) (t : List ℕ) (d h : ℕ) (met used : List ℕ) (a b : ℕ) (bs : List ℕ) where
-  pub walk-refused : fault s t met used a b ≢ 0 → walkFrom s t d h met used a (b ∷ bs) ≡ stopped (fault s t met used a b) (h + 1)
+  pub walk-refused : fault s t met used a b ≢ 0 → walkFrom s t d h met used a (b ∷ bs) ≡ stopped (stopsAt (fault s t met used a b) (h + 1) met used (hopTo s a b) (switchAt s (levelOf b) a))
   unfolding walkFrom
   walk-refused r = rw (ne-eqb (fault s t met used a b) 0 r)
 
@@ -192,7 +193,7 @@ ended-arrived h met used (b ∷ bs) vs ws e =
       | yes y ↦ let r : ended (h + 1) met used bs ≡ arrived vs ws = rw (eq-eqb b 0 y) at e in
           let w = ended-arrived (h + 1) met used bs vs ws r in
           (w .0, w .1, ap (λ (x : ℕ). x ∷ bs) y ∙ ap (λ (l : List ℕ). 0 ∷ l) (w .2))
-      | no y ↦ let r : stopped 14 (h + 1) ≡ arrived vs ws = rw (ne-eqb b 0 y) at e in
+      | no y ↦ let r : stopped (refusedAt 14 1 (h + 1)) ≡ arrived vs ws = rw (ne-eqb b 0 y) at e in
           let z : _≡_ {A = ℕ} 0 1 = cc in let n : ⊥ = omega arith in absurd n
     ]
 

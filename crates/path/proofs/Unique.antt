@@ -11,8 +11,8 @@ use Rattle.path.proofs.hops.level_of.Reads as level-of
 use Rattle.path.proofs.hops.level_of.Kinds as level-of-kinds
 use Rattle.path.proofs.hops.value_of.Reads as value-of
 use Rattle.path.proofs.hops.value_of.Kinds as value-of-kinds
-use Rattle.path.proofs.repeats.is_among.Reads as is-among
-use Rattle.path.proofs.repeats.is_among.Kinds as is-among-kinds
+use Rattle.path.proofs.repeats.place_in.Reads as place-in
+use Rattle.path.proofs.repeats.place_in.Kinds as place-in-kinds
 use Rattle.path.proofs.walks.walk.Reads as walk
 use Rattle.path.proofs.walks.walk.Kinds as walk-kinds
 use Rattle.path.proofs.readings.read_path.Reads as read-path
@@ -43,8 +43,8 @@ reverse-path-unique κs a x y s t e f = e ∙ sym f
 pub write-path-unique : Determined 1 write-path-kinds.ps write-path-kinds.r write-path.Post
 write-path-unique κs a x y s t e f = e ∙ sym f
 
-pub is-among-unique : Determined 1 is-among-kinds.ps is-among-kinds.r is-among.Post
-is-among-unique κs a x y s t e f = e ∙ sym f
+pub place-in-unique : Determined 1 place-in-kinds.ps place-in-kinds.r place-in.Post
+place-in-unique κs a x y s t e f = e ∙ sym f
 
 pub byte-of-unique : Determined 0 byte-of-kinds.ps byte-of-kinds.r byte-of.Post
 byte-of-unique κs a x y s t e f = e ∙ sym f

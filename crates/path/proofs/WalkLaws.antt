@@ -2,7 +2,7 @@
 use Prim.Native.Nat.{ℕ, _+_, _-_, _*_, _^_, _≤_, _<_}
 use mathlib.Core.Path.{_≡_, refl, sym, ap, ap₂, _∙_, subst}
 use mathlib.Core.Logic.{_≢_}
-use mathlib.Core.Bool.{Bool, true, false, not, _&&_, _||_, or-false}
+use mathlib.Core.Bool.{Bool, true, false}
 use mathlib.Core.List.{List, [], _∷_, _++_, reverse}
 use native.Mathlib.Omega.{arith}
 use native.Mathlib.Nat.{mul-comm, pow-suc, pow-le-pow-right}
@@ -14,11 +14,12 @@ use mir.Val.{Fits}
 use lib.ListN.{length, getD, set, take, drop, replicate, drop-of-length-le, length-set}
 use lib.Seq.{length-take-le, take-set-le}
 use borrow.Author.Tests.{eq-eqb, ne-eqb}
-use Rattle.lists.specs.Lists.{isIn, inTurn, filled}
-use Rattle.lists.proofs.ListLaws.{left, filled-is, rest-on, taken-on, in-snoc, turn-back, length-snoc}
+use Rattle.lists.specs.Lists.{inTurn, filled}
+use Rattle.lists.proofs.ListLaws.{left, filled-is, rest-on, taken-on, turn-back, length-snoc}
 use Rattle.refusals.specs.declared.Refusal.{Refusal}
-use Rattle.refusals.specs.Refusals.{none, plain, refusedAt, _unless_, answer}
-use Rattle.refusals.proofs.AnswerLaws.{answer-refused, answer-given, answer-chain, answer-number, answered}
+use Rattle.refusals.specs.Refusals.{none, plain, refusedAt, withEarlier, _unless_, answer}
+use Rattle.refusals.proofs.AnswerLaws.{answer-refused, answer-given, answer-same, answer-chain}
+use Rattle.refusals.proofs.NumberLaws.{one-not}
 use Rattle.room.specs.declared.Shape.{Shape}
 use Rattle.room.specs.Shapes.{Server}
 use Rattle.room.specs.Addresses.{digit}
@@ -30,97 +31,89 @@ use Rattle.path.specs.declared.Tried.{Tried}
 use Rattle.path.specs.declared.Walked.{Walked}
 use Rattle.path.specs.declared.Way.{Way}
 use Rattle.path.specs.Routes.{byteOf, levelOf, switchAt, byteTo}
-use Rattle.path.specs.Walks.{stopped, arrived, hopTo, hopRefusal, fault, ended, walkFrom, walk}
+use Rattle.path.specs.Walks.{stopped, arrived, hopTo, hopRefusal, earlierOf, fault, ended, walkFrom, walk}
 use Rattle.path.specs.Answers.{hopBy, hopFrom, arrayRefusal, noWalk, walked, walkAnswer}
-use Rattle.path.specs.Inside.{noTry, adds, newly, tried, lowFirst, backOver, noWay, aWay, endedWay, wayOf, wayAnswer, Blank, WalkLeaves}
+use Rattle.path.specs.Inside.{noTry, added, newly, tried, lowFirst, backOver, noWay, aWay, endedWay, wayOf, wayAnswer, Blank, WalkLeaves}
+use Rattle.path.proofs.RepeatLaws.{earlier-none, newly-snoc, added-number, added-switch, added-refusal}
+use Rattle.path.proofs.NumberLaws.{hop-numbers}
 use Rattle.path.proofs.HopLaws.{hop-value, hop-level-low, hop-old-low, hop-server, hop-neighbours, hop-byte-back, hop-number, hop-made}
 use Rattle.path.proofs.CodecLaws.{array-of}
 use Rattle.path.proofs.RouteLaws.{fault-hop, walk-refused, walk-arrives, walk-goes}
 
--- ---- what is new on a route: 12
-
--- x is whether the server was met, y whether the switch was used
-module _ (met used : List ℕ) (b w : ℕ) (x : Bool) (e : x ≡ isIn b met) where
-  pub server-again : x ≡ true → (r : Tried) → r ≡ noTry 12 → r ≡ newly met used b w
-  unfolding newly
-  server-again h r k = rw (← e, h) k
-
-  module _ (h : x ≡ false) (y : Bool) (f : y ≡ isIn w used) where
-    pub switch-again : y ≡ true → (r : Tried) → r ≡ noTry 12 → r ≡ newly met used b w
-    unfolding newly
-    switch-again g r k = rw (← e, h, ← f, g) k
-
-    pub both-new : y ≡ false → adds w ≡ newly met used b w
-    unfolding newly
-    both-new g = rw (← e, h, ← f, g)
-
--- ---- trying a hop h: its own refusal, then 11, then 12
+-- ---- trying a hop h: its own refusal, then 11, then 28 and 29
 
 module _ (s : Shape) (t met used : List ℕ) (a : ℕ) (h : Hop) where
-  pub try-refused : h .refusal .number ≢ 0 → (x : Tried) → x ≡ noTry (h .refusal .number) → x ≡ tried s t met used a h
+  pub try-refused : h .refusal .number ≢ 0 → (x : Tried) → x ≡ noTry 0 (h .refusal .number) → x ≡ tried s t met used a h
   unfolding tried
-  try-refused n x f = answer-refused _ _ noTry x _ f refl n
+  try-refused n x f = answer-refused _ _ (noTry 0) x _ f refl n
 
   pub try-link : (h .refusal .number ≡ 0 → linkRefusal s a (h .level) ≡ 0) → h .refusal .number ≡ 0 → linkRefusal s a (h .level) ≡ 0
   try-link f z = f z
 
   module _ (z : h .refusal .number ≡ 0) (y : Bool) (f : y ≡ live t (h .level) a (h .next)) where
-    pub try-failed : y ≡ false → (x : Tried) → x ≡ noTry 11 → x ≡ tried s t met used a h
+    pub try-failed : y ≡ false → (x : Tried) → x ≡ noTry 0 11 → x ≡ tried s t met used a h
     unfolding tried
-    try-failed g x k = answer-given _ _ noTry x _ refl z (rw (sym f ∙ g) k)
+    try-failed g x k = answer-given _ _ (noTry 0) x _ refl z (rw (sym f ∙ g) k)
 
     pub try-on : y ≡ true → (w : ℕ) → w ≡ switchAt s (h .level) a → (x : Tried) → x ≡ newly met used (h .next) w → x ≡ tried s t met used a h
     unfolding tried
-    try-on g w u x k = answer-given _ _ noTry x _ refl z (rw (sym f ∙ g) (k ∙ ap (newly met used (h .next)) u))
+    try-on g w u x k = answer-given _ _ (noTry 0) x _ refl z (rw (sym f ∙ g) (k ∙ ap (newly met used (h .next)) u))
 
 -- the hop by byte b from server a, after the servers met and a itself: what it adds is what the rules say
 module _ {s : Shape} {a : ℕ} (here : Server s a) (t met used : List ℕ) (b : ℕ) (h : Hop) (e : h ≡ hopFrom s a b) where
   abbrev on : List ℕ
   on = met ++ (a ∷ [])
 
-  abbrev new : Tried
-  new = adds (switchAt s (levelOf b) a)
+  -- where it leads, and its switch
+  abbrev to : ℕ
+  to = hopTo s a b
+
+  abbrev over : ℕ
+  over = switchAt s (levelOf b) a
 
   -- where it is a hop, the server that it leaves is not where it leads
-  taken : hopRefusal s a b ≡ 0 → newly met used (hopTo s a b) (switchAt s (levelOf b) a) ≡ newly on used (hopTo s a b) (switchAt s (levelOf b) a)
-  unfolding newly
-  taken z =
-      let n : hopTo s a b ≢ a = λ q. hop-neighbours here b z .differ (ap (digit s (levelOf b)) (sym q)) in
-      ap (λ (x : Bool). answer (12 unless (not x && not (isIn (switchAt s (levelOf b) a) used))) noTry new) (sym (in-snoc (hopTo s a b) met a ∙ ap (λ (x : Bool). isIn (hopTo s a b) met || x) (ne-eqb (hopTo s a b) a n) ∙ or-false (isIn (hopTo s a b) met)))
+  taken : hopRefusal s a b ≡ 0 → newly met used to over ≡ newly on used to over
+  taken z = newly-snoc met used to over a (λ q. hop-neighbours here b z .differ (ap (digit s (levelOf b)) (sym q)))
 
   abbrev rest : Tried
-  rest = answer (11 unless live t (levelOf b) a (hopTo s a b)) noTry (newly on used (hopTo s a b) (switchAt s (levelOf b) a))
+  rest = answer (11 unless live t (levelOf b) a to) (noTry 0) (newly on used to over)
 
-  split : answer (hopRefusal s a b) noTry rest ≡ answer (fault s t on used a b) noTry new
+  -- what refuses the hop itself, and 11, name no earlier hop
+  split : answer (hopRefusal s a b) (noTry 0) rest ≡ added (fault s t on used a b) on used to over
   unfolding fault newly
-  split = sym (answer-chain _ _ noTry _ ∙ answer-chain _ _ noTry _)
+  split =
+      answer-same _ (noTry 0) _ rest _ (λ n. ap (λ (e : ℕ). noTry e (hopRefusal s a b)) (sym (earlier-none on used to over _ (one-not 28 refl refl (hop-numbers s a b)) (one-not 29 refl refl (hop-numbers s a b)))))
+      (answer-same _ (noTry 0) _ _ _ (λ n. failed (live t (levelOf b) a to)) refl)
+      ∙ sym (answer-chain _ _ _ _ ∙ answer-chain _ _ _ _)
+    where
+      failed : (x : Bool) → noTry 0 (11 unless x) ≡ noTry (earlierOf (11 unless x) on used to over) (11 unless x)
+      failed true = ap (λ (e : ℕ). noTry e 0) (sym (earlier-none on used to over 0 (λ q. omega arith) (λ q. omega arith)))
+      failed false = ap (λ (e : ℕ). noTry e 11) (sym (earlier-none on used to over 11 (λ q. omega arith) (λ q. omega arith)))
 
-  goes : hopRefusal s a b ≡ 0 → tried s t met used a h ≡ answer (hopRefusal s a b) noTry rest
+  goes : hopRefusal s a b ≡ 0 → tried s t met used a h ≡ answer (hopRefusal s a b) (noTry 0) rest
   unfolding tried
   goes z =
       ap (tried s t met used a) (hop-made s a b h e (hop-number s a b h e ∙ z))
-      ∙ ap (λ (x : Tried). answer (11 unless live t (levelOf b) a (hopTo s a b)) noTry x) (taken z)
-      ∙ answer-given 0 _ noTry rest rest (sym z) refl refl
+      ∙ ap (λ (x : Tried). answer (11 unless live t (levelOf b) a to) (noTry 0) x) (taken z)
+      ∙ answer-given 0 _ (noTry 0) rest rest (sym z) refl refl
 
-  stops : hopRefusal s a b ≢ 0 → tried s t met used a h ≡ answer (hopRefusal s a b) noTry rest
+  stops : hopRefusal s a b ≢ 0 → tried s t met used a h ≡ answer (hopRefusal s a b) (noTry 0) rest
   stops n =
       let q = hop-number s a b h e in
-      sym (try-refused s t met used a h (λ z. n (sym q ∙ z)) (noTry (h .refusal .number)) refl)
-      ∙ answer-refused (h .refusal .number) (hopRefusal s a b) noTry (noTry (h .refusal .number)) rest refl q (λ z. n (sym q ∙ z))
+      sym (try-refused s t met used a h (λ z. n (sym q ∙ z)) (noTry 0 (h .refusal .number)) refl)
+      ∙ answer-refused (h .refusal .number) (hopRefusal s a b) (noTry 0) (noTry 0 (h .refusal .number)) rest refl q (λ z. n (sym q ∙ z))
 
-  tried-is : tried s t met used a h ≡ answer (fault s t on used a b) noTry new
+  pub tried-is : tried s t met used a h ≡ added (fault s t on used a b) on used to over
   tried-is = elim (ℕ-discrete (hopRefusal s a b) 0) [ yes z ↦ goes z | no n ↦ stops n ] ∙ split
 
   -- x is what was found
   module _ (x : Tried) (f : x ≡ tried s t met used a h) where
     pub tried-number : x .number ≡ fault s t on used a b
-    tried-number =
-        ap (λ (y : Tried). y .number) (f ∙ tried-is) ∙ answer-number (λ (y : Tried). y .number) noTry (λ r. refl) (fault s t on used a b) new refl
+    tried-number = added-number (fault s t on used a b) on used to over x (f ∙ tried-is)
 
     module _ (z : x .number ≡ 0) where
-      pub tried-switch : x .switch ≡ switchAt s (levelOf b) a
-      tried-switch =
-          ap (λ (y : Tried). y .switch) (answered (λ (y : Tried). y .number) noTry (λ r. refl) (fault s t on used a b) x new (f ∙ tried-is) z .1)
+      pub tried-switch : x .switch ≡ over
+      tried-switch = added-switch (fault s t on used a b) on used to over x (f ∙ tried-is) z
 
       pub tried-hop : hopRefusal s a b ≡ 0
       tried-hop = fault-hop s t on used a b (sym tried-number ∙ z)
@@ -266,7 +259,7 @@ module _ {s : Shape} {t : List ℕ} {source d : ℕ} {path met used : List ℕ} 
   unfolding walkFrom
   going-end h r f w k =
       let b : length path ≤ i = omega (arith, g .bytes) in
-      let e : stopped 13 8 ≡ walk s t source d path = ap (walkFrom s t d i (take (i + 1) met) (take i used) a) (sym (drop-of-length-le path b)) ∙ g .same in
+      let e : stopped (refusedAt 13 1 8) ≡ walk s t source d path = ap (walkFrom s t d i (take (i + 1) met) (take i used) a) (sym (drop-of-length-le path b)) ∙ g .same in
       walks-stopped s t source d path r w k (ap noWay f ∙ ap (wayOf s) e ∙ by-way s t source d path q eq zq) (λ z. let n : _≡_ {A = ℕ} 13 0 = sym (ap (λ (y : Refusal). y .number) f) ∙ z in omega arith) met used
 
   module _ (hi : i < 8) (h : Hop) (eh : h ≡ hopFrom s a (getD path i 0)) where
@@ -295,11 +288,12 @@ module _ {s : Shape} {t : List ℕ} {source d : ℕ} {path met used : List ℕ} 
           ap₂ (λ (m : List ℕ) (bs : List ℕ). walkFrom s t d i m U a bs) (sym (g .last)) (sym (left path i 0 (omega (arith, g .bytes))))
           ∙ g .same
 
-      pub going-refused : (y .number ≡ 0 → ⊥) → (r : Refusal) → r ≡ refusedAt (y .number) 1 (i + 1) → (w : Way) → w ≡ noWay r → (met' used' : List ℕ) → WalkLeaves s t source d path w met' used'
-      going-refused n r f w k =
-          let e : stopped (y .number) (i + 1) ≡ walk s t source d path =
-          ap (λ (p : ℕ). stopped p (i + 1)) number ∙ sym (walk-refused s t d i (M ++ (a ∷ [])) U a b (drop (i + 1) path) (λ z. n (number ∙ z))) ∙ whole in
-          walks-stopped s t source d path r w k (ap noWay f ∙ ap (wayOf s) e ∙ by-way s t source d path q eq zq) (λ z. n (sym (ap (λ (p : Refusal). p .number) f) ∙ z))
+      pub going-refused : (y .number ≡ 0 → ⊥) → (n : Refusal) → n ≡ refusedAt (y .number) 1 (i + 1) → (r : Refusal) → r ≡ withEarlier 0 (y .earlier) n → (w : Way) → w ≡ noWay r → (met' used' : List ℕ) → WalkLeaves s t source d path w met' used'
+      going-refused n m f r j w k =
+          let c = added-refusal _ (M ++ (a ∷ [])) U _ _ y (e ∙ tried-is (g .here) t M U b h eh) n (i + 1) m f r j in
+          let v : stopped r ≡ walk s t source d path =
+          ap stopped c ∙ sym (walk-refused s t d i (M ++ (a ∷ [])) U a b (drop (i + 1) path) (λ z. n (number ∙ z))) ∙ whole in
+          walks-stopped s t source d path r w k (ap (wayOf s) v ∙ by-way s t source d path q eq zq) (λ z. n (number ∙ sym (ap (λ (p : Refusal). p .number) c) ∙ z))
 
       module _ (z : y .number ≡ 0) where
         made : h ≡ hopBy s a b

@@ -83,7 +83,7 @@ module _ (s : Shape) (t : List ℕ) (a d : ℕ) (bs : List ℕ) (w : Way) {met u
   way-refusal = ap (λ (x : Way). x .refusal) (g .way) ∙ go (arrayRefusal s a d bs) (walk s t a d bs)
     where
       go : (q : ℕ) (k : Walk) → answer q (λ r. noWay (plain r)) (wayOf s k) .refusal ≡ answer q (λ r. noWalk (plain r)) (walked k) .refusal
-      go zero (stopped r h) = refl
+      go zero (stopped r) = refl
       go zero (arrived vs ws) = refl
       go (suc q) k = refl
 
@@ -93,7 +93,7 @@ module _ (s : Shape) (t : List ℕ) (a d : ℕ) (bs : List ℕ) (w : Way) {met u
   stopped-walk n = ap noWalk way-refusal ∙ go (arrayRefusal s a d bs) (walk s t a d bs) (λ z. n (ap (λ (x : Refusal). x .number) way-refusal ∙ z))
     where
       go : (q : ℕ) (k : Walk) → answer q (λ r. noWalk (plain r)) (walked k) .refusal .number ≢ 0 → noWalk (answer q (λ r. noWalk (plain r)) (walked k) .refusal) ≡ answer q (λ r. noWalk (plain r)) (walked k)
-      go zero (stopped r h) n = refl
+      go zero (stopped r) n = refl
       go zero (arrived vs ws) n = absurd (n refl)
       go (suc q) k n = refl
 
@@ -137,7 +137,7 @@ module _ (s : Shape) (a d : ℕ) (bs : List ℕ) (w : Way) {met used : List ℕ}
       r = way-refusal s [] a d bs w g
 
       go : (q : ℕ) (k : Walk) → answer q (λ r. noWalk (plain r)) (walked k) .refusal .number ≢ 0 → noWriting (answer q (λ r. noWalk (plain r)) (walked k) .refusal) ≡ answer q (λ r. noWriting (plain r)) (reversed s k)
-      go zero (stopped r h) n = refl
+      go zero (stopped r) n = refl
       go zero (arrived vs ws) n = absurd (n refl)
       go (suc q) k n = refl
 

@@ -1,7 +1,8 @@
 -- Laws of writing: the byte of one hop, servers in turn, and what is refused on the way.
 use Prim.Native.Nat.{ℕ, suc, _+_, _-_, _*_, _≤_, _<_}
 use mathlib.Core.Path.{_≡_, refl, sym, ap, ap₂, _∙_}
-use mathlib.Core.Bool.{true, false, _&&_}
+use mathlib.Core.Logic.{_≢_}
+use mathlib.Core.Bool.{Bool, true, false, _&&_}
 use mathlib.Core.List.{List, [], _∷_, _++_, append-nil}
 use native.Mathlib.Numerals.{add-one}
 use native.Mathlib.Omega.{arith}
@@ -14,8 +15,8 @@ use borrow.Author.Tests.{eq-eqb, ne-eqb, le-leb, lt-leb}
 use Rattle.lists.proofs.ListLaws.{left, filled-is, rest-on, taken-on}
 use Rattle.lists.specs.Lists.{inTurn, filled}
 use Rattle.refusals.specs.declared.Refusal.{Refusal}
-use Rattle.refusals.specs.Refusals.{none, plain, refusedAt, _or-else_, _unless_, answer}
-use Rattle.refusals.proofs.AnswerLaws.{answered, answer-chain, answer-number, answer-refused, answer-given}
+use Rattle.refusals.specs.Refusals.{none, plain, refusedAt, withEarlier, _or-else_, _unless_, answer}
+use Rattle.refusals.proofs.AnswerLaws.{answer-same, answer-chain, answer-refused, answer-given}
 use Rattle.refusals.proofs.ChainLaws.{or-else-left, chain-stops, chain-goes, same-refused, apart-passed}
 use Rattle.room.specs.declared.Shape.{Shape}
 use Rattle.room.specs.declared.Number.{Number}
@@ -31,11 +32,12 @@ use Rattle.path.specs.declared.Tried.{Tried}
 use Rattle.path.specs.declared.Writing.{Writing}
 use Rattle.path.specs.Routes.{byteOf, levelTo, switchAt, switchTo, byteTo, encode, Route}
 use Rattle.path.specs.Inside.{Next}
-use Rattle.path.specs.Walks.{single, writeFault, writeFrom}
+use Rattle.path.specs.Walks.{single, earlierOf, stopsAt, writeFault, writeFrom}
 use Rattle.path.specs.Answers.{serversRefusal, writeRefusal, noWriting, aWriting, written, onTheWay, writeAnswer}
-use Rattle.path.specs.Inside.{noTry, adds, newly, triedTo}
+use Rattle.path.specs.Inside.{noTry, newly, triedTo}
 use Rattle.path.proofs.HopLaws.{digit-found}
 use Rattle.path.proofs.CodecLaws.{Listed, listed-of, way-route, single-one}
+use Rattle.path.proofs.RepeatLaws.{earlier-none, added-number, added-switch, added-refusal}
 
 -- ---- two servers in a row
 
@@ -172,7 +174,7 @@ module _ (s : Shape) (vs : List ℕ) (r : ℕ) (e : r ≡ shapeRefusal s) where
       unfolding writeRefusal
       write-apart y h = chain-goes _ _ _ _ (chain-goes _ _ _ _ passed refl f) y (apart-passed _ _ _ h)
 
--- ---- one hop: 23, then 12
+-- ---- one hop: 23, then 28 and 29
 
 level-single : (ls : List ℕ) → onlyLevel ls .adjacent ≡ single ls
 level-single [] = refl
@@ -202,11 +204,16 @@ module _ (s : Shape) (a b : ℕ) (p : pairRefusal s a b ≡ 0) (x : Between) (e 
     abbrev after : Tried
     after = newly met used b (switchTo s a b)
 
-    split : answer (23 unless single (differing s a b)) noTry after ≡ triedTo s met used a b
+    -- 23 names no earlier hop
+    split : answer (23 unless single (differing s a b)) (noTry 0) after ≡ triedTo s met used a b
     unfolding triedTo writeFault newly
-    split = sym (answer-chain _ _ noTry _)
+    split = answer-same _ (noTry 0) _ after _ (λ n. apart (single (differing s a b)) n) refl ∙ sym (answer-chain _ _ _ _)
+      where
+        apart : (t : Bool) → 23 unless t ≢ 0 → noTry 0 (23 unless t) ≡ noTry (earlierOf (23 unless t) met used b (switchTo s a b)) (23 unless t)
+        apart true n = absurd (n refl)
+        apart false n = ap (λ (e : ℕ). noTry e 23) (sym (earlier-none met used b (switchTo s a b) 23 (λ q. omega arith) (λ q. omega arith)))
 
-    pub next-refused : x .adjacent ≡ false → (y : Tried) → y ≡ noTry 23 → y ≡ triedTo s met used a b
+    pub next-refused : x .adjacent ≡ false → (y : Tried) → y ≡ noTry 0 23 → y ≡ triedTo s met used a b
     next-refused h y f = (let l : single (differing s a b) ≡ false = sym adjacent-single ∙ h in rw l f) ∙ split
 
     pub next-tried : x .adjacent ≡ true → (w : ℕ) → w ≡ switchAt s (x .level) a → (y : Tried) → y ≡ newly met used b w → y ≡ triedTo s met used a b
@@ -220,22 +227,27 @@ module _ (s : Shape) (a b : ℕ) (p : pairRefusal s a b ≡ 0) (x : Between) (e 
 module _ (s : Shape) (met used : List ℕ) (a b : ℕ) (x : Tried) (e : x ≡ triedTo s met used a b) where
   to-number : x .number ≡ writeFault s met used a b
   unfolding triedTo
-  to-number = ap (λ (y : Tried). y .number) e ∙ answer-number (λ (y : Tried). y .number) noTry (λ r. refl) (writeFault s met used a b) _ refl
+  to-number = added-number (writeFault s met used a b) met used b (switchTo s a b) x e
 
   to-switch : x .number ≡ 0 → x .switch ≡ switchTo s a b
   unfolding triedTo
-  to-switch z =
-      ap (λ (y : Tried). y .switch)
-      (answered (λ (y : Tried). y .number) noTry (λ r. refl) (writeFault s met used a b) x (adds (switchTo s a b)) e z .1)
+  to-switch = added-switch (writeFault s met used a b) met used b (switchTo s a b) x e
+
+  to-refusal : x .number ≢ 0 → (h : ℕ) (n : Refusal) → n ≡ refusedAt (x .number) 1 h → (m : Refusal) → m ≡ withEarlier 0 (x .earlier) n → m ≡ stopsAt (writeFault s met used a b) h met used b (switchTo s a b)
+  unfolding triedTo
+  to-refusal = added-refusal (writeFault s met used a b) met used b (switchTo s a b) x e
 
 -- ---- one turn of the way
 
 module _ (s : Shape) (vs used : List ℕ) (i : ℕ) (h : i + 1 < length vs) (x : Tried) (e : x ≡ triedTo s (take (i + 1) vs) (take i used) (getD vs i 0) (getD vs (i + 1) 0)) where
-  way-refused : (x .number ≡ 0 → ⊥) → refusedAt (x .number) 1 (i + 1) ≡ writeFrom s i (take (i + 1) vs) (take i used) (getD vs i 0) (drop (i + 1) vs)
+  abbrev faulty : ℕ
+  faulty = writeFault s (take (i + 1) vs) (take i used) (getD vs i 0) (getD vs (i + 1) 0)
+
+  way-refused : (x .number ≡ 0 → ⊥) → stopsAt faulty (i + 1) (take (i + 1) vs) (take i used) (getD vs (i + 1) 0) (switchTo s (getD vs i 0) (getD vs (i + 1) 0)) ≡ writeFrom s i (take (i + 1) vs) (take i used) (getD vs i 0) (drop (i + 1) vs)
   unfolding writeFrom
   way-refused n =
       let r = to-number s (take (i + 1) vs) (take i used) (getD vs i 0) (getD vs (i + 1) 0) x e in
-      sym (rw (left vs (i + 1) 0 h, ← r, ne-eqb (x .number) 0 n))
+      sym (rw (left vs (i + 1) 0 h, ne-eqb faulty 0 (λ z. n (r ∙ z))))
 
   way-on : i < length used → x .number ≡ 0 → writeFrom s (i + 1) (take (i + 1 + 1) vs) (take (i + 1) (set used i (x .switch))) (getD vs (i + 1) 0) (drop (i + 1 + 1) vs) ≡ writeFrom s i (take (i + 1) vs) (take i used) (getD vs i 0) (drop (i + 1) vs)
   unfolding writeFrom
@@ -277,8 +289,9 @@ module _ {s : Shape} {vs used : List ℕ} {i : ℕ} (g : Way s vs used i) where
     way-pair = sym (pair-none (g .fine .servers .each i (omega arith)) (g .fine .servers .each (i + 1) h))
 
     module _ (x : Tried) (e : x ≡ triedTo s (take (i + 1) vs) (take i used) (getD vs i 0) (getD vs (i + 1) 0)) where
-      pub way-stop : (x .number ≡ 0 → ⊥) → (r : Refusal) → r ≡ refusedAt (x .number) 1 (i + 1) → r ≡ onTheWay s vs
-      way-stop n r f = f ∙ way-refused s vs used i h x e n ∙ g .same
+      pub way-stop : (x .number ≡ 0 → ⊥) → (m : Refusal) → m ≡ refusedAt (x .number) 1 (i + 1) → (r : Refusal) → r ≡ withEarlier 0 (x .earlier) m → r ≡ onTheWay s vs
+      way-stop n m f r k =
+          to-refusal s (take (i + 1) vs) (take i used) (getD vs i 0) (getD vs (i + 1) 0) x e n (i + 1) m f r k ∙ way-refused s vs used i h x e n ∙ g .same
 
       pub way-next : x .number ≡ 0 → Way s vs (set used i (x .switch)) (i + 1)
       way-next z =

@@ -50,7 +50,7 @@ abbrev pub noWalk : Refusal → Walked
 noWalk r = record { refusal = r; count = 0; servers = replicate 9 0; switches = replicate 8 0 }
 
 abbrev pub walked : Walk → Walked
-walked (stopped r h) = noWalk (refusedAt r 1 h)
+walked (stopped r) = noWalk r
 walked (arrived vs ws) = record { refusal = none; count = length vs; servers = filled 9 vs; switches = filled 8 ws }
 
 unfoldable pub walkAnswer : Shape → List ℕ → ℕ → ℕ → List ℕ → Walked
@@ -71,13 +71,13 @@ abbrev pub aWriting : List ℕ → Writing
 aWriting bs = record { refusal = none; bytes = bs }
 
 abbrev pub reversed : Shape → Walk → Writing
-reversed s (stopped r h) = noWriting (refusedAt r 1 h)
+reversed s (stopped r) = noWriting r
 reversed s (arrived vs ws) = aWriting (encode s (reverse vs))
 
 unfoldable pub reverseAnswer : Shape → ℕ → ℕ → List ℕ → Writing
 reverseAnswer s a d bs = answer (arrayRefusal s a d bs) (λ r. noWriting (plain r)) (reversed s (walk s [] a d bs))
 
--- ---- writing: 1, 2, 26, 3, 22, 4, 5, then 23 and 12 at each hop
+-- ---- writing: 1, 2, 26, 3, 22, 4, 5, then 23, 28, 29 at each hop
 
 -- the first refusal of an address in a list: 4
 unfoldable pub serversRefusal : Shape → List ℕ → ℕ

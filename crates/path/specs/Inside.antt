@@ -2,12 +2,12 @@
 use Prim.Native.Nat.{ℕ, zero, suc, _+_, _-_, _*_, _/_, _%_}
 use mathlib.Core.Path.{_≡_}
 use mathlib.Core.List.{List, [], _∷_, reverse}
-use mathlib.Core.Bool.{not, cond, _&&_}
-use lib.Dec.{eqb}
+use mathlib.Core.Bool.{cond}
+use lib.Dec.{ltb, leb, eqb}
 use lib.ListN.{length, replicate}
-use Rattle.lists.specs.Lists.{isIn, inTurn}
+use Rattle.lists.specs.Lists.{inTurn}
 use Rattle.refusals.specs.declared.Refusal.{Refusal}
-use Rattle.refusals.specs.Refusals.{none, plain, refusedAt, _unless_, answer}
+use Rattle.refusals.specs.Refusals.{none, plain, refusedAt, _or-else_, _unless_, answer}
 use Rattle.room.specs.declared.Shape.{Shape}
 use Rattle.room.specs.Shapes.{Server}
 use Rattle.room.specs.Addresses.{Neighbours}
@@ -17,29 +17,40 @@ use Rattle.path.specs.declared.Tried.{Tried}
 use Rattle.path.specs.declared.Way.{Way}
 use Rattle.path.specs.declared.Reading.{Reading}
 use Rattle.path.specs.Routes.{levelTo, switchAt, switchTo, byteTo}
-use Rattle.path.specs.Walks.{Walk, stopped, arrived, walk, writeFault}
+use Rattle.path.specs.Walks.{Walk, stopped, arrived, again, earlierOf, walk, writeFault}
 use Rattle.path.specs.Answers.{arrayRefusal, walkAnswer}
+
+-- ---- one hop
+
+-- why level l and value v are no hop in a room with highest level k and bound m there: 8, 9, and 10 where it is neither
+unfoldable pub hopFault : ℕ → ℕ → ℕ → ℕ → ℕ
+hopFault k l v m = 8 unless leb l k or-else 9 unless ltb v m or-else 10
 
 -- ---- what a hop adds to a route that has met these servers and used these switches
 
-abbrev pub noTry : ℕ → Tried
-noTry r = record { number = r; switch = 0 }
+-- refused, with the earlier hop that the refusal names
+abbrev pub noTry : ℕ → ℕ → Tried
+noTry e r = record { number = r; earlier = e; switch = 0 }
 
 abbrev pub adds : ℕ → Tried
-adds w = record { number = 0; switch = w }
+adds w = record { number = 0; earlier = 0; switch = w }
 
--- server b and switch w: 12
+-- server b and switch w, where r is what refuses the hop
+abbrev pub added : ℕ → List ℕ → List ℕ → ℕ → ℕ → Tried
+added r met used b w = answer r (λ x. noTry (earlierOf x met used b w) x) (adds w)
+
+-- 28, 29
 unfoldable pub newly : List ℕ → List ℕ → ℕ → ℕ → Tried
-newly met used b w = answer (12 unless (not (isIn b met) && not (isIn w used))) noTry (adds w)
+newly met used b w = added (again met used b w) met used b w
 
--- the hop h from server a, when an array is walked: what refuses the hop, 11, 12
+-- the hop h from server a, when an array is walked: what refuses the hop, 11, 28, 29
 unfoldable pub tried : Shape → List ℕ → List ℕ → List ℕ → ℕ → Hop → Tried
 tried s t met used a h =
-    answer (h .refusal .number) noTry (answer (11 unless live t (h .level) a (h .next)) noTry (newly met used (h .next) (switchAt s (h .level) a)))
+    answer (h .refusal .number) (noTry 0) (answer (11 unless live t (h .level) a (h .next)) (noTry 0) (newly met used (h .next) (switchAt s (h .level) a)))
 
--- the hop from server a to server b, when servers are written
+-- the hop from server a to server b, when servers are written: 23, 28, 29
 unfoldable pub triedTo : Shape → List ℕ → List ℕ → ℕ → ℕ → Tried
-triedTo s met used a b = answer (writeFault s met used a b) noTry (adds (switchTo s a b))
+triedTo s met used a b = added (writeFault s met used a b) met used b (switchTo s a b)
 
 -- servers a and b of the room are neighbours
 pub record Next (s : Shape) (a b : ℕ) : Type 0 where
@@ -78,7 +89,7 @@ endedWay h x i [] = aWay h x
 endedWay h x i (b ∷ bs) = cond (eqb b 0) (endedWay h x (i + 1) bs) (noWay (refusedAt 14 1 (i + 1)))
 
 abbrev pub wayOf : Shape → Walk → Way
-wayOf s (stopped r h) = noWay (refusedAt r 1 h)
+wayOf s (stopped r) = noWay r
 wayOf s (arrived vs ws) = aWay (length vs - 1) (backOver s vs)
 
 unfoldable pub wayAnswer : Shape → List ℕ → ℕ → ℕ → List ℕ → Way

@@ -7,6 +7,7 @@ ghost use Rattle.refusals.specs.Refusals.{refusedAt};
 ghost use Rattle.room.specs.Refusals.{serverRefusal};
 ghost use Rattle.path.specs.Routes.{levelOf, valueOf};
 ghost use Rattle.path.specs.Answers.{noHop, hopFrom, hopAnswer};
+ghost use Rattle.path.specs.Inside.{hopFault};
 use crate::Hop;
 use refusals::Refusal;
 use room::Shape;
@@ -61,15 +62,29 @@ fn is_hop(k: usize, level: usize, value: usize, bound: usize, own: usize) -> boo
     level <= k && (value < bound && own != value)
 }
 
+// Why a level and a value that are no hop are none: 8, 9, else 10.
+fn hop_fault(k: usize, level: usize, value: usize, bound: usize) -> usize
+    ensures { λ r. ⌜ r ≡ hopFault k level value bound ⌝ }
+{
+    if k < level {
+        return Refusal::POSITION;
+    }
+    if bound <= value {
+        return Refusal::VALUE;
+    }
+    Refusal::NO_CHANGE
+}
+
 // The hop by a byte from a server of the room, by one power of n. Refusals 8, 9, 10.
-pub(crate) fn hop_from(shape: Shape, server: usize, byte: u8) -> Hop
+pub(crate) fn hop_from(shape: Shape, server: usize, byte: usize) -> Hop
     requires { ⌜ serverRefusal shape server ≡ 0 ⌝ }
     ensures { λ r. ⌜ r ≡ hopFrom shape server byte ⌝ }
 {
-    let level = level_of(byte as usize);
-    let value = value_of(byte as usize);
+    let level = level_of(byte);
+    let value = value_of(byte);
     let bound = digit_bound(shape, level);
-    let weight = power(shape.n, level);
+    // what is no byte names a level above 3, which is refused, whatever power stands for it
+    let weight = power(shape.n, level % 4);
     let own = digit_by(server as u32, weight as u32, shape.n as u32);
     if is_hop(shape.k, level, value, bound, own) {
         return Hop {
@@ -79,13 +94,7 @@ pub(crate) fn hop_from(shape: Shape, server: usize, byte: u8) -> Hop
             old: own,
         };
     }
-    if shape.k < level {
-        return refused_hop(Refusal::POSITION);
-    }
-    if bound <= value {
-        return refused_hop(Refusal::VALUE);
-    }
-    refused_hop(Refusal::NO_CHANGE)
+    refused_hop(hop_fault(shape.k, level, value, bound))
 }
 
 // The hop by a byte from a server. Refusals 1, 2, 26, 3, 4; then, as at hop 1 of route 1, 8, 9, 10.
@@ -96,9 +105,5 @@ pub fn hop_of(shape: Shape, server: usize, byte: usize) -> Hop
     if number != 0 {
         return no_hop(Refusal::plain(number));
     }
-    // a number above 255 is no byte, and the level that it names is in no room
-    if 255 < byte {
-        return refused_hop(Refusal::POSITION);
-    }
-    hop_from(shape, server, byte as u8)
+    hop_from(shape, server, byte)
 }

@@ -21,7 +21,7 @@ pub use hops::hop_of;
 pub use hops::level_of;
 pub use hops::value_of;
 pub use readings::read_path;
-pub use repeats::is_among;
+pub use repeats::place_in;
 pub use reversals::reverse_path;
 pub use walks::walk;
 pub use writings::write_path;
@@ -41,9 +41,10 @@ pub struct Hop {
     pub old: usize,
 }
 
-// The switch that a hop adds to a route; or the number of its refusal and 0.
+// The switch that a hop adds to a route; or the number of its refusal and the earlier hop that it names.
 pub(crate) struct Tried {
     pub(crate) number: usize,
+    pub(crate) earlier: usize,
     pub(crate) switch: usize,
 }
 

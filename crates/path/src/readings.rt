@@ -35,7 +35,7 @@ fn no_reading(refusal: Refusal) -> Reading
     }
 }
 
-// The servers that an array meets, in turn. Refusals 1, 2, 26, 3, 4, 5, 7, 8, 9, 10, 12, 13, 14.
+// The servers that an array meets, in turn. Refusals 1, 2, 26, 3, 4, 5, 7, 8, 9, 10, 28, 29, 13, 14.
 pub fn read_path(shape: Shape, source: usize, destination: usize, path: &[u8]) -> Reading
     ensures { λ r. ⌜ r ≡ readAnswer shape source destination (now (path .entry)) ⌝ }
 {

@@ -1,6 +1,6 @@
 // Servers and switches already on the route.
 ghost use mathlib.Core.Path.{_≡_};
-ghost use Rattle.lists.specs.Lists.{isIn};
+ghost use Rattle.lists.specs.Lists.{placeIn};
 ghost use Rattle.room.specs.Refusals.{linkRefusal};
 ghost use Rattle.path.specs.Routes.{switchAt};
 ghost use Rattle.path.specs.Inside.{noTry, newly};
@@ -9,24 +9,28 @@ use refusals::Refusal;
 use room::Shape;
 use room::switch_of;
 
-pub(crate) fn no_try(number: usize) -> Tried
-    ensures { λ r. ⌜ r ≡ noTry number ⌝ }
+pub(crate) fn no_try(number: usize, earlier: usize) -> Tried
+    ensures { λ r. ⌜ r ≡ noTry earlier number ⌝ }
 {
-    Tried { number, switch: 0 }
+    Tried {
+        number,
+        earlier,
+        switch: 0,
+    }
 }
 
-// Whether x is in a list.
-pub fn is_among(list: &[usize], x: usize) -> bool
-    ensures { λ r. ⌜ r ≡ isIn x (now (list .entry)) ⌝ }
+// The first place of x in a list, counted from 0; the length of the list where x is not in it.
+pub fn place_in(list: &[usize], x: usize) -> usize
+    ensures { λ r. ⌜ r ≡ placeIn x (now (list .entry)) ⌝ }
 {
     let mut i: usize = 0;
     while i < list.len() {
         if list[i] == x {
-            return true;
+            return i;
         }
         i += 1;
     }
-    false
+    i
 }
 
 // The switch of a link as one number.
@@ -38,15 +42,22 @@ pub(crate) fn switch_at(shape: Shape, level: usize, server: usize) -> usize
     Shape::MOST_SERVERS * level + switch.number
 }
 
-// The switch of a hop to this server, which a route adds to those that it has. Refusal 12.
+// The switch of a hop to this server, which a route adds to those that it has. Refusals 28, 29, with the earlier hop:
+// the one that reached the server, the source being hop 0, or that used the switch.
 pub(crate) fn add_hop(met: &[usize], used: &[usize], next: usize, switch: usize) -> Tried
     ensures { λ r. ⌜ r ≡ newly (now (met .entry)) (now (used .entry)) next switch ⌝ }
 {
-    if is_among(met, next) {
-        return no_try(Refusal::REPEATED);
+    let reached = place_in(met, next);
+    if reached < met.len() {
+        return no_try(Refusal::SERVER_AGAIN, reached);
     }
-    if is_among(used, switch) {
-        return no_try(Refusal::REPEATED);
+    let user = place_in(used, switch);
+    if user < used.len() {
+        return no_try(Refusal::SWITCH_AGAIN, user + 1);
     }
-    Tried { number: 0, switch }
+    Tried {
+        number: 0,
+        earlier: 0,
+        switch,
+    }
 }

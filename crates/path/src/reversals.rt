@@ -33,7 +33,7 @@ fn bytes_of(number: u64) -> [u8; 8]
 
 // The bytes of the route backwards: the same servers, from the destination. They are those that the walk
 // put together, 64 times the level plus the old value of each hop, the last hop first.
-// Refusals 1, 2, 26, 3, 4, 5, 7, 8, 9, 10, 12, 13, 14.
+// Refusals 1, 2, 26, 3, 4, 5, 7, 8, 9, 10, 28, 29, 13, 14.
 pub fn reverse_path(shape: Shape, source: usize, destination: usize, path: &[u8]) -> Writing
     ensures { λ r. ⌜ r ≡ reverseAnswer shape source destination (now (path .entry)) ⌝ }
 {

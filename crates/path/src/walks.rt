@@ -44,7 +44,7 @@ fn no_walk(refusal: Refusal) -> Walked
 }
 
 // What a hop adds to a route that has come to this server, after the servers met before it and the switches used.
-// The server itself is not looked for: a hop never leads to where it starts. Refusals of the hop itself, 11, 12.
+// The server itself is not looked for: a hop never leads to where it starts. Refusals of the hop itself, 11, 28, 29.
 fn try_hop(
     shape: Shape,
     table: &[u8],
@@ -57,12 +57,12 @@ fn try_hop(
     ensures { λ r. ⌜ r ≡ tried shape (now (table .entry)) (now (met .entry)) (now (used .entry)) server hop ⌝ }
 {
     if hop.refusal.number != 0 {
-        return no_try(hop.refusal.number);
+        return no_try(hop.refusal.number, 0);
     }
     if is_live(table, hop.level, server, hop.next) {
         return add_hop(met, used, hop.next, switch_at(shape, hop.level, server));
     }
-    no_try(Refusal::FAILED_LINK)
+    no_try(Refusal::FAILED_LINK, 0)
 }
 
 fn no_way(refusal: Refusal) -> Way
@@ -95,7 +95,8 @@ fn arrived(path: &[u8], hops: usize, back: u64) -> Way
 }
 
 // Walks an array from source to destination, and puts the servers met and the switches used in turn
-// into two arrays of zeros, which may hold anything on a refusal. Refusals 1, 2, 26, 3, 4, 5, 7, then 8 to 14 at a hop.
+// into two arrays of zeros, which may hold anything on a refusal. Refusals 1, 2, 26, 3, 4, 5, 7, then 8 to 11, 28,
+// 29, 13, 14 at a hop.
 pub(crate) fn walk_array(
     shape: Shape,
     table: &[u8],
@@ -118,10 +119,10 @@ pub(crate) fn walk_array(
     let mut i: usize = 0;
     while i < Shape::MOST_HOPS {
         let seen = i + 1;
-        let hop = hop_from(shape, server, path[i]);
+        let hop = hop_from(shape, server, path[i] as usize);
         let tried = try_hop(shape, table, &met[..i], &used[..i], server, hop);
         if tried.number != 0 {
-            return no_way(Refusal::at(tried.number, 1, seen));
+            return no_way(Refusal::at(tried.number, 1, seen).with_earlier(0, tried.earlier));
         }
         back = 256 * back + (64 * hop.level + hop.old) as u64;
         used[i] = tried.switch;
@@ -136,7 +137,7 @@ pub(crate) fn walk_array(
 }
 
 // The servers met and the switches used by an array, over the live links of a table.
-// Refusals 1, 2, 26, 3, 4, 5, 7, then 8 to 14 at a hop.
+// Refusals 1, 2, 26, 3, 4, 5, 7, then 8 to 11, 28, 29, 13, 14 at a hop.
 pub fn walk(shape: Shape, table: &[u8], source: usize, destination: usize, path: &[u8]) -> Walked
     ensures { λ r. ⌜ r ≡ walkAnswer shape (now (table .entry)) source destination (now (path .entry)) ⌝ }
 {

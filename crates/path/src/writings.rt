@@ -132,7 +132,7 @@ fn write_refusal(shape: Shape, servers: &[usize]) -> usize
     0
 }
 
-// The hop to a server from the last of a route. Refusals 23, 12.
+// The hop to a server from the last of a route. Refusals 23, 28, 29.
 fn try_next(shape: Shape, met: &[usize], used: &[usize], from: usize, to: usize) -> Tried
     requires { ⌜ pairRefusal shape from to ≡ 0 ⌝ }
     ensures { λ r. ⌜ r ≡ triedTo shape (now (met .entry)) (now (used .entry)) from to ⌝ }
@@ -141,10 +141,10 @@ fn try_next(shape: Shape, met: &[usize], used: &[usize], from: usize, to: usize)
     if between.adjacent {
         return add_hop(met, used, to, switch_at(shape, between.level, from));
     }
-    no_try(Refusal::NOT_NEIGHBOURS)
+    no_try(Refusal::NOT_NEIGHBOURS, 0)
 }
 
-// The first refusal of the hops from each server to the next: 23, 12.
+// The first refusal of the hops from each server to the next: 23, 28, 29.
 fn on_the_way(shape: Shape, servers: &[usize]) -> Refusal
     requires { ⌜ writeRefusal shape (now servers) ≡ 0 ⌝ }
     ensures { λ r. ⌜ r ≡ onTheWay shape (now (servers .entry)) ⌝ }
@@ -161,7 +161,7 @@ fn on_the_way(shape: Shape, servers: &[usize]) -> Refusal
             servers[next],
         );
         if hop.number != 0 {
-            return Refusal::at(hop.number, 1, next);
+            return Refusal::at(hop.number, 1, next).with_earlier(0, hop.earlier);
         }
         used[i] = hop.switch;
         i = next;
@@ -169,7 +169,7 @@ fn on_the_way(shape: Shape, servers: &[usize]) -> Refusal
     Refusal::none()
 }
 
-// The eight bytes of the route that meets these servers. Refusals 1, 2, 26, 3, 22, 4, 5, then 23, 12 at a hop.
+// The eight bytes of the route that meets these servers. Refusals 1, 2, 26, 3, 22, 4, 5, then 23, 28, 29 at a hop.
 pub fn write_path(shape: Shape, servers: &[usize]) -> Writing
     ensures { λ r. ⌜ r ≡ writeAnswer shape (now (servers .entry)) ⌝ }
 {

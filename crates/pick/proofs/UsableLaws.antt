@@ -5,13 +5,13 @@ use mathlib.Core.Bool.{Bool, true, false, cond}
 use mathlib.Core.List.{List, [], _∷_, map}
 use native.Mathlib.Omega.{arith}
 use native.Mathlib.Nat.{zero-add}
-use native.Mathlib.Decide.{decLt, ℕ-discrete}
+use native.Mathlib.Decide.{decLt}
 use lib.Dec.{eqb}
 use lib.ListN.{length, take, drop, length-drop}
 use lib.Seq.{take-all, drop-drop, length-take-le}
 use borrow.Author.Tests.{eq-eqb, ne-eqb, eqb-true, le-leb}
 use Rattle.refusals.specs.declared.Refusal.{Refusal}
-use Rattle.refusals.specs.Refusals.{none, plain, refusedAt}
+use Rattle.refusals.specs.Refusals.{none, plain, ofRoute}
 use Rattle.refusals.proofs.ChainLaws.{chain-goes}
 use Rattle.refusals.proofs.AnswerLaws.{answer-none}
 use Rattle.room.specs.declared.Shape.{Shape}
@@ -27,23 +27,23 @@ use Rattle.pick.specs.Chosen.{FirstUsable, NoneUsable}
 -- ---- an array of eight bytes, checked as a list of one
 
 -- the refusal of one walked array as route 1
-abbrev oneStop : ℕ → ℕ → Refusal
-oneStop x h = cond (eqb x 0) none (refusedAt x 1 h)
+abbrev oneStop : Refusal → Refusal
+oneStop r = cond (eqb (r .number) 0) none (ofRoute 1 r)
 
-one-first : (x h : ℕ) → firstOf (oneStop x h) none ≡ oneStop x h
+one-first : (r : Refusal) → firstOf (oneStop r) none ≡ oneStop r
 unfolding firstOf
-one-first x h =
-    elim (ℕ-discrete x 0) [
-      | yes e ↦ rw (eq-eqb x 0 e)
-      | no n ↦ rw (ne-eqb x 0 n, ne-eqb x 0 n)
-    ]
+one-first r = go (eqb (r .number) 0) refl
+  where
+    go : (t : Bool) → eqb (r .number) 0 ≡ t → (let x = cond t none (ofRoute 1 r) in cond (eqb (x .number) 0) none x ≡ x)
+    go true e = refl
+    go false e = rw e
 
-one-number : (x h : ℕ) → eqb (oneStop x h .number) 0 ≡ eqb x 0
-one-number x h =
-    elim (ℕ-discrete x 0) [
-      | yes e ↦ rw (eq-eqb x 0 e)
-      | no n ↦ rw (ne-eqb x 0 n, ne-eqb x 0 n)
-    ]
+one-number : (r : Refusal) → eqb (oneStop r .number) 0 ≡ eqb (r .number) 0
+one-number r = go (eqb (r .number) 0) refl
+  where
+    go : (t : Bool) → eqb (r .number) 0 ≡ t → eqb (cond t none (ofRoute 1 r) .number) 0 ≡ t
+    go true e = refl
+    go false e = e
 
 one-list : (s : Shape) (t : List ℕ) (a d : ℕ) (bs : List ℕ) → roomRefusal s t a d ≡ 0 → length bs ≡ 8 → 0 ≡ listRefusal s t a d bs
 unfolding listRefusal
@@ -56,26 +56,26 @@ one-walk s t a d bs l =
     ap (λ (x : ℕ). map (walkAnswer s t a d) (arrays x bs)) m
     ∙ ap (λ (x : List ℕ). walkAnswer s t a d x ∷ []) (take-all 8 bs (omega arith))
 
-pub check-one : (s : Shape) (t : List ℕ) (a d : ℕ) (bs : List ℕ) → roomRefusal s t a d ≡ 0 → length bs ≡ 8 → checkAnswer s t a d bs ≡ oneStop (walkAnswer s t a d bs .refusal .number) (walkAnswer s t a d bs .refusal .hop)
+pub check-one : (s : Shape) (t : List ℕ) (a d : ℕ) (bs : List ℕ) → roomRefusal s t a d ≡ 0 → length bs ≡ 8 → checkAnswer s t a d bs ≡ oneStop (walkAnswer s t a d bs .refusal)
 unfolding checkAnswer firstStop firstPair firstMeeting firstOf
 check-one s t a d bs e l =
     answer-none _ plain _ (one-list s t a d bs e l)
     ∙ ap (λ (ws : List Walked). firstOf (firstStop 1 ws) (firstPair 1 ws)) (one-walk s t a d bs l)
-    ∙ one-first (walkAnswer s t a d bs .refusal .number) (walkAnswer s t a d bs .refusal .hop)
+    ∙ one-first (walkAnswer s t a d bs .refusal)
 
 -- where the room is not refused, an array is usable exactly when walking it meets no refusal
 pub usable-walk : (s : Shape) (t : List ℕ) (a d : ℕ) (bs : List ℕ) → roomRefusal s t a d ≡ 0 → length bs ≡ 8 → usable s t a d bs ≡ eqb (walkAnswer s t a d bs .refusal .number) 0
 unfolding usable
 usable-walk s t a d bs e l =
     ap (λ (r : Refusal). eqb (r .number) 0) (check-one s t a d bs e l)
-    ∙ one-number (walkAnswer s t a d bs .refusal .number) (walkAnswer s t a d bs .refusal .hop)
+    ∙ one-number (walkAnswer s t a d bs .refusal)
 
 -- and then it is accepted as a list of one
 pub usable-accepted : (s : Shape) (t : List ℕ) (a d : ℕ) (bs : List ℕ) → roomRefusal s t a d ≡ 0 → length bs ≡ 8 → usable s t a d bs ≡ true → Accepted s t a d bs
 usable-accepted s t a d bs e l u =
     let x = walkAnswer s t a d bs .refusal .number in
     let z : x ≡ 0 = eqb-true x 0 (sym (usable-walk s t a d bs e l) ∙ u) in
-    accepted-of s t a d bs (check-one s t a d bs e l ∙ ap (λ (b : Bool). cond b none (refusedAt x 1 (walkAnswer s t a d bs .refusal .hop))) (eq-eqb x 0 z))
+    accepted-of s t a d bs (check-one s t a d bs e l ∙ ap (λ (b : Bool). cond b none (ofRoute 1 (walkAnswer s t a d bs .refusal))) (eq-eqb x 0 z))
 
 -- ---- the array at a place
 

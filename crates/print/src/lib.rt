@@ -41,7 +41,37 @@ pub fn question(name: &[u8], shape: Shape)
     text(b")");
 }
 
-// "refused NUMBER" with a space before it, and route and hop where they are not zero.
+// Whether a refusal names an earlier hop, as 15, 28 and 29 do; an earlier route or hop that is not zero is always shown.
+fn names_earlier(refusal: Refusal) -> bool {
+    if refusal.earlier_route != 0 {
+        return true;
+    }
+    if refusal.earlier_hop != 0 {
+        return true;
+    }
+    let number = refusal.number;
+    match number {
+        Refusal::NOT_PARALLEL => true,
+        Refusal::SERVER_AGAIN => true,
+        Refusal::SWITCH_AGAIN => true,
+        _ => false,
+    }
+}
+
+// "earlier hop HOP" with a space before it, and the earlier route before the hop where it is not zero.
+fn earlier_item(refusal: Refusal)
+    ensures { λ r. ⌜ r ≡ tt ⌝ }
+{
+    text(b" earlier");
+    if refusal.earlier_route != 0 {
+        text(b" route");
+        item(refusal.earlier_route);
+    }
+    text(b" hop");
+    item(refusal.earlier_hop);
+}
+
+// "refused NUMBER" with a space before it, route and hop where they are not zero, and the earlier hop where one is named.
 pub fn refused_item(refusal: Refusal)
     ensures { λ r. ⌜ r ≡ tt ⌝ }
 {
@@ -53,9 +83,12 @@ pub fn refused_item(refusal: Refusal)
         text(b" hop");
         item(refusal.hop);
     }
+    if names_earlier(refusal) {
+        earlier_item(refusal);
+    }
 }
 
-// "= refused NUMBER", with route and hop where they are not zero.
+// "= refused NUMBER", with the places that the refusal names.
 pub fn refused(refusal: Refusal)
     ensures { λ r. ⌜ r ≡ tt ⌝ }
 {

@@ -1,6 +1,7 @@
 -- Laws of answers: a refusal and zeros, or what was asked for.
 use Prim.Native.Nat.{ℕ, zero, suc}
 use mathlib.Core.Path.{_≡_, refl, sym, ap, _∙_}
+use mathlib.Core.Logic.{_≢_}
 use native.Mathlib.Omega.{arith}
 use Rattle.refusals.specs.Refusals.{_or-else_, answer}
 
@@ -15,6 +16,11 @@ module _ {X : Type 0} where
   -- where there is no refusal, the answer is what was asked for
   pub answer-none : (q : ℕ) (refused : ℕ → X) (y : X) → 0 ≡ q → answer q refused y ≡ y
   answer-none q refused y e = rw (← e)
+
+  -- two answers to the same refusal, which they make the same of
+  pub answer-same : (q : ℕ) (refused other : ℕ → X) (x y : X) → (q ≢ 0 → refused q ≡ other q) → x ≡ y → answer q refused x ≡ answer q other y
+  answer-same zero refused other x y h e = e
+  answer-same (suc q) refused other x y h e = h (λ z. omega arith)
 
   -- two chains, one after the other
   pub answer-chain : (p q : ℕ) (refused : ℕ → X) (y : X) → answer (p or-else q) refused y ≡ answer p refused (answer q refused y)

@@ -1,4 +1,4 @@
--- Refusals, by number, route and hop; chains of tests, whose first refusal counts; and answers. The number 0 is no refusal.
+-- Refusals, by number, route and hop, and an earlier route and hop; chains of tests, whose first refusal counts; and answers. The number 0 is no refusal.
 use Prim.Native.Nat.{ℕ, zero, suc}
 use mathlib.Core.Path.{_≡_}
 use mathlib.Core.List.{List}
@@ -8,20 +8,34 @@ use Rattle.refusals.specs.declared.Refusal.{Refusal}
 
 infixl 30 _or-else_
 infix 35 _unless_
+-- a refusal by its number, its route and hop, and the earlier route and hop beside them
+abbrev pub refusal : ℕ → ℕ → ℕ → ℕ → ℕ → Refusal
+refusal r i h j g = record { number = r; route = i; hop = h; «earlier_route» = j; «earlier_hop» = g }
+
+abbrev pub earlierRoute : Refusal → ℕ
+earlierRoute r = r .«earlier_route»
+
+abbrev pub earlierHop : Refusal → ℕ
+earlierHop r = r .«earlier_hop»
+
 abbrev pub none : Refusal
-none = record { number = 0; route = 0; hop = 0 }
+none = refusal 0 0 0 0 0
 
 -- a refusal of a call as a whole
 abbrev pub plain : ℕ → Refusal
-plain r = record { number = r; route = 0; hop = 0 }
+plain r = refusal r 0 0 0 0
 
 -- a refusal at a hop of a route
 abbrev pub refusedAt : ℕ → ℕ → ℕ → Refusal
-refusedAt r i h = record { number = r; route = i; hop = h }
+refusedAt r i h = refusal r i h 0 0
 
 -- the same refusal, of route i
 abbrev pub ofRoute : ℕ → Refusal → Refusal
-ofRoute i r = refusedAt (r .number) i (r .hop)
+ofRoute i r = refusal (r .number) i (r .hop) (earlierRoute r) (earlierHop r)
+
+-- the same refusal, with hop h of route i as the earlier one; i is 0 where that is the same route
+abbrev pub withEarlier : ℕ → ℕ → Refusal → Refusal
+withEarlier i h r = refusal (r .number) (r .route) (r .hop) i h
 
 -- ---- chains
 

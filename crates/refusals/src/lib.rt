@@ -1,14 +1,17 @@
 // Refusals: why a call did not answer, by number. Every number of the library stands here, and what
 // a call makes of its tests.
 ghost use mathlib.Core.Path.{_≡_};
-ghost use Rattle.refusals.specs.Refusals.{none, plain, refusedAt, ofRoute};
+ghost use Rattle.refusals.specs.Refusals.{none, plain, refusedAt, ofRoute, withEarlier};
 
-// Why a call did not answer: the refusal's number, and the route and hop where it arose, counted
-// from 1. All three are zero where there is no refusal.
+// Why a call did not answer: the refusal's number, the route and hop where it arose, counted from 1, and the
+// earlier route and hop that it names beside them. 28 and 29 name an earlier hop of the same route, hop 0 being
+// its source; 15 a hop of an earlier route. All five are zero where there is no refusal.
 pub struct Refusal {
     pub number: usize,
     pub route: usize,
     pub hop: usize,
+    pub earlier_route: usize,
+    pub earlier_hop: usize,
 }
 
 impl Refusal {
@@ -45,8 +48,7 @@ impl Refusal {
     // A hop crosses a failed link.
     pub const FAILED_LINK: usize = 11;
 
-    // A hop meets a server or uses a switch that is already on the route.
-    pub const REPEATED: usize = 12;
+    // 12 is retired: 28 and 29 stand in its place.
 
     // Eight hops, and not arrived.
     pub const NOT_ARRIVED: usize = 13;
@@ -84,6 +86,12 @@ impl Refusal {
     // m is below 2 or above n.
     pub const FILL: usize = 26;
 
+    // A hop meets a server that is already on the route.
+    pub const SERVER_AGAIN: usize = 28;
+
+    // A hop uses a switch that is already on the route.
+    pub const SWITCH_AGAIN: usize = 29;
+
     // A summary has not an entry for each switch, or an entry is not what the failed-link table counts.
     pub const SUMMARY: usize = 30;
 
@@ -95,6 +103,8 @@ impl Refusal {
             number: 0,
             route: 0,
             hop: 0,
+            earlier_route: 0,
+            earlier_hop: 0,
         }
     }
 
@@ -106,6 +116,8 @@ impl Refusal {
             number,
             route: 0,
             hop: 0,
+            earlier_route: 0,
+            earlier_hop: 0,
         }
     }
 
@@ -113,7 +125,13 @@ impl Refusal {
     pub fn at(number: usize, route: usize, hop: usize) -> Self
         ensures { λ r. ⌜ r ≡ refusedAt number route hop ⌝ }
     {
-        Self { number, route, hop }
+        Self {
+            number,
+            route,
+            hop,
+            earlier_route: 0,
+            earlier_hop: 0,
+        }
     }
 
     // The same refusal, of another route.
@@ -124,6 +142,21 @@ impl Refusal {
             number: self.number,
             route,
             hop: self.hop,
+            earlier_route: self.earlier_route,
+            earlier_hop: self.earlier_hop,
+        }
+    }
+
+    // The same refusal, with an earlier route and hop beside its own.
+    pub fn with_earlier(self, route: usize, hop: usize) -> Self
+        ensures { λ r. ⌜ r ≡ withEarlier route hop self ⌝ }
+    {
+        Self {
+            number: self.number,
+            route: self.route,
+            hop: self.hop,
+            earlier_route: route,
+            earlier_hop: hop,
         }
     }
 }

@@ -14,7 +14,7 @@ use borrow.Author.Tests.{eq-eqb, ne-eqb, eqb-true, leb-true, le-leb, not-true}
 use Rattle.lists.proofs.ListLaws.{both-held, Missing, in-missing, missing-in, length-turn, take-filled}
 use Rattle.lists.specs.Lists.{isIn, middle, filled, inTurn, Apart}
 use Rattle.refusals.specs.declared.Refusal.{Refusal}
-use Rattle.refusals.specs.Refusals.{none, plain, refusedAt}
+use Rattle.refusals.specs.Refusals.{none, plain, ofRoute}
 use Rattle.refusals.proofs.ChainLaws.{or-else-zero, chain-goes, test-held}
 use Rattle.refusals.proofs.AnswerLaws.{answered, answer-none}
 use Rattle.room.specs.declared.Shape.{Shape}
@@ -24,7 +24,7 @@ use Rattle.path.specs.Routes.{RouteTo, Parallel, encode, switchesOf, switchTo}
 use Rattle.path.specs.Answers.{walkAnswer}
 use Rattle.path.proofs.CodecLaws.{walk-given, walk-exactly, encode-long}
 use Rattle.path.specs.Routes.{Encodes}
-use Rattle.verdict.specs.Checks.{arrays, disjoint, switchesIn, between, parallel, firstStop, firstMeeting, firstOf, firstPair, listRefusal, walksOf, checkAnswer}
+use Rattle.verdict.specs.Checks.{arrays, disjoint, switchesIn, between, parallel, meeting, firstStop, firstMeeting, firstOf, firstPair, listRefusal, walksOf, checkAnswer}
 use Rattle.verdict.specs.Accepted.{encodeAll, Accepted}
 
 -- ---- sharing nothing
@@ -52,12 +52,12 @@ apart-disjoint (x ∷ xs) ys h =
 abbrev pub walkedOf : Shape → List ℕ → Walked
 walkedOf s vs = record { refusal = none; count = length vs; servers = filled 9 vs; switches = filled 8 (switchesOf s vs) }
 
-switches-of : (s : Shape) (vs : List ℕ) → switchesIn (walkedOf s vs) ≡ switchesOf s vs
+pub switches-of : (s : Shape) (vs : List ℕ) → switchesIn (walkedOf s vs) ≡ switchesOf s vs
 unfolding switchesIn switchesOf
 switches-of s vs =
     ap (λ (m : ℕ). take m (filled 8 (inTurn (switchTo s) vs))) (sym (length-turn (switchTo s) vs)) ∙ take-filled 8 (inTurn (switchTo s) vs)
 
-between-of : (s : Shape) (vs : List ℕ) → between (walkedOf s vs) ≡ middle vs
+pub between-of : (s : Shape) (vs : List ℕ) → between (walkedOf s vs) ≡ middle vs
 unfolding between
 between-of s vs = ap middle (take-filled 9 vs)
 
@@ -77,9 +77,9 @@ of-parallel s us vs h =
 
 -- ---- no refusal on the way
 
-number-zero : (b : Bool) (r : Refusal) (x i h : ℕ) → (x ≡ 0 → ⊥) → cond b r (refusedAt x i h) .number ≡ 0 → (b ≡ true) × (r .number ≡ 0)
-number-zero true r x i h n e = (refl, e)
-number-zero false r x i h n e = absurd (n e)
+number-zero : (b : Bool) (r q : Refusal) → (q .number ≡ 0 → ⊥) → cond b r q .number ≡ 0 → (b ≡ true) × (r .number ≡ 0)
+number-zero true r q n e = (refl, e)
+number-zero false r q n e = absurd (n e)
 
 -- every array is that of a route
 pub record Read (s : Shape) (t : List ℕ) (a d : ℕ) (bss vss : List (List ℕ)) : Type 0 where
@@ -104,16 +104,16 @@ unfolding firstStop
 all-read s t a d i [] e = ([], read-none s t a d)
 all-read s t a d i (bs ∷ bss) e =
     let w = walkAnswer s t a d bs in
-    let z = test (w .refusal .number) (firstStop (i + 1) (map (walkAnswer s t a d) bss)) (w .refusal .hop) e in
+    let z = test (firstStop (i + 1) (map (walkAnswer s t a d) bss)) (ofRoute i (w .refusal)) e in
     let h = walk-exactly s t a d bs .0 (z .0) in
     let r = all-read s t a d (i + 1) bss (z .1) in
     (h .0 ∷ r .0, read-more (h .1) (r .1))
   where
-    test : (x : ℕ) (q : Refusal) (h : ℕ) → cond (eqb x 0) q (refusedAt x i h) .number ≡ 0 → (x ≡ 0) × (q .number ≡ 0)
-    test x q h g =
-        elim (ℕ-discrete x 0) [
-          | yes e ↦ (e, rw (eq-eqb x 0 e) at g)
-          | no n ↦ absurd (n (rw (ne-eqb x 0 n) at g))
+    test : (q r : Refusal) → cond (eqb (r .number) 0) q r .number ≡ 0 → (r .number ≡ 0) × (q .number ≡ 0)
+    test q r g =
+        elim (ℕ-discrete (r .number) 0) [
+          | yes e ↦ (e, ap (λ (b : Bool). cond b q r .number) (sym (eq-eqb (r .number) 0 e)) ∙ g)
+          | no n ↦ absurd (n (ap (λ (b : Bool). cond b q r .number) (sym (ne-eqb (r .number) 0 n)) ∙ g))
         ]
 
 pub walks-read : {s : Shape} {t : List ℕ} {a d : ℕ} (bss vss : List (List ℕ)) → Read s t a d bss vss → map (walkAnswer s t a d) bss ≡ map (walkedOf s) vss
@@ -142,23 +142,23 @@ first-zero r q g =
 pub record Clear (s : Shape) (us : List ℕ) (vss : List (List ℕ)) : Type 0 where
   pub each : (i : ℕ) → i < length vss → Parallel s us (getD vss i [])
 
-pub meeting-clear : (s : Shape) (us : List ℕ) (j : ℕ) (vss : List (List ℕ)) → firstMeeting (walkedOf s us) j (map (walkedOf s) vss) .number ≡ 0 → Clear s us vss
-unfolding firstMeeting
-meeting-clear s us j [] e = record { each = λ i p. absurd (let z : ⊥ = omega arith in z) }
-meeting-clear s us j (vs ∷ vss) e =
-    let z = number-zero (parallel (walkedOf s us) (walkedOf s vs)) _ 15 j 0 (λ q. omega arith) e in
-    record { each = at (parallel-of s us vs (z .0)) (meeting-clear s us (j + 1) vss (z .1)) }
+pub meeting-clear : (s : Shape) (i : ℕ) (us : List ℕ) (j : ℕ) (vss : List (List ℕ)) → firstMeeting i (walkedOf s us) j (map (walkedOf s) vss) .number ≡ 0 → Clear s us vss
+unfolding firstMeeting meeting
+meeting-clear s i us j [] e = record { each = λ x p. absurd (let z : ⊥ = omega arith in z) }
+meeting-clear s i us j (vs ∷ vss) e =
+    let z = number-zero (parallel (walkedOf s us) (walkedOf s vs)) _ _ (λ q. omega arith) e in
+    record { each = at (parallel-of s us vs (z .0)) (meeting-clear s i us (j + 1) vss (z .1)) }
   where
     at : Parallel s us vs → Clear s us vss → (i : ℕ) → i < length (vs ∷ vss) → Parallel s us (getD (vs ∷ vss) i [])
     at h r zero p = h
     at h r (suc i) p = r .each i (le-of-suc-le-suc p)
 
-pub clear-meeting : (s : Shape) (us : List ℕ) (j : ℕ) (vss : List (List ℕ)) → Clear s us vss → firstMeeting (walkedOf s us) j (map (walkedOf s) vss) ≡ none
+pub clear-meeting : (s : Shape) (i : ℕ) (us : List ℕ) (j : ℕ) (vss : List (List ℕ)) → Clear s us vss → firstMeeting i (walkedOf s us) j (map (walkedOf s) vss) ≡ none
 unfolding firstMeeting
-clear-meeting s us j [] h = refl
-clear-meeting s us j (vs ∷ vss) h =
+clear-meeting s i us j [] h = refl
+clear-meeting s i us j (vs ∷ vss) h =
     rw (of-parallel s us vs (h .each zero (suc-le-suc zero-le)))
-    (clear-meeting s us (j + 1) vss (record { each = λ i p. h .each (suc i) (suc-le-suc p) }))
+    (clear-meeting s i us (j + 1) vss (record { each = λ i p. h .each (suc i) (suc-le-suc p) }))
 
 -- every two of a list of routes
 pub record AllClear (s : Shape) (vss : List (List ℕ)) : Type 0 where
@@ -168,8 +168,8 @@ pub pair-clear : (s : Shape) (i : ℕ) (vss : List (List ℕ)) → firstPair i (
 unfolding firstPair
 pair-clear s i [] e = record { pair = λ i j p q. absurd (let z : ⊥ = omega arith in z) }
 pair-clear s i (vs ∷ vss) e =
-    let z = first-zero (firstMeeting (walkedOf s vs) (i + 1) (map (walkedOf s) vss)) (firstPair (i + 1) (map (walkedOf s) vss)) e in
-    record { pair = at (meeting-clear s vs (i + 1) vss (z .0)) (pair-clear s (i + 1) vss (z .1)) }
+    let z = first-zero (firstMeeting i (walkedOf s vs) (i + 1) (map (walkedOf s) vss)) (firstPair (i + 1) (map (walkedOf s) vss)) e in
+    record { pair = at (meeting-clear s i vs (i + 1) vss (z .0)) (pair-clear s (i + 1) vss (z .1)) }
   where
     at : Clear s vs vss → AllClear s vss → (i j : ℕ) → i < j → j < length (vs ∷ vss) → Parallel s (getD (vs ∷ vss) i []) (getD (vs ∷ vss) j [])
     at h r i zero p q = absurd (let z : ⊥ = omega arith in z)
@@ -180,7 +180,7 @@ pub clear-pair : (s : Shape) (i : ℕ) (vss : List (List ℕ)) → AllClear s vs
 unfolding firstPair firstOf
 clear-pair s i [] h = refl
 clear-pair s i (vs ∷ vss) h =
-    rw (clear-meeting s vs (i + 1) vss (record { each = λ j p. h .pair zero (suc j) (suc-le-suc zero-le) (suc-le-suc p) }))
+    rw (clear-meeting s i vs (i + 1) vss (record { each = λ j p. h .pair zero (suc j) (suc-le-suc zero-le) (suc-le-suc p) }))
     (clear-pair s (i + 1) vss (record { pair = λ j m p q. h .pair (suc j) (suc m) (suc-le-suc p) (suc-le-suc q) }))
 
 -- ---- one array after another

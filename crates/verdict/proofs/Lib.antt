@@ -1,6 +1,7 @@
 pub mod NumberLaws
-pub mod ScanLaws
 pub mod AcceptLaws
+pub mod MeetingLaws
+pub mod ScanLaws
 pub mod ListWalk
 pub mod LengthLaws
 pub mod Unique

@@ -1,58 +1,20 @@
 -- What a loop over a list finds: one law for each way through a turn.
-use Prim.Native.Nat.{ℕ, zero, suc, _+_, _-_, _≤_, _<_}
-use mathlib.Core.Path.{_≡_, sym, ap, ap₂, _∙_}
-use mathlib.Core.Bool.{Bool, true, false, cond}
+use Prim.Native.Nat.{ℕ, _+_, _≤_, _<_}
+use mathlib.Core.Path.{_≡_, sym, ap, _∙_}
+use mathlib.Core.Bool.{cond}
 use mathlib.Core.List.{List, [], _∷_}
 use native.Mathlib.Omega.{arith}
 use lib.ListN.{length, getD, drop, take, length-take, drop-of-length-le}
-use lib.Seq.{length-take-le, take-take, getD-take}
+use lib.Seq.{length-take-le, getD-take}
 use borrow.Author.Tests.{eq-eqb, ne-eqb}
-use Rattle.lists.specs.Lists.{isIn, middle}
 use Rattle.lists.proofs.ListLaws.{left}
 use Rattle.refusals.specs.declared.Refusal.{Refusal}
-use Rattle.refusals.specs.Refusals.{none, refusedAt}
+use Rattle.refusals.specs.Refusals.{none, refusedAt, withEarlier}
 use Rattle.path.specs.declared.Walked.{Walked}
-use Rattle.verdict.specs.Checks.{disjoint, switchesIn, between, parallel, firstMeeting, firstPair, firstOf}
-use Rattle.verdict.specs.Arrived.{pastEnd, Arrived, AllArrived}
-
--- ---- from place j on: what is left there is the whole answer
-
-module _ (xs ys : List ℕ) (j : ℕ) (e : disjoint (drop j xs) ys ≡ disjoint xs ys) where
-  pub apart-hit : (r : Bool) → r ≡ isIn (getD xs j 0) ys → r ≡ true → j < length xs → false ≡ disjoint xs ys
-  unfolding disjoint
-  apart-hit r f t h = rw (left xs j 0 h, ← f, t) at e
-
-  pub apart-miss : (r : Bool) → r ≡ isIn (getD xs j 0) ys → r ≡ false → j < length xs → disjoint (drop (j + 1) xs) ys ≡ disjoint xs ys
-  unfolding disjoint
-  apart-miss r f t h = rw (left xs j 0 h, ← f, t) at e
-
-  pub apart-end : length xs ≤ j → true ≡ disjoint xs ys
-  unfolding disjoint
-  apart-end h = rw (drop-of-length-le xs h) at e
-
--- ---- two walked arrays
-
-mid : (c : ℕ) (xs : List ℕ) → 2 ≤ c → c ≤ length xs → take (c - 1 - 1) (drop 1 xs) ≡ middle (take c xs)
-unfolding middle
-mid zero xs p h = let z : ⊥ = omega arith in absurd z
-mid (suc c) [] p h = let z : ⊥ = omega arith in absurd z
-mid (suc c) (x ∷ xs) p h =
-    let e : length (take c xs) ≡ c = length-take-le c xs (omega arith) in
-    let f : suc c - 1 - 1 ≡ suc (length (take c xs)) - 2 = omega arith in
-    rw f (sym (take-take (suc (length (take c xs)) - 2) c xs (omega arith)))
-
-pub switches-long : (w : Walked) → Arrived w → w .count - 1 ≡ length (take (w .count - 1) (w .switches))
-switches-long w h = sym (length-take-le (w .count - 1) (w .switches) (omega (arith, h .few, h .long-switches)))
-
-pub parallel-not : (u v : Walked) (r : Bool) → r ≡ disjoint (take (u .count - 1) (u .switches)) (take (v .count - 1) (v .switches)) → r ≡ false → false ≡ parallel u v
-unfolding parallel switchesIn
-parallel-not u v r e f = rw (← e, f)
-
-pub parallel-by : (u v : Walked) → Arrived u → Arrived v → (r q : Bool) → r ≡ disjoint (take (u .count - 1) (u .switches)) (take (v .count - 1) (v .switches)) → r ≡ true → q ≡ disjoint (take (u .count - 1 - 1) (drop 1 (u .servers))) (take (v .count - 1 - 1) (drop 1 (v .servers))) → q ≡ parallel u v
-unfolding parallel switchesIn between
-parallel-by u v hu hv r q e f g =
-    rw (← e, f)
-    (g ∙ ap₂ disjoint (mid (u .count) (u .servers) (hu .some) (omega (arith, hu .few, hu .long-servers))) (mid (v .count) (v .servers) (hv .some) (omega (arith, hv .few, hv .long-servers))))
+use Rattle.verdict.specs.declared.Meeting.{Meeting}
+use Rattle.verdict.specs.Checks.{parallel, meeting, firstMeeting, firstPair, firstOf}
+use Rattle.verdict.specs.Arrived.{pastEnd, Arrived, AllArrived, meetingOf}
+use Rattle.verdict.proofs.MeetingLaws.{meeting-none, meeting-some, meeting-told}
 
 -- ---- one walked array against those after it
 
@@ -65,20 +27,22 @@ from j m ws h l =
 past : (j m : ℕ) (ws : List Walked) → m ≤ j → drop j (take m ws) ≡ []
 past j m ws h = let e : length (take m ws) ≤ j = omega (arith, length-take m ws) in drop-of-length-le (take m ws) e
 
--- the arrays after place i, from place j on
-module _ (w : Walked) (i j m : ℕ) (ws : List Walked) (e : firstMeeting w (j + 1) (drop j (take m ws)) ≡ firstMeeting w (i + 1 + 1) (drop (i + 1) (take m ws))) where
-  module _ (r : Bool) (f : r ≡ parallel w (getD ws j pastEnd)) (p : AllArrived m ws) (q : m ≤ 4) (h : j < m) where
-    meets : firstMeeting w (j + 1) (drop j (take m ws)) ≡ cond r (firstMeeting w (j + 1 + 1) (drop (j + 1) (take m ws))) (refusedAt 15 (j + 1) 0)
+-- the arrays after place i, from place j on; x is where w meets the one at j
+module _ (w : Walked) (i j m : ℕ) (ws : List Walked) (e : firstMeeting (i + 1) w (j + 1) (drop j (take m ws)) ≡ firstMeeting (i + 1) w (i + 1 + 1) (drop (i + 1) (take m ws))) where
+  module _ (x : Meeting) (f : x ≡ meetingOf w (getD ws j pastEnd)) (p : AllArrived m ws) (q : m ≤ 4) (h : j < m) where
+    at : firstMeeting (i + 1) w (j + 1) (drop j (take m ws)) ≡ cond (parallel w (getD ws j pastEnd)) (firstMeeting (i + 1) w (j + 1 + 1) (drop (j + 1) (take m ws))) (meeting (i + 1) w (j + 1) (getD ws j pastEnd))
     unfolding firstMeeting
-    meets = rw (from j m ws h (omega (arith, p .long)), ← f)
+    at = rw (from j m ws h (omega (arith, p .long)))
 
-    pub meeting-on : r ≡ true → firstMeeting w (j + 1 + 1) (drop (j + 1) (take m ws)) ≡ firstMeeting w (i + 1 + 1) (drop (i + 1) (take m ws))
-    meeting-on t = sym (meets ∙ rw t) ∙ e
+    pub meeting-on : x .hop ≡ 0 → firstMeeting (i + 1) w (j + 1 + 1) (drop (j + 1) (take m ws)) ≡ firstMeeting (i + 1) w (i + 1 + 1) (drop (i + 1) (take m ws))
+    meeting-on z = sym (at ∙ rw (meeting-none w (getD ws j pastEnd) x f z)) ∙ e
 
-    pub meeting-here : {x : Refusal} → r ≡ false → x ≡ refusedAt 15 (j + 1) 0 → x ≡ firstMeeting w (i + 1 + 1) (drop (i + 1) (take m ws))
-    meeting-here t g = g ∙ sym (meets ∙ rw t) ∙ e
+    pub meeting-here : (x .hop ≡ 0 → ⊥) → (r : Refusal) → r ≡ refusedAt 15 (j + 1) (x .other) → (y : Refusal) → y ≡ withEarlier (i + 1) (x .hop) r → y ≡ firstMeeting (i + 1) w (i + 1 + 1) (drop (i + 1) (take m ws))
+    meeting-here n r g y k =
+        let t = meeting-some w (getD ws j pastEnd) x f n in
+        k ∙ ap (withEarlier (i + 1) (x .hop)) g ∙ meeting-told w (getD ws j pastEnd) x f n (i + 1) (j + 1) ∙ sym (at ∙ rw t) ∙ e
 
-  pub meeting-end : {x : Refusal} → m ≤ j → x ≡ none → x ≡ firstMeeting w (i + 1 + 1) (drop (i + 1) (take m ws))
+  pub meeting-end : {x : Refusal} → m ≤ j → x ≡ none → x ≡ firstMeeting (i + 1) w (i + 1 + 1) (drop (i + 1) (take m ws))
   unfolding firstMeeting
   meeting-end h g = g ∙ rw (past j m ws h) at e
 
@@ -94,7 +58,7 @@ first-right r q h = rw (eq-eqb (r .number) 0 h)
 
 -- the pairs from place j on
 module _ (j m : ℕ) (ws : List Walked) (e : firstPair (j + 1) (drop j (take m ws)) ≡ firstPair 1 (take m ws)) where
-  module _ (r : Refusal) (f : r ≡ firstMeeting (getD ws j pastEnd) (j + 1 + 1) (drop (j + 1) (take m ws))) (p : AllArrived m ws) (q : m ≤ 4) (h : j < m) where
+  module _ (r : Refusal) (f : r ≡ firstMeeting (j + 1) (getD ws j pastEnd) (j + 1 + 1) (drop (j + 1) (take m ws))) (p : AllArrived m ws) (q : m ≤ 4) (h : j < m) where
     pair-at : firstOf r (firstPair (j + 1 + 1) (drop (j + 1) (take m ws))) ≡ firstPair 1 (take m ws)
     unfolding firstPair
     pair-at = rw (from j m ws h (omega (arith, p .long)), ← f) at e

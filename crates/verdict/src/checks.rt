@@ -28,7 +28,7 @@ fn list_refusal(shape: Shape, table: &[u8], source: usize, destination: usize, l
     0
 }
 
-// Walks each array in list order, then holds every two against each other. Refusals 8 to 15.
+// Walks each array in list order, then holds every two against each other. Refusals 8 to 11, 28, 29, 13 to 15.
 fn check_arrays(
     shape: Shape,
     table: &[u8],
@@ -62,8 +62,9 @@ fn check_arrays(
 }
 
 // Checks a list of arrays, one after another, as routes from source to destination over the live
-// links of the table: no refusal where it is accepted. Refusals 1, 2, 26, 3 to 7; 8 to 14 at a route
-// and hop; 15 at the later route of the first pair that is not parallel.
+// links of the table: no refusal where it is accepted. Refusals 1, 2, 26, 3 to 7; 8 to 11, 28, 29, 13, 14 at a
+// route and hop; 15 at the later route of the first pair that is not parallel, at its hop where they first meet, with
+// the earlier route and its hop there.
 pub fn check_list(
     shape: Shape,
     table: &[u8],

@@ -1,44 +1,90 @@
 // Every two routes held against each other.
 ghost use mathlib.Core.Path.{_≡_};
 ghost use Prim.Native.Nat.{_≤_, _<_, _+_};
-ghost use lib.ListN.{take, drop, getD};
-ghost use Rattle.verdict.specs.Checks.{parallel, firstMeeting, firstPair};
-ghost use Rattle.verdict.specs.Arrived.{Arrived, AllArrived, pastEnd};
-use crate::shares::are_disjoint;
+ghost use lib.ListN.{length, take, drop, getD};
+ghost use Rattle.verdict.specs.Checks.{hopsIn, metAt, firstMeeting, firstPair};
+ghost use Rattle.verdict.specs.Arrived.{Arrived, AllArrived, pastEnd, firstMet, meetingOf};
+use crate::Meeting;
 use path::Walked;
+use path::place_in;
 use refusals::Refusal;
 
-// Whether two walked arrays share no switch and no server other than the ends.
-fn are_parallel(one: Walked, other: Walked) -> bool
+// Hop i uses the switch used[i] and leads to the server met[i]; the last leads to none of them. The first hop that uses
+// a switch or leads to a server. Past all where none does.
+fn first_met(used: &[usize], met: &[usize], switch: usize, server: usize) -> usize
+    requires { ⌜ length (now used) ≡ length (now met) + 1 ⌝ }
+    ensures { λ r. ⌜ r ≡ firstMet (now (used .entry)) (now (met .entry)) switch server ⌝ }
+{
+    let mut i: usize = 0;
+    while i < met.len() {
+        if used[i] == switch {
+            return i;
+        }
+        if met[i] == server {
+            return i;
+        }
+        i += 1;
+    }
+    if used[i] == switch {
+        return i;
+    }
+    i + 1
+}
+
+// The place of the first hop of the other walked array that meets the hop at place i of this one: it uses its switch, or
+// leads to its server, which is no end. Past all where none does.
+fn met_at(one: Walked, other: Walked, i: usize) -> usize
+    requires { ⌜ Arrived one × Arrived other × (i < hopsIn one) ⌝ }
+    ensures { λ r. ⌜ r ≡ metAt one other i ⌝ }
+{
+    let last = other.count - 1;
+    let used = one.switches;
+    let other_used = other.switches;
+    let next = i + 1;
+    if next < one.count - 1 {
+        let met = one.servers;
+        let other_met = other.servers;
+        return first_met(&other_used[..last], &other_met[1..last], used[i], met[next]);
+    }
+    place_in(&other_used[..last], used[i])
+}
+
+// The hops where two walked arrays first meet, by the first one's, then the other's; zeros where they are parallel.
+fn meeting_of(one: Walked, other: Walked) -> Meeting
     requires { ⌜ Arrived one × Arrived other ⌝ }
-    ensures { λ r. ⌜ r ≡ parallel one other ⌝ }
+    ensures { λ r. ⌜ r ≡ meetingOf one other ⌝ }
 {
     let hops = one.count - 1;
     let other_hops = other.count - 1;
-    let used = one.switches;
-    let other_used = other.switches;
-    if are_disjoint(&used[..hops], &other_used[..other_hops]) {
-        let met = one.servers;
-        let other_met = other.servers;
-        return are_disjoint(&met[1..hops], &other_met[1..other_hops]);
+    let mut i: usize = 0;
+    while i < hops {
+        let place = met_at(one, other, i);
+        if place < other_hops {
+            return Meeting {
+                hop: i + 1,
+                other: place + 1,
+            };
+        }
+        i += 1;
     }
-    false
+    Meeting { hop: 0, other: 0 }
 }
 
 // The first of the walked arrays after place i that is not parallel to the one at i: 15.
 fn first_meeting(walks: [Walked; 4], count: usize, i: usize) -> Refusal
     requires { ⌜ (count ≤ 4) × (i < count) × AllArrived count walks ⌝ }
-    ensures { λ r. ⌜ r ≡ firstMeeting (getD walks i pastEnd) (i + 1 + 1) (drop (i + 1) (take count walks)) ⌝ }
+    ensures { λ r. ⌜ r ≡ firstMeeting (i + 1) (getD walks i pastEnd) (i + 1 + 1) (drop (i + 1) (take count walks)) ⌝ }
 {
     let one = walks[i];
     let mut j = i + 1;
     while j < count {
         let other = walks[j];
-        if are_parallel(one, other) {
-            j += 1;
-        } else {
-            return Refusal::at(Refusal::NOT_PARALLEL, j + 1, 0);
+        let meeting = meeting_of(one, other);
+        if meeting.hop != 0 {
+            let refusal = Refusal::at(Refusal::NOT_PARALLEL, j + 1, meeting.other);
+            return refusal.with_earlier(i + 1, meeting.hop);
         }
+        j += 1;
     }
     Refusal::none()
 }

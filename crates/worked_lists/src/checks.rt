@@ -1,7 +1,13 @@
 // Lists of arrays: checked.
 use room::Shape;
 
-fn check_row(shape: Shape, table: &[u8], source: usize, destination: usize, list: &[u8]) {
+pub(crate) fn check_row(
+    shape: Shape,
+    table: &[u8],
+    source: usize,
+    destination: usize,
+    list: &[u8],
+) {
     print::question(b"check", shape);
     print::bytes(table);
     print::item(source);
@@ -89,54 +95,30 @@ pub(crate) fn healthy() {
     check_row(Shape::full(4, 0), &table, 0, 1, b"");
 }
 
-// A server between the ends that is shared while no switch is, and the other way round.
-pub(crate) fn shared() {
-    let shape = Shape::full(2, 3);
+// A server met again and a switch used again, by the first array and by the second; 11 comes before both.
+pub(crate) fn repeats() {
+    let shape = Shape::full(4, 1);
     let table = [0u8; 16];
+    let round = b"\x01\x41\0\x40\0\0\0\0";
+    check_row(shape, &table, 0, 7, round);
     check_row(
         shape,
         &table,
         0,
         15,
-        b"\x01\x41\x81\xc1\0\0\0\0\x41\x01\xc1\x81\0\0\0\0",
+        b"\x03\x43\0\0\0\0\0\0\x01\x41\x02\x40\x01\0\0\0",
     );
     check_row(
         shape,
         &table,
         0,
         15,
-        b"\x01\x41\x81\xc1\0\0\0\0\x41\x81\xc1\x01\0\0\0\0",
+        b"\x03\x43\0\0\0\0\0\0\x01\x41\x02\x40\x03\0\0\0",
     );
-    check_row(
-        shape,
-        &table,
-        0,
-        3,
-        b"\x01\x41\0\0\0\0\0\0\x41\x01\0\0\0\0\0\0\x81\x01\x41\x80\0\0\0\0",
-    );
-    check_row(
-        shape,
-        &table,
-        0,
-        3,
-        b"\x01\x41\0\0\0\0\0\0\x41\x01\0\0\0\0\0\0\x41\x01\0\0\0\0\0\0\x01\x41\0\0\0\0\0\0",
-    );
-    let wide = Shape::full(3, 1);
-    let healthy = [0u8; 9];
-    check_row(
-        wide,
-        &healthy,
-        0,
-        8,
-        b"\x01\x41\x02\x42\0\0\0\0\x42\x02\0\0\0\0\0\0",
-    );
-    check_row(
-        wide,
-        &healthy,
-        0,
-        8,
-        b"\x42\x02\0\0\0\0\0\0\x02\x42\0\0\0\0\0\0",
-    );
+    let source = [2u8, 0, 0, 0, 0, 0, 0, 0, 0, 0, 0, 0, 0, 0, 0, 0];
+    check_row(shape, &source, 0, 7, round);
+    let new = [0u8, 0, 0, 1, 0, 0, 0, 0, 0, 0, 0, 0, 0, 0, 0, 0];
+    check_row(shape, &new, 0, 15, b"\x01\x41\x02\x40\x03\0\0\0");
 }
 
 // Failed links: the sender's, the receiver's, a link beside the route; and tables that are refused.

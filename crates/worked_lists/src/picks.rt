@@ -25,7 +25,8 @@ fn pick_row<'a>(
     print::end();
 }
 
-// Fresh before kept, the first that is usable, either list empty, and every refusal in its order.
+// Fresh before kept, the first that is usable, either list empty, lists that meet servers or switches again, which say no more
+// than 16, and every refusal in its order.
 pub(crate) fn picks() {
     let shape = Shape::full(4, 1);
     let table = [0u8; 16];
@@ -70,6 +71,22 @@ pub(crate) fn picks() {
         7,
         b"\x41\x43\0\0\0\0\0\0",
         b"\x41\x43\0\0\0\0\0\0",
+    );
+    pick_row(
+        shape,
+        &table,
+        0,
+        7,
+        b"\x01\0\x03\x41\0\0\0\0",
+        b"\x41\x43\x03\x41\0\0\0\0",
+    );
+    pick_row(
+        shape,
+        &table,
+        0,
+        7,
+        b"\x01\0\x03\x41\0\0\0\0",
+        b"\x03\x41\0\0\0\0\0\0\x03\x41\0\0\0\0\0\0",
     );
     pick_row(shape, &table, 0, 7, b"\x41\x03\0\0\0\0\0", b"");
     pick_row(

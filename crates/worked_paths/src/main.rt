@@ -20,7 +20,9 @@ fn main() {
     hops::back();
     paths::readings();
     paths::refused_readings();
+    paths::repeats();
     paths::writings();
+    paths::repeated_writings();
     paths::half_filled_readings();
     paths::half_filled_writings();
     steps::steps();

@@ -126,6 +126,8 @@ pub(crate) fn no_routes() {
     let four = Shape::full(4, 1);
     let eight = Shape::full(8, 3);
     trace_row(four, 0, 3, b"\x01\x03\0\0\0\0\0\0");
+    trace_row(four, 0, 3, b"\x01\x41\0\x40\x03\0\0\0");
+    trace_row(four, 0, 3, b"\x01\x41\x02\x40\x03\0\0\0");
     trace_row(four, 0, 5, b"\x41\x01\x02\0\0\0\0\0");
     trace_row(four, 0, 5, b"\x41\x41\0\0\0\0\0\0");
     trace_row(four, 5, 5, b"\x41\x41\0\0\0\0\0\0");

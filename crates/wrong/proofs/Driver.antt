@@ -8,7 +8,7 @@ use native.Mathlib.Omega.{arith}
 use native.Mathlib.Decide.{ℕ-discrete}
 use lib.Dec.{eqb}
 use lib.ListN.{length, getD, take}
-use Rattle.lists.specs.Lists.{filled, isIn, same, inTurn, middle}
+use Rattle.lists.specs.Lists.{filled, isIn, firstWhere, placeIn, same, inTurn, middle}
 use Rattle.refusals.specs.declared.Refusal.{Refusal}
 use Rattle.refusals.specs.Refusals.{plain, _or-else_}
 use Rattle.room.specs.declared.Shape.{Shape}
@@ -26,10 +26,10 @@ use Rattle.summary.specs.Counts.{numbered, switchesBelow, switchesIn as switche
 use Rattle.summary.specs.Refusals.{hasEntries, isCounted, areCounted, countedLinkRefusal, countedServerRefusal, summaryRefusal, entriesRefusal}
 use Rattle.summary.specs.Answers.{linkAnswer, linkTable, linkSummary, allBits, changedServer, serverAnswer, serverTable, serverSummary, firstDead, deadAnswer, freshAnswer, freshSummary}
 use Rattle.path.specs.Routes.{byteOf, switchAt, levelTo, switchTo, byteTo, encode, RouteTo}
-use Rattle.path.specs.Walks.{stopped, arrived, hopTo, hopRefusal, fault, ended, walkFrom, walk, writeFault, writeFrom}
+use Rattle.path.specs.Walks.{stopped, arrived, hopTo, hopRefusal, again, earlierOf, fault, ended, walkFrom, walk, writeFault, writeFrom}
 use Rattle.path.specs.Bytes.{madeRefusal, byteAnswer, partsRefusal, partsAnswer}
 use Rattle.path.specs.Answers.{hopFrom, hopAnswer, arrayRefusal, walkAnswer, readAnswer, reverseAnswer, serversRefusal, writeRefusal, onTheWay, writeAnswer}
-use Rattle.verdict.specs.Checks.{arrays, disjoint, switchesIn, between, parallel, firstStop, firstMeeting, firstOf, firstPair, listRefusal, walksOf, checkAnswer}
+use Rattle.verdict.specs.Checks.{arrays, disjoint, switchesIn, between, parallel, sameAt, meets, metAt, meetsFirst, meeting, firstStop, firstMeeting, firstOf, firstPair, listRefusal, walksOf, checkAnswer}
 use Rattle.build.specs.Built.{plusOne, builtHops, bytesOf as builtBytesOf, builtBytes, builtArrays}
 use Rattle.build.specs.Sets.{joined, setOf, arrayIn}
 use Rattle.build.specs.Answers.{buildAnswer}
@@ -56,7 +56,7 @@ use Rattle.driver.proofs.RouteSmall.{find-small, select-small}
 use Rattle.wrong.specs.Never.{Loan}
 use Rattle.wrong.specs.Examples.{array, failing, direct, tied, stale}
 use Rattle.wrong.specs.Driver.{Driver}
-use Rattle.wrong.proofs.Clash.{differ, clash, clash-left, bit}
+use Rattle.wrong.proofs.Clash.{differ, clash, clash-left, tells, bit}
 use Rattle.wrong.proofs.Routes.{Walks, walks}
 use Rattle.wrong.proofs.Finder.{no-route, beaten, fewest, no-refusal, some-hops}
 use Rattle.wrong.proofs.Select.{straight, first-walks, one-route, slot-1-first}
@@ -86,7 +86,7 @@ module _ {s : Shape} {t : List ℕ} {a d : ℕ} {w : Answer} {lent path vs xs : 
   find-fewest l = fewest taken some (x .finding) k (omega (arith, hops))
 
   -- its bytes are written: a route, and one that vs does not come before
-  find-no-route : {bs : List ℕ} {q i : ℕ} → walk s t a d bs ≡ stopped q i → path ≡ bs → ⊥
+  find-no-route : {bs : List ℕ} {q : Refusal} → walk s t a d bs ≡ stopped q → path ≡ bs → ⊥
   find-no-route c e = no-route taken some (x .finding) (ap (walk s t a d) (written e) ∙ c)
 
   find-beaten : {bs us ws : List ℕ} → walk s t a d bs ≡ arrived us ws → Before s vs us → path ≡ bs → ⊥
@@ -95,7 +95,7 @@ module _ {s : Shape} {t : List ℕ} {a d : ℕ} {w : Answer} {lent path vs xs : 
 -- ---- the search, where there may be none
 
 -- the bytes that it writes are zeros or walk to the destination
-find-nothing : {s : Shape} {t : List ℕ} {a d : ℕ} {w : Answer} {lent path bs : List ℕ} {q i : ℕ} → roomRefusal s t a d ≡ 0 → FoundWord s t a d w lent path → walk s t a d bs ≡ stopped q i → eqb 0 (getD bs 0 0) ≡ false → path ≡ bs → ⊥
+find-nothing : {s : Shape} {t : List ℕ} {a d : ℕ} {w : Answer} {lent path bs : List ℕ} {q : Refusal} → roomRefusal s t a d ≡ 0 → FoundWord s t a d w lent path → walk s t a d bs ≡ stopped q → eqb 0 (getD bs 0 0) ≡ false → path ≡ bs → ⊥
 find-nothing {s} {t} {a} {d} {lent = lent} taken x c n e =
     elim (ℕ-discrete (x .answer .hops) 0) [
       | yes z ↦ clash-left 0 n (x .leaves ∙ ap (λ (y : Found). left (y .refusal .number) lent (y .bytes)) (x .finding .none taken z .0)) e
@@ -115,7 +115,7 @@ module _ {s : Shape} {t : List ℕ} {a d : ℕ} {w : Answer} {lent routes : List
   count = ap valueIn (x .says) ∙ value-back (x .answer .refusal) (x .answer .routes .count) (select-small (x .answer) (x .selecting))
 
   -- what it writes begins with a route, where it is not what was lent
-  select-first-walks : {bs : List ℕ} {q i : ℕ} → walk s t a d (take 8 bs) ≡ stopped q i → eqb (getD lent 0 0) (getD bs 0 0) ≡ false → routes ≡ bs → ⊥
+  select-first-walks : {bs : List ℕ} {q : Refusal} → walk s t a d (take 8 bs) ≡ stopped q → eqb (getD lent 0 0) (getD bs 0 0) ≡ false → routes ≡ bs → ⊥
   unfolding arrayIn
   select-first-walks c n e =
       elim (ℕ-discrete (x .answer .refusal .number) 0) [
@@ -188,7 +188,7 @@ no-back c a d i bs es {y} h p o f =
 -- ---- all of them
 
 pub wrong-driver : (o q b : Loan) → Driver o q b
-unfolding serversOf bound digitsOf addressOf filled differFrom digits digit withDigit switchOf differing _or-else_ shapeRefusal levelRefusal serverRefusal pairRefusal linkRefusal valueRefusal placeBound placesFit placesRefusal serversAnswer boundAnswer digitsAnswer digitAnswer addressAnswer switchAnswer neighbourAnswer betweenAnswer links.bit links.failed links.live links.withBit links.changed links.bitsFit links.fitsLevels links.tableRefusal links.roomTableRefusal links.tableLinkRefusal links.tableServerRefusal failedAnswer numbered switchesBelow switchesInRoom placeOf countBelow countAt summaryOf isDead recounted recountedBelow hasEntries isCounted areCounted countedLinkRefusal countedServerRefusal summaryRefusal entriesRefusal linkAnswer linkTable linkSummary allBits changedServer serverAnswer serverTable serverSummary firstDead deadAnswer freshAnswer freshSummary same isIn inTurn middle byteOf switchAt levelTo switchTo byteTo encode hopTo hopRefusal fault ended walkFrom walk writeFault writeFrom endsRefusal hopFrom hopAnswer arrayRefusal walkAnswer readAnswer reverseAnswer serversRefusal writeRefusal onTheWay writeAnswer arrays disjoint switchesIn between parallel firstStop firstMeeting firstOf firstPair roomRefusal listRefusal walksOf checkAnswer plusOne builtHops builtBytesOf builtBytes builtArrays joined setOf arrayIn buildAnswer hopBytes usable firstUsable firstUsableIn found fits listsRefusal pickSource pickRefusal placeAnswer entry macAt portAt flagAt givenRefusal byteRefusal awayRefusal stepRefusal atHop withPlace stepAnswer switchesAt serverAt portRefusal switchesAnswer serverAtAnswer madeRefusal byteAnswer partsRefusal partsAnswer held roomOf shapeIn word refusalIn valueIn betweenWord askedWord deadWord bytesNumber macNumber stepWord packed
+unfolding serversOf bound digitsOf addressOf filled differFrom digits digit withDigit switchOf differing _or-else_ shapeRefusal levelRefusal serverRefusal pairRefusal linkRefusal valueRefusal placeBound placesFit placesRefusal serversAnswer boundAnswer digitsAnswer digitAnswer addressAnswer switchAnswer neighbourAnswer betweenAnswer links.bit links.failed links.live links.withBit links.changed links.bitsFit links.fitsLevels links.tableRefusal links.roomTableRefusal links.tableLinkRefusal links.tableServerRefusal failedAnswer numbered switchesBelow switchesInRoom placeOf countBelow countAt summaryOf isDead recounted recountedBelow hasEntries isCounted areCounted countedLinkRefusal countedServerRefusal summaryRefusal entriesRefusal linkAnswer linkTable linkSummary allBits changedServer serverAnswer serverTable serverSummary firstDead deadAnswer freshAnswer freshSummary same isIn firstWhere placeIn inTurn middle byteOf switchAt levelTo switchTo byteTo encode hopTo hopRefusal again earlierOf fault ended walkFrom walk writeFault writeFrom endsRefusal hopFrom hopAnswer arrayRefusal walkAnswer readAnswer reverseAnswer serversRefusal writeRefusal onTheWay writeAnswer arrays disjoint switchesIn between parallel sameAt meets metAt meetsFirst meeting firstStop firstMeeting firstOf firstPair roomRefusal listRefusal walksOf checkAnswer plusOne builtHops builtBytesOf builtBytes builtArrays joined setOf arrayIn buildAnswer hopBytes usable firstUsable firstUsableIn found fits listsRefusal pickSource pickRefusal placeAnswer entry macAt portAt flagAt givenRefusal byteRefusal awayRefusal stepRefusal atHop withPlace stepAnswer switchesAt serverAt portRefusal switchesAnswer serverAtAnswer madeRefusal byteAnswer partsRefusal partsAnswer held roomOf shapeIn word refusalIn valueIn betweenWord askedWord deadWord bytesNumber macNumber stepWord packed
 wrong-driver o q b =
     record {
       version-in-bytes = clash (λ y. y) refl;
@@ -440,12 +440,21 @@ wrong-driver o q b =
       read-four-for-nine = λ κ x p. differ said refl (p .0);
       read-by-value-3-refused = λ κ x p. differ said refl (p .0);
       read-in-the-full-room = λ κ x p. differ said refl (p .0);
+      read-earlier-byte-zero = λ κ x p. differ said refl (p .0);
+      read-earlier-halves-exchanged = λ κ x p. differ said refl (p .0);
+      read-hop-bytes-exchanged = λ κ x p. differ said refl (p .0);
+      read-earlier-as-value = λ κ x p. differ said refl (p .0);
+      read-count-told-with-29 = λ κ x p. differ said refl (p .0);
       write-nine-refused = λ κ x p. differ said refl (p .0);
       write-place-one-off = λ κ x p. differ said refl (p .0);
       write-position-low = λ κ r x p. clash-left 0 refl (p .1);
       write-not-written = λ κ r x p. clash-left 0 refl (p .1);
       write-touched = λ κ r x p. clash-left 0 refl (p .1);
       written-in-the-full-room = λ κ r x p. clash-left 0 refl (p .1);
+      write-earlier-byte-zero = λ κ x p. differ said refl (p .0);
+      write-earlier-halves-exchanged = λ κ x p. differ said refl (p .0);
+      write-hop-bytes-exchanged = λ κ x p. differ said refl (p .0);
+      write-earlier-as-value = λ κ x p. differ said refl (p .0);
       reverse-read-from-destination = λ κ x p. differ said refl (p .0);
       reverse-hops-told = λ κ x p. differ said refl (p .0);
       reverse-is-identity = λ κ r x p. clash-left 0 refl (p .1);
@@ -466,13 +475,25 @@ wrong-driver o q b =
       reversed-by-value-m = λ κ r x p. clash-left 0 refl (p .1);
       reverse-by-value-3-refused = λ κ x p. differ said refl (p .0);
       reversed-in-the-full-room = λ κ r x p. clash-left 0 refl (p .1);
+      reverse-earlier-byte-zero = λ κ x p. differ said refl (p .0);
+      reverse-earlier-halves-exchanged = λ κ x p. differ said refl (p .0);
+      reverse-hop-bytes-exchanged = λ κ x p. differ said refl (p .0);
+      reverse-earlier-as-value = λ κ x p. differ said refl (p .0);
       check-middle-servers-only = clash said refl;
-      check-earlier-of-the-pair = clash said refl;
+      check-earlier-of-the-pair = λ κ r x. tells (λ (y : Answer). refusalIn y .route) refl;
       check-receiver-forgotten = clash said refl;
       check-full-table-accepted = clash said refl;
       check-half-filled-table-refused = clash said refl;
       check-value-m-accepted = clash said refl;
       check-value-3-refused = clash said refl;
+      check-server-again-before-link = clash said refl;
+      check-earlier-byte-zero = clash said refl;
+      check-earlier-halves-exchanged = clash said refl;
+      check-earlier-by-tens = clash said refl;
+      check-earlier-route-alone = clash said refl;
+      check-earlier-hop-alone = clash said refl;
+      check-earlier-in-two-bytes = clash said refl;
+      check-earlier-as-value = clash said refl;
       build-room-counted = λ κ x p. differ said refl (p .0);
       build-same-ends = λ κ x p. differ said refl (p .0);
       build-lower-slots-first = λ κ r x p. clash-left 0 refl (p .1);

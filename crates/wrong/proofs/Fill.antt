@@ -34,7 +34,7 @@ use Rattle.path.specs.declared.Walked.{Walked}
 use Rattle.path.specs.declared.Reading.{Reading}
 use Rattle.path.specs.declared.Writing.{Writing}
 use Rattle.path.specs.Routes.{byteOf}
-use Rattle.path.specs.Walks.{hopTo, hopRefusal, fault, ended, walkFrom, walk, writeFault, writeFrom}
+use Rattle.path.specs.Walks.{hopTo, hopRefusal, again, fault, ended, walkFrom, walk, writeFault, writeFrom}
 use Rattle.path.specs.Bytes.{madeRefusal, byteAnswer, partsRefusal, partsAnswer}
 use Rattle.path.specs.Answers.{arrayRefusal, walkAnswer, readAnswer, reverseAnswer, hopFrom, hopAnswer, serversRefusal, writeRefusal, onTheWay, writeAnswer}
 use Rattle.verdict.specs.Checks.{listRefusal, checkAnswer}
@@ -100,7 +100,7 @@ abbrev said : Answer → ℕ
 said y = refusalIn y .number
 
 pub wrong-fill : (o q b : Loan) → Fill o q b
-unfolding serversOf bound digitsOf addressOf filled differFrom digits digit withDigit switchOf differing _or-else_ shapeRefusal levelRefusal serverRefusal pairRefusal linkRefusal valueRefusal placeBound placesFit placesRefusal serversAnswer boundAnswer digitsAnswer digitAnswer addressAnswer switchAnswer neighbourAnswer betweenAnswer links.bit links.failed links.live links.tableRefusal links.tableLinkRefusal links.tableServerRefusal links.roomTableRefusal failedAnswer countedLinkRefusal countedServerRefusal summaryRefusal entriesRefusal linkAnswer serverAnswer deadAnswer freshAnswer isIn byteOf hopTo hopRefusal fault ended walkFrom walk writeFault writeFrom endsRefusal hopFrom hopAnswer arrayRefusal walkAnswer readAnswer reverseAnswer serversRefusal writeRefusal onTheWay writeAnswer roomRefusal listRefusal checkAnswer builtArrays setOf buildAnswer listsRefusal pickSource pickRefusal placeAnswer givenRefusal stepRefusal atHop withPlace stepAnswer switchesAt serverAt portRefusal switchesAnswer serverAtAnswer madeRefusal byteAnswer partsRefusal partsAnswer held roomOf shapeIn word refusalIn betweenWord askedWord deadWord stepWord packed layRefusal pickAnswer stepIn unpacked
+unfolding serversOf bound digitsOf addressOf filled differFrom digits digit withDigit switchOf differing _or-else_ shapeRefusal levelRefusal serverRefusal pairRefusal linkRefusal valueRefusal placeBound placesFit placesRefusal serversAnswer boundAnswer digitsAnswer digitAnswer addressAnswer switchAnswer neighbourAnswer betweenAnswer links.bit links.failed links.live links.tableRefusal links.tableLinkRefusal links.tableServerRefusal links.roomTableRefusal failedAnswer countedLinkRefusal countedServerRefusal summaryRefusal entriesRefusal linkAnswer serverAnswer deadAnswer freshAnswer isIn byteOf hopTo hopRefusal again fault ended walkFrom walk writeFault writeFrom endsRefusal hopFrom hopAnswer arrayRefusal walkAnswer readAnswer reverseAnswer serversRefusal writeRefusal onTheWay writeAnswer roomRefusal listRefusal checkAnswer builtArrays setOf buildAnswer listsRefusal pickSource pickRefusal placeAnswer givenRefusal stepRefusal atHop withPlace stepAnswer switchesAt serverAt portRefusal switchesAnswer serverAtAnswer madeRefusal byteAnswer partsRefusal partsAnswer held roomOf shapeIn word refusalIn betweenWord askedWord deadWord stepWord packed layRefusal pickAnswer stepIn unpacked
 wrong-fill o q b =
     record {
       shape-refusal = λ s v m κ y x. never (λ y. y) shapeRefusal refl s v m;

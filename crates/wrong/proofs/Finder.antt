@@ -7,6 +7,7 @@ use native.Mathlib.Omega.{arith}
 use native.Mathlib.Decide.{ℕ-discrete}
 use lib.ListN.{length}
 use Rattle.lists.specs.Lists.{isIn, inTurn, filled}
+use Rattle.refusals.specs.declared.Refusal.{Refusal}
 use Rattle.refusals.specs.Refusals.{_or-else_}
 use Rattle.room.specs.declared.Shape.{Shape}
 use Rattle.room.specs.Shapes.{serversOf, bound}
@@ -15,7 +16,7 @@ use Rattle.room.specs.Addresses.{digits, digit, withDigit, switchOf, differing}
 use Rattle.room.specs.Refusals.{shapeRefusal, serverRefusal, pairRefusal, endsRefusal}
 use Rattle.links.specs.Table.{bit, failed, live, bitsFit, fitsLevels, tableRefusal, roomRefusal}
 use Rattle.path.specs.Routes.{byteOf, switchAt, levelTo, byteTo, encode}
-use Rattle.path.specs.Walks.{stopped, arrived, hopTo, hopRefusal, fault, ended, walkFrom, walk}
+use Rattle.path.specs.Walks.{stopped, arrived, hopTo, hopRefusal, again, fault, ended, walkFrom, walk}
 use Rattle.finder.specs.declared.Found.{Found}
 use Rattle.finder.specs.Alternates.{hopBytes, Before}
 use Rattle.finder.specs.Answers.{GivesAlternate, Finding}
@@ -33,7 +34,7 @@ module _ {s : Shape} {t : List ℕ} {a d : ℕ} {r : Found} (taken : roomRefusal
   bytes = ap (λ (x : Found). x .bytes) (given .answer)
 
   -- the answer is a route
-  pub no-route : {q i : ℕ} → walk s t a d (r .bytes) ≡ stopped q i → ⊥
+  pub no-route : {q : Refusal} → walk s t a d (r .bytes) ≡ stopped q → ⊥
   no-route w = never-stops (given .alternate .route) bytes w
 
   -- no route comes before it
@@ -60,7 +61,7 @@ some-hops {r = r} {vs} e k h =
     elim (ℕ-discrete (r .hops) 0) [ yes z ↦ absurd (h .none e z .1 vs (k .route)) | no n ↦ omega arith ]
 
 pub wrong-finder : (o : Loan) → Finder o
-unfolding serversOf bound digitsOf addressOf differFrom digits digit withDigit switchOf differing _or-else_ shapeRefusal serverRefusal pairRefusal bit failed live bitsFit fitsLevels tableRefusal isIn inTurn filled byteOf switchAt levelTo byteTo hopTo hopRefusal fault ended walkFrom walk endsRefusal hopBytes roomRefusal
+unfolding serversOf bound digitsOf addressOf differFrom digits digit withDigit switchOf differing _or-else_ shapeRefusal serverRefusal pairRefusal bit failed live bitsFit fitsLevels tableRefusal isIn inTurn filled byteOf switchAt levelTo byteTo hopTo hopRefusal again fault ended walkFrom walk endsRefusal hopBytes roomRefusal
 wrong-finder o =
     record {
       lower-level-first = λ κ x h. beaten refl (omega arith) h refl (walks (array (0x81 ∷ 0x41 ∷ 0x01 ∷ [])) _ _ refl refl refl) (inr (refl, inl (inl (omega arith))));

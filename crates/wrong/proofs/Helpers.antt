@@ -1,7 +1,8 @@
 -- Wrong answers of the functions that serve the layers above them, refuted.
 use mathlib.Core.Path.{refl, sym, ap}
+use native.Mathlib.Omega.{arith}
 use Rattle.refusals.specs.declared.Refusal.{Refusal}
-use Rattle.refusals.specs.Refusals.{_or-else_}
+use Rattle.refusals.specs.Refusals.{earlierRoute, earlierHop, _or-else_}
 use Rattle.room.specs.declared.Side.{Side}
 use Rattle.room.specs.Shapes.{serversOf, bound, powerOf, serverCount}
 use Rattle.room.specs.Refusals.{shapeRefusal, serverRefusal, pairRefusal, endsRefusal}
@@ -17,6 +18,18 @@ wrong-helpers o =
     record {
       route-kept = λ r i j h n κ x e. n (ap (λ (y : Refusal). y .route) e);
       hop-lost = λ r i j h n κ x e. n (sym (ap (λ (y : Refusal). y .hop) e));
+      earlier-hop-lost = λ r i h j g k n κ x e. n (sym (ap earlierHop e));
+      earlier-route-lost = λ r i h j g k n κ x e. n (sym (ap earlierRoute e));
+      earlier-route-given = λ r i h j g k n κ x e. n (sym (ap earlierRoute e));
+      earlier-route-alone-given = λ r i h j g k n κ x e. n (ap (λ (y : Refusal). y .route) e);
+      earlier-route-not-set = λ y i h n κ x e. n (ap earlierRoute e);
+      earlier-hop-not-set = λ y i h n κ x e. n (ap earlierHop e);
+      earlier-exchanged = λ y i h n κ x e. n (ap earlierHop e);
+      earlier-hop-from-0 = λ y i h κ x e. omega (arith, ap earlierHop e);
+      own-route-set = λ y i h n κ x e. n (sym (ap (λ (z : Refusal). z .route) e));
+      own-hop-set = λ y i h n κ x e. n (sym (ap (λ (z : Refusal). z .hop) e));
+      own-hop-lost = λ y i h n κ x e. n (sym (ap (λ (z : Refusal). z .hop) e));
+      own-number-lost = λ y i h n κ x e. n (sym (ap (λ (z : Refusal). z .number) e));
       base-and-level-exchanged = clash (λ y. y) refl;
       level-4-taken = clash (λ y. y) refl;
       one-level-less = clash (λ y. y) refl;

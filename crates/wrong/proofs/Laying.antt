@@ -15,7 +15,7 @@ use Rattle.room.specs.Refusals.{shapeRefusal, levelRefusal, serverRefusal, pair
 use Rattle.room.proofs.RefusalLaws.{link-of}
 use Rattle.links.specs.Table.{bit, failed, live, bitsFit, fitsLevels, tableRefusal, roomRefusal}
 use Rattle.path.specs.Routes.{byteOf, switchAt, levelTo, switchTo, byteTo, switchesOf, encode}
-use Rattle.path.specs.Walks.{hopTo, hopRefusal, fault, ended, walkFrom, walk}
+use Rattle.path.specs.Walks.{hopTo, hopRefusal, again, fault, ended, walkFrom, walk}
 use Rattle.path.specs.Answers.{arrayRefusal, walkAnswer, readAnswer}
 use Rattle.laying.specs.Laid.{takes, taken}
 use Rattle.laying.specs.Answers.{layRefusal, Lays}
@@ -35,7 +35,7 @@ module _ {s : Shape} {t : List ℕ} {a d : ℕ} {bs : List ℕ} {r : Refusal} {u
       differ truth n (ap (λ (y : List ℕ). failed y x l) (sym q) ∙ p .laid (number ∙ z) vs (record { route = k .route; bytes = e }) .marks x l (link-of s x l h))
 
 pub wrong-laying : (o q : Loan) → Laying o q
-unfolding serversOf bound digitsOf addressOf differFrom digits digit withDigit switchOf differing _or-else_ shapeRefusal levelRefusal serverRefusal pairRefusal linkRefusal bit failed live bitsFit fitsLevels tableRefusal isIn inTurn middle filled byteOf switchAt levelTo switchTo byteTo switchesOf encode hopTo hopRefusal fault ended walkFrom walk endsRefusal arrayRefusal walkAnswer readAnswer takes taken roomRefusal layRefusal
+unfolding serversOf bound digitsOf addressOf differFrom digits digit withDigit switchOf differing _or-else_ shapeRefusal levelRefusal serverRefusal pairRefusal linkRefusal bit failed live bitsFit fitsLevels tableRefusal isIn inTurn middle filled byteOf switchAt levelTo switchTo byteTo switchesOf encode hopTo hopRefusal again fault ended walkFrom walk endsRefusal arrayRefusal walkAnswer readAnswer takes taken roomRefusal layRefusal
 wrong-laying o q =
     record {
       short-table-taken = λ κ x p. differ (λ (y : Refusal). y .number) refl (p .refusal);

@@ -15,3 +15,6 @@ pub mod Step
 pub mod DeskLine
 pub mod Driver
 pub mod Fill
+pub mod Earlier
+pub mod Again
+pub mod Meetings

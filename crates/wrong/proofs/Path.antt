@@ -1,10 +1,13 @@
 -- Wrong answers of `path`, refuted.
-use Prim.Native.Nat.{ℕ, zero, suc}
+use Prim.Native.Nat.{ℕ, zero, suc, _<_}
 use mathlib.Core.Path.{_≡_, refl, sym, ap, _∙_}
 use mathlib.Core.Logic.{_≢_}
-use lib.ListN.{getD}
-use Rattle.lists.specs.Lists.{isIn, inTurn, filled}
-use Rattle.refusals.specs.Refusals.{plain, refusedAt, _or-else_, answer}
+use mathlib.Core.List.{List}
+use native.Mathlib.Omega.{arith}
+use lib.ListN.{length, getD}
+use Rattle.lists.specs.Lists.{isIn, firstWhere, placeIn, inTurn, filled}
+use Rattle.lists.proofs.FirstPlaces.{place-most, place-there, place-before}
+use Rattle.refusals.specs.Refusals.{plain, refusedAt, earlierHop, _or-else_, answer}
 use Rattle.room.specs.declared.Shape.{Shape}
 use Rattle.room.specs.declared.Number.{Number}
 use Rattle.room.specs.Shapes.{serversOf, bound}
@@ -20,12 +23,18 @@ use Rattle.path.specs.declared.Reading.{Reading}
 use Rattle.path.specs.declared.Writing.{Writing}
 use Rattle.path.specs.Routes.{byteOf, levelOf, switchAt, levelTo, switchTo, byteTo, encode}
 use Rattle.path.specs.Bytes.{madeRefusal, byteAnswer, partsRefusal, partsAnswer}
-use Rattle.path.specs.Walks.{hopTo, hopRefusal, fault, ended, walkFrom, walk, writeFault, writeFrom}
+use Rattle.path.specs.Walks.{hopTo, hopRefusal, again, earlierOf, fault, ended, walkFrom, walk, writeFault, writeFrom}
 use Rattle.path.specs.Answers.{noHop, aHop, hopFrom, hopAnswer, arrayRefusal, walkAnswer, readAnswer, reverseAnswer, serversRefusal, writeRefusal, onTheWay, writeAnswer}
 use Rattle.path.proofs.HopLaws.{hop-exactly, hop-number, hop-made, hop-known, hop-neighbours}
 use Rattle.wrong.specs.Never.{Loan}
 use Rattle.wrong.specs.Path.{Path}
-use Rattle.wrong.proofs.Clash.{clash, bit}
+use Rattle.wrong.proofs.Clash.{clash}
+
+-- ---- any list
+
+-- at the place of x stands x, where it is in the list
+place-elsewhere : (x : ℕ) (xs : List ℕ) {p : ℕ} → p < length xs → getD xs p 0 ≢ x → p ≡ placeIn x xs → ⊥
+place-elsewhere x xs {p} l n e = n (ap (λ (i : ℕ). getD xs i 0) e ∙ place-there x xs (omega (arith, e)))
 
 -- ---- any hop
 
@@ -51,7 +60,7 @@ nothing-beside s a b {y} e n = go (serverRefusal s a) (hopRefusal s a b) e
 -- ---- all of them
 
 pub wrong-path : (o q : Loan) → Path o q
-unfolding serversOf bound digitsOf addressOf differFrom digits digit withDigit switchOf differing _or-else_ shapeRefusal serverRefusal pairRefusal links.bit links.failed links.live isIn inTurn filled byteOf switchAt levelTo switchTo byteTo encode hopTo hopRefusal fault ended walkFrom walk writeFault writeFrom hopFrom hopAnswer endsRefusal arrayRefusal walkAnswer readAnswer reverseAnswer serversRefusal writeRefusal onTheWay writeAnswer levelRefusal madeRefusal byteAnswer partsRefusal partsAnswer
+unfolding serversOf bound digitsOf addressOf differFrom digits digit withDigit switchOf differing _or-else_ shapeRefusal serverRefusal pairRefusal links.bit links.failed links.live isIn firstWhere placeIn inTurn filled byteOf switchAt levelTo switchTo byteTo encode hopTo hopRefusal again earlierOf fault ended walkFrom walk writeFault writeFrom hopFrom hopAnswer endsRefusal arrayRefusal walkAnswer readAnswer reverseAnswer serversRefusal writeRefusal onTheWay writeAnswer levelRefusal madeRefusal byteAnswer partsRefusal partsAnswer
 wrong-path o q =
     record {
       made-in-low-bits = clash (λ (y : Number). y .value) refl;
@@ -110,20 +119,33 @@ wrong-path o q =
       any-next-on-refusal = λ s a b y n h κ x e. h (nothing-beside s a b e n .0);
       any-level-on-refusal = λ s a b y n h κ x e. h (nothing-beside s a b e n .1);
       any-old-on-refusal = λ s a b y n h κ x e. h (nothing-beside s a b e n .2);
-      last-not-looked-at = clash bit refl;
-      first-not-looked-at = clash bit refl;
-      past-the-end = clash bit refl;
+      last-not-looked-at = clash (λ y. y) refl;
+      first-not-looked-at = clash (λ y. y) refl;
+      place-from-1 = clash (λ y. y) refl;
+      last-of-two-places = clash (λ y. y) refl;
+      missing-at-0 = clash (λ y. y) refl;
+      past-the-end = clash (λ y. y) refl;
+      any-place-of-another = λ xs x p l n κ y e. place-elsewhere x xs l n e;
+      any-later-place = λ xs x i p l f h κ y e. place-before x xs i (omega (arith, e)) f;
+      any-place-past-the-length = λ xs x p l κ y e. omega (arith, place-most x xs, e);
       same-ends-taken = clash (λ y. y) refl;
       destination-not-tested = clash (λ y. y) refl;
       same-ends-before-address = clash (λ y. y) refl;
       ends-in-the-full-room = clash (λ y. y) refl;
       receiver-forgotten = clash (λ (y : Walked). y .refusal .number) refl;
       zero-byte-is-the-end = clash (λ (y : Walked). y .refusal .number) refl;
-      twelve-for-thirteen = clash (λ (y : Walked). y .refusal .number) refl;
+      server-again-for-thirteen = λ g. clash (λ (y : Walked). y .refusal .number) refl;
+      switch-again-for-thirteen = λ g. clash (λ (y : Walked). y .refusal .number) refl;
+      server-again-before-link = clash (λ (y : Walked). y .refusal .number) refl;
+      switch-again-before-link = clash (λ (y : Walked). y .refusal .number) refl;
+      earlier-hop-told-with-11 = clash (λ (y : Walked). earlierHop (y .refusal)) refl;
+      servers-told-with-29 = clash (λ (y : Walked). y .count) refl;
+      switches-told-with-28 = clash (λ (y : Walked). getD (y .switches) 1 0) refl;
       walk-by-value-m = clash (λ (y : Walked). y .refusal .number) refl;
       walk-by-value-3-refused = clash (λ (y : Walked). y .refusal .number) refl;
       walk-in-the-full-room = clash (λ (y : Walked). y .refusal .number) refl;
       switch-used-twice = clash (λ (y : Reading). y .refusal .number) refl;
+      read-servers-told-with-29 = clash (λ (y : Reading). y .count) refl;
       after-arrival-goes-by = clash (λ (y : Reading). y .refusal .number) refl;
       after-arrival-one-off = clash (λ (y : Reading). y .refusal .hop) refl;
       not-arrived-one-off = clash (λ (y : Reading). y .refusal .hop) refl;
@@ -134,7 +156,8 @@ wrong-path o q =
       read-in-the-full-room = clash (λ (y : Reading). y .refusal .number) refl;
       written-in-low-bits = clash (λ (y : Writing). getD (y .bytes) 0 0) refl;
       digit-left-behind = clash (λ (y : Writing). getD (y .bytes) 0 0) refl;
-      repeats-before-neighbours = clash (λ (y : Writing). y .refusal .number) refl;
+      repeats-before-neighbours = λ g. clash (λ (y : Writing). y .refusal .number) refl;
+      bytes-told-with-29 = clash (λ (y : Writing). getD (y .bytes) 0 0) refl;
       same-ends-before-count = clash (λ (y : Writing). y .refusal .number) refl;
       written-in-the-full-room = clash (λ (y : Writing). y .refusal .number) refl;
       written-to-the-base-m = clash (λ (y : Writing). getD (y .bytes) 0 0) refl;
@@ -152,6 +175,7 @@ wrong-path o q =
       zero-byte-left-out = clash (λ (y : Writing). getD (y .bytes) 0 0) refl;
       way-back-cut = clash (λ (y : Writing). getD (y .bytes) 4 0) refl;
       way-back-on-refusal = clash (λ (y : Writing). getD (y .bytes) 1 0) refl;
+      way-back-told-with-28 = clash (λ (y : Writing). getD (y .bytes) 0 0) refl;
       reversed-by-value-m = clash (λ (y : Writing). y .refusal .number) refl;
       reversal-by-value-3-refused = clash (λ (y : Writing). y .refusal .number) refl;
       reversed-in-the-full-room = clash (λ (y : Writing). y .refusal .number) refl;

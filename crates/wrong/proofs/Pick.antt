@@ -13,7 +13,7 @@ use Rattle.room.specs.Addresses.{digits, digit, withDigit, switchOf}
 use Rattle.room.specs.Refusals.{shapeRefusal, serverRefusal, pairRefusal, endsRefusal}
 use Rattle.links.specs.Table.{bit, failed, live, bitsFit, fitsLevels, tableRefusal, roomRefusal}
 use Rattle.path.specs.Routes.{switchAt}
-use Rattle.path.specs.Walks.{hopTo, hopRefusal, fault, ended, walkFrom, walk}
+use Rattle.path.specs.Walks.{hopTo, hopRefusal, again, fault, ended, walkFrom, walk}
 use Rattle.path.specs.Answers.{arrayRefusal, walkAnswer}
 use Rattle.verdict.specs.Checks.{arrays, disjoint, switchesIn, between, parallel, firstStop, firstMeeting, firstOf, firstPair, listRefusal, walksOf, checkAnswer}
 use Rattle.pick.specs.declared.Place.{Place}
@@ -28,7 +28,7 @@ at-start : {p : ℕ × ℕ} (q : ℕ × ℕ) → p ≡ liesAt 0 q → p ≡ q
 at-start q e = let z : 8 * 0 + q .1 ≡ q .1 = omega arith in e ∙ ap (λ (m : ℕ). (q .0, m)) z
 
 pub wrong-pick : (o f k : Loan) → Pick o f k
-unfolding serversOf bound digitsOf addressOf digits digit withDigit switchOf _or-else_ shapeRefusal serverRefusal pairRefusal bit failed live bitsFit fitsLevels tableRefusal isIn middle filled switchAt hopTo hopRefusal fault ended walkFrom walk endsRefusal arrayRefusal walkAnswer arrays disjoint switchesIn between parallel firstStop firstMeeting firstOf firstPair roomRefusal listRefusal walksOf checkAnswer usable firstUsable firstUsableIn found fits listsRefusal pickSource pickRefusal pickAnswer placeAnswer
+unfolding serversOf bound digitsOf addressOf digits digit withDigit switchOf _or-else_ shapeRefusal serverRefusal pairRefusal bit failed live bitsFit fitsLevels tableRefusal isIn middle filled switchAt hopTo hopRefusal again fault ended walkFrom walk endsRefusal arrayRefusal walkAnswer arrays disjoint switchesIn between parallel firstStop firstMeeting firstOf firstPair roomRefusal listRefusal walksOf checkAnswer usable firstUsable firstUsableIn found fits listsRefusal pickSource pickRefusal pickAnswer placeAnswer
 wrong-pick o f k =
     record {
       kept-before-fresh = λ p κ x e. differ (λ (y : List ℕ). getD y 0 0) refl (e .0);

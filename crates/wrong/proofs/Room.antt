@@ -4,7 +4,7 @@ use native.Mathlib.Omega.{arith}
 use lib.ListN.{getD}
 use Rattle.lists.specs.Lists.{filled}
 use Rattle.refusals.specs.declared.Refusal.{Refusal}
-use Rattle.refusals.specs.Refusals.{_or-else_}
+use Rattle.refusals.specs.Refusals.{earlierRoute, earlierHop, _or-else_}
 use Rattle.room.specs.declared.Shape.{Shape}
 use Rattle.room.specs.declared.Number.{Number}
 use Rattle.room.specs.declared.Digits.{Digits}
@@ -32,10 +32,14 @@ wrong-room =
       m-is-0 = λ n k h κ x e. h (sym (ap (λ (y : Shape). y .m) e));
       none-is-1 = clash (λ (y : Refusal). y .number) refl;
       none-at-route-1 = clash (λ (y : Refusal). y .route) refl;
+      none-with-earlier-route = clash earlierRoute refl;
       number-lost = λ r h κ x e. h (sym (ap (λ (y : Refusal). y .number) e));
       plain-at-route-1 = λ r. clash (λ (y : Refusal). y .route) refl;
+      plain-with-earlier-hop = λ r g n κ x e. n (ap earlierHop e);
       route-and-hop-exchanged = λ r i h n κ x e. n (sym (ap (λ (y : Refusal). y .route) e));
       hop-from-0 = λ r i h κ x e. omega (arith, ap (λ (y : Refusal). y .hop) e);
+      at-with-earlier-route = λ r i h n κ x e. n (ap earlierRoute e);
+      at-with-earlier-hop = λ r i h n κ x e. n (ap earlierHop e);
       servers-not-bounded = clash (λ y. y) refl;
       last-room-refused = clash (λ y. y) refl;
       ports-not-bounded = clash (λ y. y) refl;

@@ -6,6 +6,7 @@ use mathlib.Core.List.{List}
 use native.Mathlib.Omega.{arith}
 use lib.ListN.{length}
 use Rattle.lists.specs.Lists.{middle}
+use Rattle.refusals.specs.declared.Refusal.{Refusal}
 use Rattle.room.specs.declared.Shape.{Shape}
 use Rattle.room.specs.Refusals.{endsRefusal}
 use Rattle.room.proofs.RefusalLaws.{ends-of}
@@ -36,7 +37,7 @@ module _ {s : Shape} {t : List ℕ} {a d : ℕ} {bs vs : List ℕ} (r : RouteTo 
   read = ap (walk s t a d) e ∙ read-complete r
 
   -- the array of a route is not refused
-  pub never-stops : {q h : ℕ} → walk s t a d bs ≡ stopped q h → ⊥
+  pub never-stops : {q : Refusal} → walk s t a d bs ≡ stopped q → ⊥
   never-stops w = let x = sym w ∙ read in let z : _≡_ {A = ℕ} 0 1 = cc in omega arith
 
   -- and walks to that route alone

@@ -15,9 +15,9 @@ use Rattle.room.specs.Addresses.{digits, digit, withDigit, switchOf, differing}
 use Rattle.room.specs.Refusals.{shapeRefusal, serverRefusal, pairRefusal, endsRefusal}
 use Rattle.links.specs.Table.{bit, failed, live, bitsFit, fitsLevels, tableRefusal, roomRefusal}
 use Rattle.path.specs.Routes.{byteOf, switchAt, levelTo, byteTo, encode, RouteTo, Parallel}
-use Rattle.path.specs.Walks.{stopped, arrived, hopTo, hopRefusal, fault, ended, walkFrom, walk}
+use Rattle.path.specs.Walks.{stopped, arrived, hopTo, hopRefusal, again, fault, ended, walkFrom, walk}
 use Rattle.path.specs.Answers.{arrayRefusal, walkAnswer}
-use Rattle.verdict.specs.Checks.{arrays, disjoint, switchesIn, between, parallel, firstStop, firstMeeting, firstOf, firstPair, listRefusal, walksOf, checkAnswer}
+use Rattle.verdict.specs.Checks.{arrays, disjoint, switchesIn, between, parallel, meeting, firstStop, firstMeeting, firstOf, firstPair, listRefusal, walksOf, checkAnswer}
 use Rattle.build.specs.declared.RouteSet.{RouteSet}
 use Rattle.build.specs.Built.{plusOne, builtHops, metBy, builtRoute}
 use Rattle.build.specs.Sets.{joined, setOf, arrayIn}
@@ -76,7 +76,7 @@ module _ {s : Shape} {t : List ℕ} {a d : ℕ} {r : Selection} (h : Selecting s
       same-route (given .settled .each _ (member-at (given .routes) i q)) (array-at i q) w
 
   -- and there is a first, whose array is not refused
-  pub first-walks : {q i : ℕ} → walk s t a d (arrayIn 0 (r .routes)) ≡ stopped q i → ⊥
+  pub first-walks : {q : Refusal} → walk s t a d (arrayIn 0 (r .routes)) ≡ stopped q → ⊥
   first-walks w =
       let p : 0 < length (given .routes) = omega (arith, given .some) in
       never-stops (given .settled .each _ (member-at (given .routes) 0 p)) (array-at 0 p) w
@@ -94,11 +94,11 @@ after {t} {a} {d} h n u =
 -- ---- 00 to 13 of (4,1) with server 03 dead
 
 pub straight : Walks (fullRoom 4 1) (failing 3 3) 0 7 (0 ∷ 4 ∷ 7 ∷ []) (4096 ∷ 1 ∷ [])
-unfolding serversOf bound digitsOf addressOf digits digit withDigit switchOf _or-else_ shapeRefusal serverRefusal pairRefusal bit failed live isIn filled switchAt hopTo hopRefusal fault ended walkFrom walk endsRefusal
+unfolding serversOf bound digitsOf addressOf digits digit withDigit switchOf _or-else_ shapeRefusal serverRefusal pairRefusal bit failed live isIn filled switchAt hopTo hopRefusal again fault ended walkFrom walk endsRefusal
 straight = walks direct _ _ refl refl refl
 
 around : Walks (fullRoom 4 1) (failing 3 3) 0 7 (0 ∷ 1 ∷ 9 ∷ 11 ∷ 7 ∷ []) (0 ∷ 4097 ∷ 2 ∷ 4099 ∷ [])
-unfolding serversOf bound digitsOf addressOf digits digit withDigit switchOf _or-else_ shapeRefusal serverRefusal pairRefusal bit failed live isIn filled switchAt hopTo hopRefusal fault ended walkFrom walk endsRefusal
+unfolding serversOf bound digitsOf addressOf digits digit withDigit switchOf _or-else_ shapeRefusal serverRefusal pairRefusal bit failed live isIn filled switchAt hopTo hopRefusal again fault ended walkFrom walk endsRefusal
 around = walks (array (0x01 ∷ 0x42 ∷ 0x03 ∷ 0x41 ∷ [])) _ _ refl refl refl
 
 built : (builtRoute (fullRoom 4 1) 1 0 7 ≡ 0 ∷ 4 ∷ 7 ∷ []) × (builtRoute (fullRoom 4 1) 0 0 7 ≡ 0 ∷ 3 ∷ 7 ∷ [])
@@ -160,7 +160,7 @@ slot-1-first {r} h = (number, first)
 
 -- the alternates of slot 1 and of slot 0, and the built route of slot 0
 detours : Walks (fullRoom 4 1) bothBroken 0 7 (0 ∷ 8 ∷ 9 ∷ 5 ∷ 7 ∷ []) (4096 ∷ 2 ∷ 4097 ∷ 1 ∷ []) × Walks (fullRoom 4 1) bothBroken 0 7 (0 ∷ 2 ∷ 14 ∷ 15 ∷ 7 ∷ []) (0 ∷ 4098 ∷ 3 ∷ 4099 ∷ []) × Walks (fullRoom 4 1) [] 0 7 (0 ∷ 3 ∷ 7 ∷ []) (0 ∷ 4099 ∷ [])
-unfolding serversOf bound digitsOf addressOf digits digit withDigit switchOf _or-else_ shapeRefusal serverRefusal pairRefusal bit failed live isIn filled switchAt hopTo hopRefusal fault ended walkFrom walk endsRefusal
+unfolding serversOf bound digitsOf addressOf digits digit withDigit switchOf _or-else_ shapeRefusal serverRefusal pairRefusal bit failed live isIn filled switchAt hopTo hopRefusal again fault ended walkFrom walk endsRefusal
 detours = (
   walks (array (0x42 ∷ 0x01 ∷ 0x41 ∷ 0x03 ∷ [])) _ _ refl refl refl,
   walks (array (0x02 ∷ 0x43 ∷ 0x03 ∷ 0x41 ∷ [])) _ _ refl refl refl,
@@ -185,7 +185,7 @@ two-routes h n c w = let k = given h n .slots in go (k .0) (k .2 .0) (k .1) (k .
 -- ---- all of them
 
 pub wrong-select : (o : Loan) → Select o
-unfolding serversOf bound digitsOf addressOf differFrom digits digit withDigit switchOf differing _or-else_ shapeRefusal serverRefusal pairRefusal bit failed live bitsFit fitsLevels tableRefusal isIn inTurn middle filled byteOf switchAt levelTo byteTo hopTo hopRefusal fault ended walkFrom walk endsRefusal arrayRefusal walkAnswer arrays disjoint switchesIn between parallel firstStop firstMeeting firstOf firstPair roomRefusal listRefusal walksOf checkAnswer joined setOf arrayIn hopBytes
+unfolding serversOf bound digitsOf addressOf differFrom digits digit withDigit switchOf differing _or-else_ shapeRefusal serverRefusal pairRefusal bit failed live bitsFit fitsLevels tableRefusal isIn inTurn middle filled byteOf switchAt levelTo byteTo hopTo hopRefusal again fault ended walkFrom walk endsRefusal arrayRefusal walkAnswer arrays disjoint switchesIn between parallel meeting firstStop firstMeeting firstOf firstPair roomRefusal listRefusal walksOf checkAnswer joined setOf arrayIn hopBytes
 wrong-select o =
     record {
       broken-kept = λ κ x h. differ (λ (y : Refusal). y .number) refl (selection-checked _ _ _ _ _ h refl);

@@ -7,14 +7,14 @@ use mathlib.Core.Bool.{true, false}
 use mathlib.Core.List.{List, [], _∷_, _++_}
 use lib.ListN.{replicate, set}
 use Rattle.lists.specs.Lists.{filled}
-use Rattle.refusals.specs.Refusals.{none, plain, refusedAt}
+use Rattle.refusals.specs.Refusals.{none, plain, refusedAt, withEarlier}
 use Rattle.build.specs.Sets.{joined}
 use Rattle.step.specs.declared.Step.{Step}
 use Rattle.step.specs.Steps.{noStep}
 use Rattle.driver.specs.declared.Room.{Room}
 use Rattle.driver.specs.declared.Stepped.{Stepped}
 use Rattle.driver.specs.Rooms.{roomOf}
-use Rattle.driver.specs.Words.{word}
+use Rattle.driver.specs.Words.{word, refusalIn}
 use Rattle.driver.specs.Packed.{Bytes, macNumber, packed, unpacked}
 use Rattle.driver.proofs.bcube_version.Reads as bcube-version
 use Rattle.driver.proofs.bcube_room_of.Reads as bcube-room-of
@@ -49,8 +49,8 @@ use Rattle.driver.proofs.bcube_find.Reads as bcube-find
 use Rattle.driver.proofs.bcube_select.Reads as bcube-select
 use Rattle.driver.proofs.bcube_pick.Reads as bcube-pick
 use Rattle.driver.proofs.bcube_step.Reads as bcube-step
-use Rattle.wrong.specs.Never.{Never, NeverLeaves, Loan, third, fourth, fifth, _&_, _lends_}
-use Rattle.wrong.specs.Examples.{array, healthy, failing, eightHops, unmarked, counting, halfHealthy, halfFailing, halfUnmarked, halfCounting, direct, other, tied, cutOff, mac, neighbour, stale}
+use Rattle.wrong.specs.Never.{Never, NeverLeaves, NeverTells, Loan, third, fourth, fifth, _&_, _lends_}
+use Rattle.wrong.specs.Examples.{array, healthy, failing, eightHops, switchTwice, roundToServer, unmarked, counting, halfHealthy, halfFailing, halfUnmarked, halfCounting, direct, other, tied, cutOff, mac, neighbour, stale}
 use Rattle.wrong.specs.Step.{around, left-with, stood-with}
 
 -- the step from 00 of (4,1) to 10, by byte 41 of the path bytes 41 03
@@ -60,11 +60,11 @@ went = record { refusal = none; delivered = false; next = 4; index = 1; mac = ma
 pub record Driver (o q b : Loan) : Type 0 where
   -- ---- bcube_version
   -- the numbers packed in bytes
-  pub version-in-bytes : Never bcube-version.Post tt 0x040100
+  pub version-in-bytes : Never bcube-version.Post tt 0x050000
   -- the version before
-  pub version-before : Never bcube-version.Post tt 40000
+  pub version-before : Never bcube-version.Post tt 40100
   -- the first number alone
-  pub version-first-alone : Never bcube-version.Post tt 4
+  pub version-first-alone : Never bcube-version.Post tt 5
   -- ---- bcube_room_of
   -- n and k exchanged
   pub full-room-n-and-k-exchanged : Never bcube-room-of.Post (8 & 3 & tt) (roomOf 3 8 3)
@@ -581,6 +581,16 @@ pub record Driver (o q b : Loan) : Type 0 where
   pub read-by-value-3-refused : Never bcube-read.Post (roomOf 4 1 2 & 0 & 3 & q lends array (0x03 ∷ []) & b lends stale 9 & tt) (word (refusedAt 9 1 1) 0)
   -- N as n to the power k + 1: 8 to 0 of (4,1,2) by byte 40
   pub read-in-the-full-room : Never bcube-read.Post (roomOf 4 1 2 & 8 & 0 & q lends array (0x40 ∷ []) & b lends stale 9 & tt) (word none 2)
+  -- 29 at hop 2, earlier hop 1, 00 by 01 to 03 of (4,1): the earlier byte zero
+  pub read-earlier-byte-zero : Never bcube-read.Post (roomOf 4 1 4 & 0 & 3 & q lends switchTwice & b lends stale 9 & tt) (word (refusedAt 29 1 2) 0)
+  -- its halves exchanged, so that the hop is told as a route
+  pub read-earlier-halves-exchanged : Never bcube-read.Post (roomOf 4 1 4 & 0 & 3 & q lends switchTwice & b lends stale 9 & tt) (record { word = 16777216 * 16 + (65536 * 2 + (256 * 1 + 29)) })
+  -- the byte of the hop and the byte of the earlier one exchanged
+  pub read-hop-bytes-exchanged : Never bcube-read.Post (roomOf 4 1 4 & 0 & 3 & q lends switchTwice & b lends stale 9 & tt) (record { word = 16777216 * 2 + (65536 * 1 + (256 * 1 + 29)) })
+  -- the earlier hop told as a value
+  pub read-earlier-as-value : Never bcube-read.Post (roomOf 4 1 4 & 0 & 3 & q lends switchTwice & b lends stale 9 & tt) (word (refusedAt 29 1 2) 1)
+  -- the servers met before it counted beside it
+  pub read-count-told-with-29 : Never bcube-read.Post (roomOf 4 1 4 & 0 & 3 & q lends switchTwice & b lends stale 9 & tt) (word (withEarlier 0 1 (refusedAt 29 1 2)) 2)
   -- ---- bcube_write
   -- nine servers refused
   pub write-nine-refused : Never bcube-write.Post (roomOf 4 1 4 & q lends 0 ∷ 1 ∷ 5 ∷ 6 ∷ 10 ∷ 11 ∷ 15 ∷ 12 ∷ 8 ∷ [] & b lends stale 8 & tt) (word (plain 22) 0)
@@ -594,6 +604,14 @@ pub record Driver (o q b : Loan) : Type 0 where
   pub write-touched : NeverLeaves bcube-write.Post (roomOf 4 1 4 & q lends 0 ∷ 1 ∷ 5 ∷ 0 ∷ 7 ∷ [] & b lends stale 8 & tt) third (0x01 ∷ 0x41 ∷ stale 6)
   -- N as n to the power k + 1: 0, 8, 11, 3 of (4,1,2)
   pub written-in-the-full-room : NeverLeaves bcube-write.Post (roomOf 4 1 2 & q lends 0 ∷ 8 ∷ 11 ∷ 3 ∷ [] & b lends stale 8 & tt) third (array (0x42 ∷ 0x03 ∷ 0x40 ∷ []))
+  -- 29 at hop 2, earlier hop 1, 00, 01, 03 of (4,1): the earlier byte zero
+  pub write-earlier-byte-zero : Never bcube-write.Post (roomOf 4 1 4 & q lends 0 ∷ 1 ∷ 3 ∷ [] & b lends stale 8 & tt) (word (refusedAt 29 1 2) 0)
+  -- its halves exchanged, so that the hop is told as a route
+  pub write-earlier-halves-exchanged : Never bcube-write.Post (roomOf 4 1 4 & q lends 0 ∷ 1 ∷ 3 ∷ [] & b lends stale 8 & tt) (record { word = 16777216 * 16 + (65536 * 2 + (256 * 1 + 29)) })
+  -- the byte of the hop and the byte of the earlier one exchanged
+  pub write-hop-bytes-exchanged : Never bcube-write.Post (roomOf 4 1 4 & q lends 0 ∷ 1 ∷ 3 ∷ [] & b lends stale 8 & tt) (record { word = 16777216 * 2 + (65536 * 1 + (256 * 1 + 29)) })
+  -- the earlier hop told as a value
+  pub write-earlier-as-value : Never bcube-write.Post (roomOf 4 1 4 & q lends 0 ∷ 1 ∷ 3 ∷ [] & b lends stale 8 & tt) (word (refusedAt 29 1 2) 1)
   -- ---- bcube_reverse
   -- read from the destination: c1, from 1011 of (8,3), changes nothing
   pub reverse-read-from-destination : Never bcube-reverse.Post (roomOf 8 3 8 & 1 & 521 & q lends array (0xc1 ∷ 0x41 ∷ []) & b lends stale 8 & tt) (word (refusedAt 10 1 1) 0)
@@ -635,11 +653,19 @@ pub record Driver (o q b : Loan) : Type 0 where
   pub reverse-by-value-3-refused : Never bcube-reverse.Post (roomOf 4 1 2 & 0 & 3 & q lends array (0x03 ∷ []) & b lends stale 8 & tt) (word (refusedAt 9 1 1) 0)
   -- N as n to the power k + 1: 8 to 0 of (4,1,2) by byte 40
   pub reversed-in-the-full-room : NeverLeaves bcube-reverse.Post (roomOf 4 1 2 & 8 & 0 & q lends array (0x40 ∷ []) & b lends stale 8 & tt) fifth (array (0x42 ∷ []))
+  -- 29 at hop 2, earlier hop 1, 00 by 01 to 03 of (4,1): the earlier byte zero
+  pub reverse-earlier-byte-zero : Never bcube-reverse.Post (roomOf 4 1 4 & 0 & 3 & q lends switchTwice & b lends stale 8 & tt) (word (refusedAt 29 1 2) 0)
+  -- its halves exchanged, so that the hop is told as a route
+  pub reverse-earlier-halves-exchanged : Never bcube-reverse.Post (roomOf 4 1 4 & 0 & 3 & q lends switchTwice & b lends stale 8 & tt) (record { word = 16777216 * 16 + (65536 * 2 + (256 * 1 + 29)) })
+  -- the byte of the hop and the byte of the earlier one exchanged
+  pub reverse-hop-bytes-exchanged : Never bcube-reverse.Post (roomOf 4 1 4 & 0 & 3 & q lends switchTwice & b lends stale 8 & tt) (record { word = 16777216 * 2 + (65536 * 1 + (256 * 1 + 29)) })
+  -- the earlier hop told as a value
+  pub reverse-earlier-as-value : Never bcube-reverse.Post (roomOf 4 1 4 & 0 & 3 & q lends switchTwice & b lends stale 8 & tt) (word (refusedAt 29 1 2) 1)
   -- ---- bcube_check
   -- middle servers compared only: 00 to 03 of (4,1), the route 03 twice
   pub check-middle-servers-only : Never bcube-check.Post (roomOf 4 1 4 & 0 & 3 & o lends healthy & q lends array (0x03 ∷ []) ++ array (0x03 ∷ []) & tt) (word none 0)
-  -- 15 at the earlier of the pair
-  pub check-earlier-of-the-pair : Never bcube-check.Post (roomOf 4 1 4 & 0 & 3 & o lends healthy & q lends array (0x03 ∷ []) ++ array (0x03 ∷ []) & tt) (word (refusedAt 15 1 0) 0)
+  -- 15 at the earlier of the pair, whatever else is told
+  pub check-earlier-of-the-pair : NeverTells bcube-check.Post (roomOf 4 1 4 & 0 & 3 & o lends healthy & q lends array (0x03 ∷ []) ++ array (0x03 ∷ []) & tt) (λ y. refusalIn y .route) 1
   -- the receiver's link forgotten
   pub check-receiver-forgotten : Never bcube-check.Post (roomOf 4 1 4 & 0 & 3 & o lends failing 3 1 & q lends array (0x03 ∷ []) & tt) (word none 0)
   -- N as n to the power k + 1: 0 to 7 of (4,1,2) with sixteen bytes of table
@@ -650,6 +676,21 @@ pub record Driver (o q b : Loan) : Type 0 where
   pub check-value-m-accepted : Never bcube-check.Post (roomOf 4 1 2 & 0 & 3 & o lends replicate 8 0 & q lends array (0x42 ∷ 0x03 ∷ 0x40 ∷ []) & tt) (word none 0)
   -- the bound of level 0 as m: byte 03 refused
   pub check-value-3-refused : Never bcube-check.Post (roomOf 4 1 2 & 0 & 3 & o lends replicate 8 0 & q lends array (0x03 ∷ []) & tt) (word (refusedAt 9 1 1) 0)
+  -- 28 tested before 11: 00 by 01, 11, 12 and 02 to 01, where the level-0 link of 02 is failed
+  pub check-server-again-before-link : Never bcube-check.Post (roomOf 4 1 4 & 0 & 15 & o lends failing 2 1 & q lends roundToServer & tt) (word (withEarlier 0 1 (refusedAt 28 1 5)) 0)
+  -- hop 3 of route 2 with hop 2 of route 1, 00 by 10 to 13 and by 02 and 12 to 13 of (4,1): the earlier byte zero
+  pub check-earlier-byte-zero : Never bcube-check.Post (roomOf 4 1 4 & 0 & 7 & o lends healthy & q lends direct ++ array (0x02 ∷ 0x41 ∷ 0x03 ∷ []) & tt) (word (refusedAt 15 2 3) 0)
+  -- its halves exchanged
+  pub check-earlier-halves-exchanged : Never bcube-check.Post (roomOf 4 1 4 & 0 & 7 & o lends healthy & q lends direct ++ array (0x02 ∷ 0x41 ∷ 0x03 ∷ []) & tt) (record { word = 16777216 * 33 + (65536 * 3 + (256 * 2 + 15)) })
+  -- ten times the route in place of sixteen times
+  pub check-earlier-by-tens : Never bcube-check.Post (roomOf 4 1 4 & 0 & 7 & o lends healthy & q lends direct ++ array (0x02 ∷ 0x41 ∷ 0x03 ∷ []) & tt) (record { word = 16777216 * 12 + (65536 * 3 + (256 * 2 + 15)) })
+  -- the earlier route alone, or the earlier hop
+  pub check-earlier-route-alone : Never bcube-check.Post (roomOf 4 1 4 & 0 & 7 & o lends healthy & q lends direct ++ array (0x02 ∷ 0x41 ∷ 0x03 ∷ []) & tt) (word (withEarlier 1 0 (refusedAt 15 2 3)) 0)
+  pub check-earlier-hop-alone : Never bcube-check.Post (roomOf 4 1 4 & 0 & 7 & o lends healthy & q lends direct ++ array (0x02 ∷ 0x41 ∷ 0x03 ∷ []) & tt) (word (withEarlier 0 2 (refusedAt 15 2 3)) 0)
+  -- the earlier route in a byte of its own, so that it reaches into the value
+  pub check-earlier-in-two-bytes : Never bcube-check.Post (roomOf 4 1 4 & 0 & 7 & o lends healthy & q lends direct ++ array (0x02 ∷ 0x41 ∷ 0x03 ∷ []) & tt) (record { word = 16777216 * 258 + (65536 * 3 + (256 * 2 + 15)) })
+  -- both told as a value
+  pub check-earlier-as-value : Never bcube-check.Post (roomOf 4 1 4 & 0 & 7 & o lends healthy & q lends direct ++ array (0x02 ∷ 0x41 ∷ 0x03 ∷ []) & tt) (word (refusedAt 15 2 3) 18)
   -- ---- bcube_build
   -- its room counted for routes: 00 to 13 of (4,1)
   pub build-room-counted : Never bcube-build.Post (roomOf 4 1 4 & 0 & 7 & b lends stale 32 & tt) (word none 4)

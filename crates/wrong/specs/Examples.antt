@@ -1,10 +1,11 @@
 -- What the wrong answers are given to: tables, path bytes, texts.
-use Prim.Native.Nat.{ℕ, _*_, _-_}
+use Prim.Native.Nat.{ℕ, _*_, _-_, _^_}
 use Prim.Native.Char.{code}
 use Prim.Native.String.{String, [] as empty, _∷_ as _then_}
 use mathlib.Core.List.{List, [], _∷_, _++_}
 use lib.ListN.{replicate, set}
 use Rattle.lists.specs.Lists.{filled}
+use Rattle.room.specs.declared.Shape.{Shape}
 
 -- an array: path bytes, with zeros past them
 abbrev pub array : List ℕ → List ℕ
@@ -17,6 +18,10 @@ healthy = replicate 16 0
 -- the same with the byte b for server a: 1 where its level-0 link is failed, 2 where its level-1 link is, 3 where it is dead
 abbrev pub failing : ℕ → ℕ → List ℕ
 failing a b = set healthy a b
+
+-- the failed-link table of a room, its servers all live
+abbrev pub noneFailed : Shape → List ℕ
+noneFailed s = replicate (s .m * s .n ^ s .k) 0
 
 -- the summary of `healthy`, an entry for each of its 8 switches, and the same with the entry c at place i: places 0 to 3 are those of
 -- level 0, and 4 to 7 those of level 1
@@ -43,6 +48,29 @@ halfCounting i c = set halfUnmarked i c
 -- eight hops of the (4,1) room from 00, by 01, 11, 12, 22, 23, 33 and 30 to 20, over all its eight switches
 abbrev pub eightHops : List ℕ
 eightHops = 0x01 ∷ 0x41 ∷ 0x02 ∷ 0x42 ∷ 0x03 ∷ 0x43 ∷ 0x00 ∷ 0x42 ∷ []
+
+-- path bytes from 00 whose last hop comes again on the route, in the (4,1) and the (4,1,2) room:
+-- by 01 to 03, over the switch of hop 1; by 01 back to 00 at once, over that switch too
+abbrev pub switchTwice : List ℕ
+switchTwice = array (0x01 ∷ 0x03 ∷ [])
+
+abbrev pub straightBack : List ℕ
+straightBack = array (0x01 ∷ 0x00 ∷ [])
+
+-- by 01, 11 and 10 to 00, over a new switch
+abbrev pub roundToSource : List ℕ
+roundToSource = array (0x01 ∷ 0x41 ∷ 0x00 ∷ 0x40 ∷ [])
+
+-- by 01, 11, 12 and 02 to 01, which hop 1 reached, or to 03, over the switch of hop 1
+abbrev pub roundToServer : List ℕ
+roundToServer = array (0x01 ∷ 0x41 ∷ 0x02 ∷ 0x40 ∷ 0x01 ∷ [])
+
+abbrev pub switchLater : List ℕ
+switchLater = array (0x01 ∷ 0x41 ∷ 0x02 ∷ 0x40 ∷ 0x03 ∷ [])
+
+-- seven of the eight hops above, and the eighth from 30 to 00, over a new switch
+abbrev pub eightRound : List ℕ
+eightRound = 0x01 ∷ 0x41 ∷ 0x02 ∷ 0x42 ∷ 0x03 ∷ 0x43 ∷ 0x00 ∷ 0x40 ∷ []
 
 -- the built routes from 00 to 13 in the (4,1) room: of slot 1, by server 10, and of slot 0, by server 03
 abbrev pub direct : List ℕ

@@ -1,10 +1,12 @@
 -- Wrong answers of the functions that serve the layers above them, wherever the table lies.
-use Prim.Native.Nat.{ℕ}
+use Prim.Native.Nat.{ℕ, _+_}
 use mathlib.Core.Logic.{_≢_}
 use lib.ListN.{replicate}
 use denote.Ref.{now}
-use Rattle.refusals.specs.Refusals.{refusedAt}
+use Rattle.refusals.specs.declared.Refusal.{Refusal}
+use Rattle.refusals.specs.Refusals.{plain, refusedAt, withEarlier, earlierRoute, earlierHop}
 use Rattle.refusals.proofs.Refusal.of_route.Reads as of-route
+use Rattle.refusals.proofs.Refusal.with_earlier.Reads as with-earlier
 use Rattle.room.specs.declared.Side.{Side}
 use Rattle.room.specs.Shapes.{shapeOf, fullRoom}
 use Rattle.room.proofs.power.Reads as power
@@ -30,6 +32,26 @@ pub record Helpers (o : Loan) : Type 0 where
   pub route-kept : (r i j h : ℕ) → i ≢ j → Never of-route.Post (refusedAt r i h & j & tt) (refusedAt r i h)
   -- the hop lost
   pub hop-lost : (r i j h : ℕ) → h ≢ 0 → Never of-route.Post (refusedAt r i h & j & tt) (refusedAt r j 0)
+  -- the earlier hop lost, or the earlier route
+  pub earlier-hop-lost : (r i h j g k : ℕ) → g ≢ 0 → Never of-route.Post (withEarlier j g (refusedAt r i h) & k & tt) (withEarlier j 0 (refusedAt r k h))
+  pub earlier-route-lost : (r i h j g k : ℕ) → j ≢ 0 → Never of-route.Post (withEarlier j g (refusedAt r i h) & k & tt) (withEarlier 0 g (refusedAt r k h))
+  -- the route given to the earlier hop too, or to it alone
+  pub earlier-route-given : (r i h j g k : ℕ) → j ≢ k → Never of-route.Post (withEarlier j g (refusedAt r i h) & k & tt) (withEarlier k g (refusedAt r k h))
+  pub earlier-route-alone-given : (r i h j g k : ℕ) → i ≢ k → Never of-route.Post (withEarlier j g (refusedAt r i h) & k & tt) (withEarlier k g (refusedAt r i h))
+  -- ---- Refusal::with_earlier
+  -- nothing set
+  pub earlier-route-not-set : (y : Refusal) (i h : ℕ) → earlierRoute y ≢ i → Never with-earlier.Post (y & i & h & tt) y
+  pub earlier-hop-not-set : (y : Refusal) (i h : ℕ) → earlierHop y ≢ h → Never with-earlier.Post (y & i & h & tt) y
+  -- route and hop exchanged
+  pub earlier-exchanged : (y : Refusal) (i h : ℕ) → i ≢ h → Never with-earlier.Post (y & i & h & tt) (withEarlier h i y)
+  -- the hop counted from 0
+  pub earlier-hop-from-0 : (y : Refusal) (i h : ℕ) → Never with-earlier.Post (y & i & h + 1 & tt) (withEarlier i h y)
+  -- the refusal's own route and hop set, or lost
+  pub own-route-set : (y : Refusal) (i h : ℕ) → y .route ≢ i → Never with-earlier.Post (y & i & h & tt) (refusedAt (y .number) i h)
+  pub own-hop-set : (y : Refusal) (i h : ℕ) → y .hop ≢ h → Never with-earlier.Post (y & i & h & tt) (refusedAt (y .number) i h)
+  pub own-hop-lost : (y : Refusal) (i h : ℕ) → y .hop ≢ 0 → Never with-earlier.Post (y & i & h & tt) (withEarlier i h (plain (y .number)))
+  -- the number lost
+  pub own-number-lost : (y : Refusal) (i h : ℕ) → y .number ≢ 0 → Never with-earlier.Post (y & i & h & tt) (withEarlier i h (refusedAt 0 (y .route) (y .hop)))
   -- ---- power
   -- base and level exchanged
   pub base-and-level-exchanged : Never power.Post (8 & 3 & tt) 6561

@@ -15,3 +15,5 @@ pub mod Step
 pub mod DeskLine
 pub mod Driver
 pub mod Fill
+pub mod Again
+pub mod Meetings

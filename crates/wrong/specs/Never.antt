@@ -15,9 +15,13 @@ Never {K} {A} {R} {X} post a r = (κ : K) (x : X) → post κ a r x → ⊥
 abbrev pub NeverLeaves : {K A R X : Type 0} → (K → A → R → X → Type 0) → A → (X → List ℕ) → List ℕ → Type 0
 NeverLeaves {K} {A} {R} {X} post a buffer bs = (κ : K) (r : R) (x : X) → post κ a r x → buffer x ≡ bs → ⊥
 
--- the contract never allows a result of which `told` is this number, whatever else it holds
-abbrev pub NeverTells : {K A R X : Type 0} → (K → A → R → X → Type 0) → A → (R → ℕ) → ℕ → Type 0
+-- the contract never allows a result of which `told` is this, a number or a refusal, whatever else it holds
+abbrev pub NeverTells : {K A R X Y : Type 0} → (K → A → R → X → Type 0) → A → (R → Y) → Y → Type 0
 NeverTells {K} {A} {R} {X} post a told v = (κ : K) (r : R) (x : X) → post κ a r x → told r ≡ v → ⊥
+
+-- the contract never allows a result of which `wrong` is so
+abbrev pub NeverSo : {K A R X : Type 0} → (K → A → R → X → Type 0) → A → (R → Type 0) → Type 0
+NeverSo {K} {A} {R} {X} post a wrong = (κ : K) (r : R) (x : X) → post κ a r x → wrong r → ⊥
 
 -- ---- arguments
 

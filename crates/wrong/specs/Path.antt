@@ -1,12 +1,12 @@
 -- Wrong answers of `path`, wherever the table and the list or array lie.
-use Prim.Native.Nat.{ℕ}
+use Prim.Native.Nat.{ℕ, _<_}
 use mathlib.Core.Path.{_≡_}
 use mathlib.Core.Logic.{_≢_}
-use mathlib.Core.Bool.{true, false}
-use mathlib.Core.List.{[], _∷_, _++_}
-use lib.ListN.{replicate}
+use mathlib.Core.List.{List, [], _∷_, _++_}
+use lib.ListN.{length, getD, replicate}
+use Rattle.lists.specs.Lists.{filled}
 use Rattle.refusals.specs.declared.Refusal.{Refusal}
-use Rattle.refusals.specs.Refusals.{plain, refusedAt}
+use Rattle.refusals.specs.Refusals.{plain, refusedAt, withEarlier}
 use Rattle.room.specs.declared.Shape.{Shape}
 use Rattle.room.specs.Shapes.{shapeOf, fullRoom}
 use Rattle.room.specs.Addresses.{digit}
@@ -21,17 +21,17 @@ use Rattle.path.specs.Answers.{noHop, aHop, noWalk, walked, reading, noWriting,
 use Rattle.path.proofs.byte_of.Reads as byte-of
 use Rattle.path.proofs.parts_of.Reads as parts-of
 use Rattle.path.proofs.hop_of.Reads as hop-of
-use Rattle.path.proofs.is_among.Reads as is-among
+use Rattle.path.proofs.place_in.Reads as place-in
 use Rattle.path.proofs.walk.Reads as walk
 use Rattle.path.proofs.read_path.Reads as read-path
 use Rattle.path.proofs.write_path.Reads as write-path
 use Rattle.path.proofs.reverse_path.Reads as reverse-path
 use Rattle.wrong.specs.Never.{Never, NeverTells, Loan, _&_, _lends_}
-use Rattle.wrong.specs.Examples.{array, healthy, failing, eightHops}
+use Rattle.wrong.specs.Examples.{array, healthy, failing, eightHops, switchTwice, roundToSource, roundToServer, switchLater}
 
 -- a refused hop that tells a next server, a level and an old value
-abbrev pub refusedHop : Refusal → ℕ → ℕ → ℕ → Hop
-refusedHop r a l v = record { refusal = r; next = a; level = l; old = v }
+abbrev pub stopsAt : Refusal → ℕ → ℕ → ℕ → Hop
+stopsAt r a l v = record { refusal = r; next = a; level = l; old = v }
 
 pub record Path (o q : Loan) : Type 0 where
   -- ---- byte_of
@@ -130,30 +130,40 @@ pub record Path (o q : Loan) : Type 0 where
   -- 4 with a place: server 16 of (4,1)
   pub four-with-a-place : Never hop-of.Post (fullRoom 4 1 & 16 & 0x41 & tt) (noHop (refusedAt 4 1 1))
   -- the level told with 8
-  pub level-told-with-8 : Never hop-of.Post (fullRoom 4 1 & 0 & 0x80 & tt) (refusedHop (refusedAt 8 1 1) 0 2 0)
+  pub level-told-with-8 : Never hop-of.Post (fullRoom 4 1 & 0 & 0x80 & tt) (stopsAt (refusedAt 8 1 1) 0 2 0)
   -- the server that it would come to told with 9
-  pub next-told-with-9 : Never hop-of.Post (shapeOf 8 3 4 & 2047 & 0xc4 & tt) (refusedHop (refusedAt 9 1 1) 2559 0 0)
+  pub next-told-with-9 : Never hop-of.Post (shapeOf 8 3 4 & 2047 & 0xc4 & tt) (stopsAt (refusedAt 9 1 1) 2559 0 0)
   -- the old value told with 9
-  pub old-told-with-9 : Never hop-of.Post (shapeOf 8 3 4 & 2047 & 0xc4 & tt) (refusedHop (refusedAt 9 1 1) 0 0 3)
+  pub old-told-with-9 : Never hop-of.Post (shapeOf 8 3 4 & 2047 & 0xc4 & tt) (stopsAt (refusedAt 9 1 1) 0 0 3)
   -- the server told with 10
-  pub next-told-with-10 : Never hop-of.Post (fullRoom 4 1 & 7 & 0x41 & tt) (refusedHop (refusedAt 10 1 1) 7 0 0)
+  pub next-told-with-10 : Never hop-of.Post (fullRoom 4 1 & 7 & 0x41 & tt) (stopsAt (refusedAt 10 1 1) 7 0 0)
   -- the level told with 10
-  pub level-told-with-10 : Never hop-of.Post (fullRoom 4 1 & 7 & 0x41 & tt) (refusedHop (refusedAt 10 1 1) 0 1 0)
+  pub level-told-with-10 : Never hop-of.Post (fullRoom 4 1 & 7 & 0x41 & tt) (stopsAt (refusedAt 10 1 1) 0 1 0)
   -- the old value, which is the new one, told with 10
-  pub old-told-with-10 : Never hop-of.Post (fullRoom 4 1 & 7 & 0x41 & tt) (refusedHop (refusedAt 10 1 1) 0 0 1)
+  pub old-told-with-10 : Never hop-of.Post (fullRoom 4 1 & 7 & 0x41 & tt) (stopsAt (refusedAt 10 1 1) 0 0 1)
   -- the level told with 4
-  pub level-told-with-4 : Never hop-of.Post (fullRoom 4 1 & 16 & 0x41 & tt) (refusedHop (plain 4) 0 1 0)
+  pub level-told-with-4 : Never hop-of.Post (fullRoom 4 1 & 16 & 0x41 & tt) (stopsAt (plain 4) 0 1 0)
   -- any next server, level or old value told on a refusal
   pub any-next-on-refusal : (s : Shape) (a b : ℕ) (y : Hop) → y .refusal .number ≢ 0 → y .next ≢ 0 → Never hop-of.Post (s & a & b & tt) y
   pub any-level-on-refusal : (s : Shape) (a b : ℕ) (y : Hop) → y .refusal .number ≢ 0 → y .level ≢ 0 → Never hop-of.Post (s & a & b & tt) y
   pub any-old-on-refusal : (s : Shape) (a b : ℕ) (y : Hop) → y .refusal .number ≢ 0 → y .old ≢ 0 → Never hop-of.Post (s & a & b & tt) y
-  -- ---- is_among
+  -- ---- place_in
   -- the last not looked at
-  pub last-not-looked-at : Never is-among.Post (q lends 0 ∷ 4 ∷ 7 ∷ [] & 7 & tt) false
+  pub last-not-looked-at : Never place-in.Post (q lends 0 ∷ 4 ∷ 7 ∷ [] & 7 & tt) 3
   -- the first not looked at
-  pub first-not-looked-at : Never is-among.Post (q lends 0 ∷ 4 ∷ 7 ∷ [] & 0 & tt) false
-  -- the place past the end, read as 0, looked at
-  pub past-the-end : Never is-among.Post (q lends 4 ∷ 7 ∷ [] & 0 & tt) true
+  pub first-not-looked-at : Never place-in.Post (q lends 0 ∷ 4 ∷ 7 ∷ [] & 0 & tt) 3
+  -- counted from 1
+  pub place-from-1 : Never place-in.Post (q lends 0 ∷ 4 ∷ 7 ∷ [] & 4 & tt) 2
+  -- the last of two places
+  pub last-of-two-places : Never place-in.Post (q lends 4 ∷ 7 ∷ 4 ∷ [] & 4 & tt) 2
+  -- what is not there told at place 0
+  pub missing-at-0 : Never place-in.Post (q lends 4 ∷ 7 ∷ [] & 0 & tt) 0
+  -- the place past the end, read as 0, gone by
+  pub past-the-end : Never place-in.Post (q lends 4 ∷ 7 ∷ [] & 0 & tt) 3
+  -- of any list: a place where something else stands, one after another that has it, one past the length
+  pub any-place-of-another : (xs : List ℕ) (x p : ℕ) → p < length xs → getD xs p 0 ≢ x → Never place-in.Post (q lends xs & x & tt) p
+  pub any-later-place : (xs : List ℕ) (x i p : ℕ) → i < length xs → getD xs i 0 ≡ x → i < p → Never place-in.Post (q lends xs & x & tt) p
+  pub any-place-past-the-length : (xs : List ℕ) (x p : ℕ) → length xs < p → Never place-in.Post (q lends xs & x & tt) p
   -- ---- ends_refusal
   -- a server taken for its own destination
   pub same-ends-taken : Never ends-refusal.Post (fullRoom 4 1 & 7 & 7 & tt) 0
@@ -168,8 +178,20 @@ pub record Path (o q : Loan) : Type 0 where
   pub receiver-forgotten : Never walk.Post (fullRoom 4 1 & o lends failing 3 1 & 0 & 3 & q lends array (0x03 ∷ []) & tt) (walked (arrived (0 ∷ 3 ∷ []) (0 ∷ [])))
   -- a zero byte taken for the end: 1 to 0 of (2,0), eight zero bytes, and not arrived
   pub zero-byte-is-the-end : Never walk.Post (fullRoom 2 0 & o lends 0 ∷ 0 ∷ [] & 1 & 0 & q lends array [] & tt) (noWalk (refusedAt 13 1 8))
-  -- 12 for 13: eight hops from 00 of (4,1) that do not come to 02
-  pub twelve-for-thirteen : Never walk.Post (fullRoom 4 1 & o lends healthy & 0 & 2 & q lends eightHops & tt) (noWalk (refusedAt 12 1 8))
+  -- 28 for 13, whatever earlier hop is told: eight hops from 00 of (4,1) that do not come to 02
+  pub server-again-for-thirteen : (g : ℕ) → Never walk.Post (fullRoom 4 1 & o lends healthy & 0 & 2 & q lends eightHops & tt) (noWalk (withEarlier 0 g (refusedAt 28 1 8)))
+  -- 29 for 13
+  pub switch-again-for-thirteen : (g : ℕ) → Never walk.Post (fullRoom 4 1 & o lends healthy & 0 & 2 & q lends eightHops & tt) (noWalk (withEarlier 0 g (refusedAt 29 1 8)))
+  -- 28 tested before 11: 00 by 01, 11, 12 and 02 to 01 of (4,1), where the level-0 link of 02 is failed
+  pub server-again-before-link : Never walk.Post (fullRoom 4 1 & o lends failing 2 1 & 0 & 15 & q lends roundToServer & tt) (noWalk (withEarlier 0 1 (refusedAt 28 1 5)))
+  -- 29 tested before 11: the same to 03
+  pub switch-again-before-link : Never walk.Post (fullRoom 4 1 & o lends failing 2 1 & 0 & 15 & q lends switchLater & tt) (noWalk (withEarlier 0 1 (refusedAt 29 1 5)))
+  -- the earlier hop told with 11
+  pub earlier-hop-told-with-11 : Never walk.Post (fullRoom 4 1 & o lends failing 2 1 & 0 & 15 & q lends roundToServer & tt) (noWalk (withEarlier 0 1 (refusedAt 11 1 5)))
+  -- the servers met before the refusal told with it: 00 by 01 to 03 of (4,1), over the switch of hop 1
+  pub servers-told-with-29 : Never walk.Post (fullRoom 4 1 & o lends healthy & 0 & 3 & q lends switchTwice & tt) (record { refusal = withEarlier 0 1 (refusedAt 29 1 2); count = 2; servers = filled 9 (0 ∷ 1 ∷ []); switches = replicate 8 0 })
+  -- the switches used before it
+  pub switches-told-with-28 : Never walk.Post (fullRoom 4 1 & o lends healthy & 0 & 3 & q lends roundToSource & tt) (record { refusal = refusedAt 28 1 4; count = 0; servers = replicate 9 0; switches = filled 8 (0 ∷ 4097 ∷ 1 ∷ []) })
   -- the bound of level k as n: 0 to 3 of (4,1,2) by 42 03 40, which meets 8 and 11
   pub walk-by-value-m : Never walk.Post (shapeOf 4 1 2 & o lends replicate 8 0 & 0 & 3 & q lends array (0x42 ∷ 0x03 ∷ 0x40 ∷ []) & tt) (walked (arrived (0 ∷ 8 ∷ 11 ∷ 3 ∷ []) (4096 ∷ 2 ∷ 4099 ∷ [])))
   -- the bound of level 0 as m: byte 03 refused
@@ -179,6 +201,8 @@ pub record Path (o q : Loan) : Type 0 where
   -- ---- read_path
   -- middle servers compared only: 00 to 03 of (4,1) by 01 03, two hops over one switch
   pub switch-used-twice : Never read-path.Post (fullRoom 4 1 & 0 & 3 & q lends array (0x01 ∷ 0x03 ∷ []) & tt) (reading (walked (arrived (0 ∷ 1 ∷ 3 ∷ []) [])))
+  -- the servers met before the refusal told with it
+  pub read-servers-told-with-29 : Never read-path.Post (fullRoom 4 1 & 0 & 3 & q lends switchTwice & tt) (record { refusal = withEarlier 0 1 (refusedAt 29 1 2); count = 2; servers = filled 9 (0 ∷ 1 ∷ []) })
   -- bytes after arrival go by: 00 to 03 of (4,1) by 03 00 01
   pub after-arrival-goes-by : Never read-path.Post (fullRoom 4 1 & 0 & 3 & q lends array (0x03 ∷ 0x00 ∷ 0x01 ∷ []) & tt) (reading (walked (arrived (0 ∷ 3 ∷ []) [])))
   -- 14 with its place one off: counted from 0
@@ -200,8 +224,10 @@ pub record Path (o q : Loan) : Type 0 where
   pub written-in-low-bits : Never write-path.Post (fullRoom 4 1 & q lends 0 ∷ 4 ∷ 7 ∷ [] & tt) (aWriting (array (0x05 ∷ 0x0c ∷ [])))
   -- the digit of the server that a hop leaves
   pub digit-left-behind : Never write-path.Post (fullRoom 4 1 & q lends 0 ∷ 4 ∷ 7 ∷ [] & tt) (aWriting (array (0x40 ∷ 0x00 ∷ [])))
-  -- 12 tested before 23: the third hop of 00, 01, 11, 00, 13, to no neighbour and back to the source
-  pub repeats-before-neighbours : Never write-path.Post (fullRoom 4 1 & q lends 0 ∷ 1 ∷ 5 ∷ 0 ∷ 7 ∷ [] & tt) (noWriting (refusedAt 12 1 3))
+  -- 28 tested before 23, whatever earlier hop is told: the third hop of 00, 01, 11, 00, 13, to no neighbour and back to the source
+  pub repeats-before-neighbours : (g : ℕ) → Never write-path.Post (fullRoom 4 1 & q lends 0 ∷ 1 ∷ 5 ∷ 0 ∷ 7 ∷ [] & tt) (noWriting (withEarlier 0 g (refusedAt 28 1 3)))
+  -- the bytes before the refusal told with it: 00, 01, 03 of (4,1), over one switch
+  pub bytes-told-with-29 : Never write-path.Post (fullRoom 4 1 & q lends 0 ∷ 1 ∷ 3 ∷ [] & tt) (record { refusal = withEarlier 0 1 (refusedAt 29 1 2); bytes = array (0x01 ∷ []) })
   -- 5 tested before 22: one server, which is both ends
   pub same-ends-before-count : Never write-path.Post (fullRoom 4 1 & q lends 5 ∷ [] & tt) (noWriting (plain 5))
   -- N as n to the power k + 1: 0, 8, 11, 3 of (4,1,2)
@@ -237,6 +263,8 @@ pub record Path (o q : Loan) : Type 0 where
   pub way-back-cut : Never reverse-path.Post (fullRoom 4 1 & 0 & 8 & q lends eightHops & tt) (aWriting (array (0x43 ∷ 0x03 ∷ 0x42 ∷ 0x02 ∷ [])))
   -- the way back of the hops before the refusal told with it: 00 to 13 of (4,1) by 41 03 01
   pub way-back-on-refusal : Never reverse-path.Post (fullRoom 4 1 & 0 & 7 & q lends array (0x41 ∷ 0x03 ∷ 0x01 ∷ []) & tt) (record { refusal = refusedAt 14 1 3; bytes = array (0x00 ∷ 0x40 ∷ []) })
+  -- the same with 28: 00 by 01, 11 and 10 to 00 of (4,1)
+  pub way-back-told-with-28 : Never reverse-path.Post (fullRoom 4 1 & 0 & 3 & q lends roundToSource & tt) (record { refusal = refusedAt 28 1 4; bytes = array (0x01 ∷ 0x40 ∷ 0x00 ∷ []) })
   -- the bound of level k as n: 0 to 3 of (4,1,2) by 42 03 40
   pub reversed-by-value-m : Never reverse-path.Post (shapeOf 4 1 2 & 0 & 3 & q lends array (0x42 ∷ 0x03 ∷ 0x40 ∷ []) & tt) (aWriting (array (0x42 ∷ 0x00 ∷ 0x40 ∷ [])))
   -- the bound of level 0 as m: byte 03 refused

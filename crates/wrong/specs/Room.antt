@@ -2,7 +2,7 @@
 use Prim.Native.Nat.{ℕ, _+_}
 use mathlib.Core.Logic.{_≢_}
 use mathlib.Core.List.{[], _∷_}
-use Rattle.refusals.specs.Refusals.{none, plain, refusedAt}
+use Rattle.refusals.specs.Refusals.{none, plain, refusedAt, withEarlier}
 use Rattle.refusals.proofs.Refusal.none.Reads as refusal-none
 use Rattle.refusals.proofs.Refusal.plain.Reads as refusal-plain
 use Rattle.refusals.proofs.Refusal.at.Reads as refusal-at
@@ -47,16 +47,23 @@ pub record Room : Type 0 where
   pub none-is-1 : Never refusal-none.Post tt (plain 1)
   -- route 1, as a single array is, though nothing is refused
   pub none-at-route-1 : Never refusal-none.Post tt (refusedAt 0 1 0)
+  -- an earlier route, though nothing is refused
+  pub none-with-earlier-route : Never refusal-none.Post tt (withEarlier 1 0 none)
   -- ---- Refusal::plain
   -- the number lost
   pub number-lost : (r : ℕ) → r ≢ 0 → Never refusal-plain.Post (r & tt) none
   -- route 1, as a single array is, though the call as a whole is refused
   pub plain-at-route-1 : (r : ℕ) → Never refusal-plain.Post (r & tt) (refusedAt r 1 0)
+  -- an earlier hop, though the call as a whole is refused
+  pub plain-with-earlier-hop : (r g : ℕ) → g ≢ 0 → Never refusal-plain.Post (r & tt) (withEarlier 0 g (plain r))
   -- ---- Refusal::at
   -- route and hop exchanged
   pub route-and-hop-exchanged : (r i h : ℕ) → i ≢ h → Never refusal-at.Post (r & i & h & tt) (refusedAt r h i)
   -- the hop counted from 0
   pub hop-from-0 : (r i h : ℕ) → Never refusal-at.Post (r & i & h + 1 & tt) (refusedAt r i h)
+  -- its own route and hop as the earlier ones
+  pub at-with-earlier-route : (r i h : ℕ) → i ≢ 0 → Never refusal-at.Post (r & i & h & tt) (withEarlier i 0 (refusedAt r i h))
+  pub at-with-earlier-hop : (r i h : ℕ) → h ≢ 0 → Never refusal-at.Post (r & i & h & tt) (withEarlier 0 h (refusedAt r i h))
   -- ---- shape_refusal
   -- N not bounded: the 6,561 servers of (9,3) taken
   pub servers-not-bounded : Never shape-refusal.Post (fullRoom 9 3 & tt) 0

@@ -1,24 +1,28 @@
 -- Wrong answers of `verdict`, wherever the table and the list lie.
 use mathlib.Core.List.{[], _∷_, _++_}
 use lib.ListN.{replicate}
-use Rattle.refusals.specs.Refusals.{none, plain, refusedAt}
+use Rattle.refusals.specs.Refusals.{none, plain, refusedAt, withEarlier}
 use Rattle.room.specs.Shapes.{shapeOf, fullRoom}
 use Rattle.verdict.proofs.check_list.Reads as check-list
-use Rattle.wrong.specs.Never.{Never, Loan, _&_, _lends_}
-use Rattle.wrong.specs.Examples.{array, healthy, failing, direct, other}
+use Rattle.wrong.specs.Never.{Never, NeverTells, Loan, _&_, _lends_}
+use Rattle.wrong.specs.Examples.{array, healthy, failing, direct, other, roundToServer}
 
 pub record Verdict (o q : Loan) : Type 0 where
   -- ---- check_list
   -- middle servers compared only: 00 to 03 of (4,1), the route 03 twice, which has none
   pub middle-servers-only : Never check-list.Post (fullRoom 4 1 & o lends healthy & 0 & 3 & q lends array (0x03 ∷ []) ++ array (0x03 ∷ []) & tt) none
-  -- 15 at the earlier of the pair
-  pub earlier-of-the-pair : Never check-list.Post (fullRoom 4 1 & o lends healthy & 0 & 3 & q lends array (0x03 ∷ []) ++ array (0x03 ∷ []) & tt) (refusedAt 15 1 0)
+  -- 15 at the earlier of the pair, whatever else is told
+  pub earlier-of-the-pair : NeverTells check-list.Post (fullRoom 4 1 & o lends healthy & 0 & 3 & q lends array (0x03 ∷ []) ++ array (0x03 ∷ []) & tt) (λ y. y .route) 1
   -- the receiver's link forgotten: the level-0 link of 03 is failed
   pub receiver-forgotten : Never check-list.Post (fullRoom 4 1 & o lends failing 3 1 & 0 & 3 & q lends array (0x03 ∷ []) & tt) none
+  -- 28 tested before 11: 00 by 01, 11, 12 and 02 to 01, where the level-0 link of 02 is failed
+  pub server-again-before-link : Never check-list.Post (fullRoom 4 1 & o lends failing 2 1 & 0 & 15 & q lends roundToServer & tt) (withEarlier 0 1 (refusedAt 28 1 5))
+  -- the earlier hop told with 11
+  pub earlier-hop-told-with-11 : Never check-list.Post (fullRoom 4 1 & o lends failing 2 1 & 0 & 15 & q lends roundToServer & tt) (withEarlier 0 1 (refusedAt 11 1 5))
   -- a place of the second array counted on from the first: 00 to 03, 03 and then 41 00, whose second hop changes nothing
   pub hops-counted-on : Never check-list.Post (fullRoom 4 1 & o lends healthy & 0 & 3 & q lends array (0x03 ∷ []) ++ array (0x41 ∷ 0x00 ∷ []) & tt) (refusedAt 10 2 10)
   -- 15 tested before all arrays are read: 00 to 03 of (4,2), the route 03 twice, and a third that changes nothing
-  pub pairs-before-routes : Never check-list.Post (fullRoom 4 2 & o lends replicate 64 0 & 0 & 3 & q lends array (0x03 ∷ []) ++ array (0x03 ∷ []) ++ array [] & tt) (refusedAt 15 2 0)
+  pub pairs-before-routes : NeverTells check-list.Post (fullRoom 4 2 & o lends replicate 64 0 & 0 & 3 & q lends array (0x03 ∷ []) ++ array (0x03 ∷ []) ++ array [] & tt) (λ y. y .number) 15
   -- an empty list accepted
   pub empty-list-accepted : Never check-list.Post (fullRoom 4 1 & o lends healthy & 0 & 3 & q lends [] & tt) none
   -- 7 tested before 6: a list of nine bytes, a table of none

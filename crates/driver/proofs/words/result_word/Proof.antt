@@ -8,6 +8,12 @@ pub result-word-spec : {M : Type 1} → statement M
 result-word-spec =
     tie.close
     (tie.spec
+    -- the earlier route and hop in one byte
+    (λ c. search needs)
+    (λ c. search needs)
+    -- each part at its place
+    (λ c. search needs)
+    (λ c. search needs)
     (λ c. search needs)
     (λ c. search needs)
     (λ c. search needs)

@@ -1,6 +1,6 @@
 -- `path::hops::hop_from` meets its contract. Assumes nothing.
 use borrow.Author.Needs.{needs}
-use Rattle.path.proofs.HopLaws.{hop-eight, hop-nine, hop-weight, hop-ports, hop-server-fits, hop-weight-fits, hop-ports-fit, own-fits, own-there, new-fits, next-fits, hop-ten, hop-goes}
+use Rattle.path.proofs.HopLaws.{hop-weight, hop-ports, hop-server-fits, hop-weight-fits, hop-ports-fit, own-fits, own-there, new-fits, next-fits, hop-goes, hop-none}
 use Rattle.path.proofs.hops.hop_from.Statement.{statement}
 use Rattle.path.proofs.hops.hop_from.Tie as tie
 
@@ -27,8 +27,5 @@ hop-from-spec =
     (λ c. search hop-goes)
     -- 8, 9, 10
     (λ c κs. search needs)
-    (λ c. search hop-eight)
     (λ c κs. search needs)
-    (λ c. search hop-nine)
-    (λ c κs. search needs)
-    (λ c. search hop-ten))
+    (λ c. search hop-none))

@@ -1,6 +1,6 @@
 -- `path::hops::hop_of` meets its contract. Assumes nothing.
 use borrow.Author.Needs.{needs}
-use Rattle.path.proofs.HopLaws.{hop-refused, hop-tried, hop-no-byte}
+use Rattle.path.proofs.HopLaws.{hop-refused, hop-tried}
 use Rattle.path.proofs.hops.hop_of.Statement.{statement}
 use Rattle.path.proofs.hops.hop_of.Tie as tie
 
@@ -13,10 +13,6 @@ hop-of-spec =
     (λ c κs. search needs)
     (λ c κs. search needs)
     (λ c. search hop-refused)
-    -- no byte: 8
-    (λ c κs. search needs)
-    (λ c. search hop-no-byte)
-    -- a byte
-    (λ c. search needs)
+    -- 8, 9, 10
     (λ c κs. search needs)
     (λ c. search hop-tried))

@@ -11,7 +11,7 @@ try-hop-spec =
     -- refused as the hop is
     (λ c κs. search needs)
     (λ c. search try-refused)
-    -- live: the switch, and 12
+    -- live: the switch, then 28, 29
     (λ c κs. search needs)
     (λ c κs. search try-link)
     (λ c κs. search needs)

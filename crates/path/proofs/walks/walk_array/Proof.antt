@@ -32,6 +32,7 @@ walk-array-spec =
     -- the byte, the hop, and what it adds
     (λ c. search needs)
     (λ c. search needs)
+    (λ c. omega (arith, c .shared-slice-known3 .given (c .before .before .loop .i)))
     (λ c κs. search going-server)
     (λ c. search needs)
     (λ c. let g = c .before .before .before .before .loop in sym (length-take-le (g .i) (g .met) (omega arith)))
@@ -41,9 +42,12 @@ walk-array-spec =
     -- refused
     (λ c κs. search needs)
     (λ c κs. search needs)
-    (λ c. let b = c .before .before .before .before .before .before .before .before .before .before in same-met (b .loop .inv) (b .before .before .before .before .before .before .before .pre))
-    (λ c. let b = c .before .before .before .before .before .before .before .before .before .before in same-used (b .loop .inv) (b .before .before .before .before .before .before .before .pre))
-    (λ c. search going-refused)
+    (λ c κs. search needs)
+    (λ c. let b = c .before .before .before .before .before .before .before .before .before .before .before in same-met (b .loop .inv) (b .before .before .before .before .before .before .before .pre))
+    (λ c. let b = c .before .before .before .before .before .before .before .before .before .before .before in same-used (b .loop .inv) (b .before .before .before .before .before .before .before .pre))
+    (λ c.
+    let b = c .before .before .before .before .before .before .before .before .before .before .before in
+    going-refused (b .loop .inv) _ (b .before .before .array-refusal .ensures) (b .before .if1 .left) (c .before .before .before .before .before .before .before .before .before .before .loop-test .taken) _ (c .before .before .before .before .before .before .before .before .hop-from .ensures) _ (c .before .before .before .before .before .try-hop .ensures) (c .before .before .before .if2 .taken) _ (c .before .before .at .ensures) _ (c .before .with-earlier .ensures) _ (c .no-way2 .ensures) _ _)
     -- the way back
     (λ c. search shift-fits)
     (λ c. search level-fits)
@@ -62,7 +66,9 @@ walk-array-spec =
     going-arrived (b .loop .inv) _ (b .before .before .array-refusal .ensures) (b .before .if1 .left) (c .before .before .before .before .before .before .before .before .before .before .before .before .loop-test .taken) _ (c .before .before .before .before .before .before .before .before .before .before .hop-from .ensures) _ (c .before .before .before .before .before .before .before .try-hop .ensures) (c .before .before .before .before .before .if2 .left) (c .before .if3 .taken) _ (c .arrived .ensures))
     -- on to the next byte
     (λ c. search needs)
-    (λ c. search going-on)
+    (λ c.
+    let b = c .before .before .before .before .before .before .before .before .before .before .before .before in
+    going-on (b .loop .inv) _ (b .before .before .array-refusal .ensures) (b .before .if1 .left) (c .before .before .before .before .before .before .before .before .before .before .before .loop-test .taken) _ (c .before .before .before .before .before .before .before .before .before .hop-from .ensures) _ (c .before .before .before .before .before .before .try-hop .ensures) (c .before .before .before .before .if2 .left) (c .if3 .left))
     -- 13
     (λ c κs. search needs)
     (λ c κs. search needs)

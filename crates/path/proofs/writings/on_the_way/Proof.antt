@@ -33,6 +33,7 @@ on-the-way-spec =
     (λ c κs. search way-pair)
     -- refused
     (λ c κs. search needs)
+    (λ c κs. search needs)
     (λ c. search way-stop)
     -- put down, and on to the next
     (λ c. search needs)

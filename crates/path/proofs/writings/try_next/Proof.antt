@@ -10,7 +10,7 @@ try-next-spec =
     (tie.spec
     -- the level between the two servers
     (λ c κs. search needs)
-    -- its switch; 12
+    -- its switch; 28, 29
     (λ c κs. search adjacent-link)
     (λ c κs. search needs)
     (λ c. search next-tried)

@@ -13,7 +13,7 @@ write-path-spec =
     (λ c κs. search needs)
     (λ c κs. search needs)
     (λ c. search list-refused)
-    -- the way: 23, 12
+    -- the way: 23, 28, 29
     (λ c κs. search list-fine)
     (λ c κs. search needs)
     (λ c. search way-refuses)

@@ -36,7 +36,7 @@ pick-route-spec =
     (λ c. let h = fresh c in omega arith)
     (λ c. part-fresh _ _ _ _ _ _ _ (c .before .before .before .before .pick-place .ensures) _ _ (c .before .before .if1 .taken))
     -- mul-end-2, sub-result-3, sub-result-4, part-result-start-2, part-result-end-2, returns-2: in the kept list
-    (λ c. let h = kept c in omega arith)
+    (λ c. let h = kept c in omega (arith, c .before .before .before .before .before .before .before .before .before .good .1 .1 .1 .1 .1 .0))
     (λ c. let h = kept c in omega arith)
     (λ c. let h = kept c in omega arith)
     (λ c. let h = kept c in omega arith)

@@ -11,7 +11,7 @@ use Rattle.verdict.proofs.pairs.first_meeting.Tie as tie
 
 abbrev Inv-loop : tie.InvT-loop
 Inv-loop count i walks one j₀ j =
-    (i + 1 ≤ j) × (j ≤ count) × (firstMeeting one (j + 1) (drop j (take count walks)) ≡ firstMeeting one (i + 1 + 1) (drop (i + 1) (take count walks)))
+    (i + 1 ≤ j) × (j ≤ count) × (firstMeeting (i + 1) one (j + 1) (drop j (take count walks)) ≡ firstMeeting (i + 1) one (i + 1 + 1) (drop (i + 1) (take count walks)))
 
 abbrev μ-loop : tie.MeasureT-loop
 μ-loop count i walks one j₀ j = count - j
@@ -27,18 +27,23 @@ first-meeting-spec =
     (λ c. omega arith)
     (λ c. omega arith)
     (λ c. (omega arith, omega arith, refl))
-    -- mul-other, array-copy-out-other, are-parallel-requires: the one at j
+    -- mul-other, array-copy-out-other, meeting-of-requires: the one at j
     (λ c. omega arith)
     (λ c. omega arith)
     (λ c κs. search (arrived-at, arith))
-    -- add-j-2, loop-less, loop-again: it is parallel
+    -- add-at, at-requires, add-with-earlier, with-earlier-requires, returns: they meet, 15
     (λ c. omega arith)
-    (λ c. omega arith)
-    (λ c. (omega arith, omega arith, search (meeting-on, arith)))
-    -- add-at, at-requires, returns: it is not, 15
+    (λ c κs. search needs)
     (λ c. omega arith)
     (λ c κs. search needs)
     (λ c. search (meeting-here, arith))
+    -- add-j-2, loop-less, loop-again: they are parallel
+    (λ c. omega arith)
+    (λ c. omega arith)
+    (λ c.
+    let b = c .before .before .before .before .before in
+    let given = b .before .before .pre in
+    (omega arith, omega arith, meeting-on _ _ _ _ _ (b .loop .inv .2) _ (c .before .before .meeting-of .ensures) (given .2) (given .0) (c .before .before .before .before .loop-test .taken) (c .if1 .left)))
     -- none-requires, returns-2: all are
     (λ c κs. search needs)
     (λ c. search (meeting-end, arith)))
