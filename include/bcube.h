@@ -111,8 +111,8 @@ extern "C" {
 /* The version of the library that the program runs with, to hold against BCUBE_VERSION, the header's. Another
  * first number says that the two may not fit: docs/CHANGES.md says what it changed. A library of a lower version lacks
  * what was added since: before 50000 it gives 12 for 28 and 29, and 15 with hop 0, and bcube_earlier_route and
- * bcube_earlier_hop read 0 of every answer; before 40100 bcube_step_level, bcube_step_old and bcube_step_back read 0 of every step.
- * Cost: constant; 0 bytes of stack. */
+ * bcube_earlier_hop read 0 of every answer; before 40100 bcube_step_level, bcube_step_old and bcube_step_back read 0 of
+ * every step. Cost: constant; 0 bytes of stack. */
 BCUBE_RESULT uint64_t bcube_version(void);
 
 /* ---- limits and sizes */

@@ -741,18 +741,24 @@ bcube_answer plain_reverse(bcube_room value, uint64_t source, uint64_t destinati
     return answered(0);
 }
 
-/* all meetings of these routes, each as the number of its first route, its later route, the first one's hop and the
- * later one's hop, four bits each; gives the least, or 0 where every two are parallel */
+/* all meetings of two routes, each as the first one's hop and the later one's hop, four bits each; gives the least, or 0
+ * where they are parallel */
+static uint32_t least_hops(const struct route *first, const struct route *other) {
+    uint32_t least = 0;
+    for (uint32_t later = 1; later <= other->hops; later++)
+        for (uint32_t hop = 1; hop <= first->hops; hop++)
+            if (hops_meet(first, hop, other, later) && (least == 0 || (hop << 4 | later) < least)) least = hop << 4 | later;
+    return least;
+}
+
+/* the same of these routes, by the numbers of the first route and of the later one, then by their hops */
 static uint32_t least_meeting(const struct route *route, uint32_t count) {
     uint32_t least = 0;
     for (uint32_t j = 1; j < count; j++)
-        for (uint32_t i = 0; i < j; i++)
-            for (uint32_t later = 1; later <= route[j].hops; later++)
-                for (uint32_t hop = 1; hop <= route[i].hops; hop++) {
-                    uint32_t meeting = (i + 1) << 12 | (j + 1) << 8 | hop << 4 | later;
-                    if (least != 0 && least < meeting) continue;
-                    if (hops_meet(&route[i], hop, &route[j], later)) least = meeting;
-                }
+        for (uint32_t i = 0; i < j; i++) {
+            uint32_t hops = least_hops(&route[i], &route[j]), meeting = (i + 1) << 12 | (j + 1) << 8 | hops;
+            if (hops != 0 && (least == 0 || meeting < least)) least = meeting;
+        }
     return least;
 }
 

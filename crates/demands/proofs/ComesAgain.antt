@@ -2,7 +2,8 @@
 use Prim.Native.Nat.{ℕ, _-_}
 use mathlib.Core.Path.{_≡_, refl, sym, ap, subst}
 use mathlib.Core.Logic.{_≢_, _↔_, inl, inr}
-use mathlib.Core.Bool.{false}
+use mathlib.Core.Bool.{true, false, not}
+use lib.Dec.{eqb}
 use mathlib.Core.List.{List, [], _∷_, _++_}
 use native.Mathlib.Omega.{arith}
 use lib.ListN.{length}
@@ -17,7 +18,7 @@ use Rattle.path.specs.Answers.{walkAnswer, writeAnswer}
 use Rattle.demands.specs.Tests.{Tests, Hold}
 use Rattle.demands.specs.Meetings.{Reached, Used, Earlier, server, switch, no-hop}
 use Rattle.demands.specs.Refusals.{endOf, NotIn, hopTests, readTests, writeTests, FailsWith, arrayTests, serversTests, Along, Stops, hop-fails, never-arrives, goes-on, Reads, WriteStops, Writes, ComesTo, MeetsAgain, UsesAgain, WritesTo, WritesAgain, WritesOver}
-use Rattle.demands.proofs.Chains.{chain-means, at-fails, fails-at, front, back, hold-both}
+use Rattle.demands.proofs.Chains.{all, numbersOf, chain-means, at-fails, fails-at, front, back, hold-both}
 use Rattle.demands.proofs.Refusing.{other-numbers}
 use Rattle.demands.proofs.Meetings.{used-place}
 use Rattle.demands.proofs.Exactly.{refused-exactly}
@@ -114,9 +115,12 @@ module _ (s : Shape) (t : List ℕ) (a d : ℕ) (bs : List ℕ) where
       (hop-fails (c .along) (at-fails (before vs b ++ server-new vs b) [] 29 (NotIn (over vs b) (switchesOf s vs)) (hold-both (before vs b) (server-new vs b) (to-before c) (m .new, tt)) (not-unused (m .again))) (switch (m .again)))
 
   -- a number that no test of the array has is of its reading
-  reads : (r : Refusal) → r .number ≢ 0 → (walkAnswer s t a d bs .refusal ≡ r) ↔ (Hold (arrayTests s a d bs) × Reads s t a d bs r) → (walkAnswer s t a d bs .refusal ≡ r) ↔ (Hold (arrayTests s a d bs) × Stops s t a d bs r)
-  reads r n means = (λ q. let w = means .0 q in (w .0, go (w .1)), λ k. means .1 (k .0, inr (k .1)))
+  reads : (r : Refusal) → r .number ≢ 0 → all (λ n. not (eqb n (r .number))) (numbersOf (arrayTests s a d bs)) ≡ true → (walkAnswer s t a d bs .refusal ≡ r) ↔ (Hold (arrayTests s a d bs) × Stops s t a d bs r)
+  reads r n o = (λ q. let w = means .0 q in (w .0, go (w .1)), λ k. means .1 (k .0, inr (k .1)))
     where
+      means : (walkAnswer s t a d bs .refusal ≡ r) ↔ (Hold (arrayTests s a d bs) × Reads s t a d bs r)
+      means = chain-means .otherwise plain (arrayTests s a d bs) (Reads s t a d bs) (walkAnswer s t a d bs .refusal) r (refused-exactly .walk s t a d bs) (other-numbers plain (arrayTests s a d bs) r (λ m. refl) o)
+
       go : Reads s t a d bs r → Stops s t a d bs r
       go (inl k) = absurd (n (ap (λ (x : Refusal). x .number) (k .1)))
       go (inr k) = k
@@ -124,13 +128,13 @@ module _ (s : Shape) (t : List ℕ) (a d : ℕ) (bs : List ℕ) where
   pub twenty-eight : (g h : ℕ) → (walkAnswer s t a d bs .refusal ≡ withEarlier 0 g (refusedAt 28 1 h)) ↔ (Hold (arrayTests s a d bs) × MeetsAgain s t a d bs g h)
   twenty-eight g h =
       let r = withEarlier 0 g (refusedAt 28 1 h) in
-      let m = reads r (λ z. omega arith) (chain-means .otherwise plain (arrayTests s a d bs) (Reads s t a d bs) (walkAnswer s t a d bs .refusal) r (refused-exactly .walk s t a d bs) (other-numbers plain (arrayTests s a d bs) r (λ n. refl) refl)) in
+      let m = reads r (λ z. omega arith) refl in
       (λ q. let w = m .0 q in (w .0, stops-met g h (w .1) refl), λ k. m .1 (k .0, met-stops (k .1)))
 
   pub twenty-nine : (g h : ℕ) → (walkAnswer s t a d bs .refusal ≡ withEarlier 0 g (refusedAt 29 1 h)) ↔ (Hold (arrayTests s a d bs) × UsesAgain s t a d bs g h)
   twenty-nine g h =
       let r = withEarlier 0 g (refusedAt 29 1 h) in
-      let m = reads r (λ z. omega arith) (chain-means .otherwise plain (arrayTests s a d bs) (Reads s t a d bs) (walkAnswer s t a d bs .refusal) r (refused-exactly .walk s t a d bs) (other-numbers plain (arrayTests s a d bs) r (λ n. refl) refl)) in
+      let m = reads r (λ z. omega arith) refl in
       (λ q. let w = m .0 q in (w .0, stops-used g h (w .1) refl), λ k. m .1 (k .0, used-stops (k .1)))
 
 -- ---- writing
@@ -198,9 +202,12 @@ module _ (s : Shape) (vs : List ℕ) where
         here = ap (λ (x : ℕ). withEarlier 0 g (refusedAt 29 1 x)) (sym (c .count));
       }
 
-  writes : (r : Refusal) → r .number ≢ 0 → (writeAnswer s vs .refusal ≡ r) ↔ (Hold (serversTests s vs) × Writes s vs r) → (writeAnswer s vs .refusal ≡ r) ↔ (Hold (serversTests s vs) × WriteStops s vs r)
-  writes r n means = (λ q. let w = means .0 q in (w .0, go (w .1)), λ k. means .1 (k .0, inr (k .1)))
+  writes : (r : Refusal) → r .number ≢ 0 → all (λ n. not (eqb n (r .number))) (numbersOf (serversTests s vs)) ≡ true → (writeAnswer s vs .refusal ≡ r) ↔ (Hold (serversTests s vs) × WriteStops s vs r)
+  writes r n o = (λ q. let w = means .0 q in (w .0, go (w .1)), λ k. means .1 (k .0, inr (k .1)))
     where
+      means : (writeAnswer s vs .refusal ≡ r) ↔ (Hold (serversTests s vs) × Writes s vs r)
+      means = chain-means .otherwise plain (serversTests s vs) (Writes s vs) (writeAnswer s vs .refusal) r (refused-exactly .write-path s vs) (other-numbers plain (serversTests s vs) r (λ m. refl) o)
+
       go : Writes s vs r → WriteStops s vs r
       go (inl k) = absurd (n (ap (λ (x : Refusal). x .number) (k .1)))
       go (inr k) = k
@@ -208,11 +215,11 @@ module _ (s : Shape) (vs : List ℕ) where
   pub write-twenty-eight : (g h : ℕ) → (writeAnswer s vs .refusal ≡ withEarlier 0 g (refusedAt 28 1 h)) ↔ (Hold (serversTests s vs) × WritesAgain s vs g h)
   write-twenty-eight g h =
       let r = withEarlier 0 g (refusedAt 28 1 h) in
-      let m = writes r (λ z. omega arith) (chain-means .otherwise plain (serversTests s vs) (Writes s vs) (writeAnswer s vs .refusal) r (refused-exactly .write-path s vs) (other-numbers plain (serversTests s vs) r (λ n. refl) refl)) in
+      let m = writes r (λ z. omega arith) refl in
       (λ q. let w = m .0 q in (w .0, write-met (w .1)), λ k. m .1 (k .0, met-written (k .1)))
 
   pub write-twenty-nine : (g h : ℕ) → (writeAnswer s vs .refusal ≡ withEarlier 0 g (refusedAt 29 1 h)) ↔ (Hold (serversTests s vs) × WritesOver s vs g h)
   write-twenty-nine g h =
       let r = withEarlier 0 g (refusedAt 29 1 h) in
-      let m = writes r (λ z. omega arith) (chain-means .otherwise plain (serversTests s vs) (Writes s vs) (writeAnswer s vs .refusal) r (refused-exactly .write-path s vs) (other-numbers plain (serversTests s vs) r (λ n. refl) refl)) in
+      let m = writes r (λ z. omega arith) refl in
       (λ q. let w = m .0 q in (w .0, write-used (w .1)), λ k. m .1 (k .0, used-written (k .1)))

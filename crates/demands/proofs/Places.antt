@@ -322,8 +322,8 @@ module _ (s : Shape) (t : List ℕ) (a d : ℕ) (bs : List ℕ) (held : Hold (ch
         order = r .order;
         within = within;
         before = λ i j u v k. pair-parallel i j (omega (arith, v)) v (route-at i) (route-at j) (read i (omega (arith, v))) (read j v) (r .before i j u (subst (λ (m : ℕ). j < m) (sym walks-long) v) k);
-        hop = suc (meetsFirst u v);
-        other = suc (metAt u v (meetsFirst u v));
+        first-hop = suc (meetsFirst u v);
+        second-hop = suc (metAt u v (meetsFirst u v));
         meet = meet-first s (route-at (r .first)) (route-at (r .second)) (sym (ap₂ parallel one two) ∙ r .meet);
         here = first-right (firstStop 1 walks) (firstPair 1 walks) o ∙ r .here ∙ ap₂ (λ (x y : Walked). meeting (1 + r .first) x (1 + r .second) y) one two ∙ told;
       }
@@ -386,7 +386,7 @@ module _ (s : Shape) (t : List ℕ) (a d : ℕ) (bs : List ℕ) (held : Hold (ch
       first-right (firstStop 1 walks) (firstPair 1 walks) (ap (λ (x : Refusal). x .number) (stop-none 1 walks (λ j k. array-none j (inside j k) (h .routes j, h .read j (inside j k)))))
       ∙ pair-is 1 walks (h .first) (h .second) (h .order) (subst (λ (m : ℕ). h .second < m) (sym walks-long) (h .within))
       (λ u v p q k. parallel-pair u v (omega (arith, inside v q)) (inside v q) (h .routes u) (h .routes v) (h .read u (omega (arith, inside v q))) (h .read v (inside v q)) (h .before u v p (inside v q) k))
-      (ap₂ parallel one two ∙ apart s (h .routes (h .first)) (h .routes (h .second)) (λ p. parallel-exactly s (h .routes (h .first)) (h .routes (h .second)) .0 p (h .hop) (h .other) (h .meet .meet)))
+      (ap₂ parallel one two ∙ not-so)
       ∙ ap₂ (λ (x y : Walked). meeting (1 + h .first) x (1 + h .second) y) one two
       ∙ fifteen-told u v (omega arith) (omega arith) (same .0) (same .1)
       ∙ sym (h .here)
@@ -406,10 +406,12 @@ module _ (s : Shape) (t : List ℕ) (a d : ℕ) (bs : List ℕ) (held : Hold (ch
       two : getD walks (h .second) pastEnd ≡ v
       two = array-walk (h .second) (h .within) (h .routes (h .second)) (h .read (h .second) (h .within))
 
+      not-so : parallel u v ≡ false
+      not-so = apart s (h .routes (h .first)) (h .routes (h .second)) (λ p. parallel-exactly s (h .routes (h .first)) (h .routes (h .second)) .0 p (h .first-hop) (h .second-hop) (h .meet .meet))
+
       -- what the walks tell is the first meeting, and there is one
-      same : (suc (meetsFirst u v) ≡ h .hop) × (suc (metAt u v (meetsFirst u v)) ≡ h .other)
+      same : (suc (meetsFirst u v) ≡ h .first-hop) × (suc (metAt u v (meetsFirst u v)) ≡ h .second-hop)
       same =
-          let not-so = apart s (h .routes (h .first)) (h .routes (h .second)) (λ p. parallel-exactly s (h .routes (h .first)) (h .routes (h .second)) .0 p (h .hop) (h .other) (h .meet .meet)) in
           meeting-unique s (h .routes (h .first)) (h .routes (h .second)) _ _ _ _ (meet-first s (h .routes (h .first)) (h .routes (h .second)) not-so) (h .meet)
 
   checks-answer : (r : Refusal) → Checks s t a d bs r → checkAnswer s t a d bs ≡ r

@@ -269,10 +269,10 @@ pub record FirstPair (s : Shape) (t : List ℕ) (a d : ℕ) (bs : List ℕ) (r :
   pub order : first < second
   pub within : second < length bs / 8
   pub before : (i j : ℕ) → i < j → j < length bs / 8 → (i < first) ⊎ ((i ≡ first) × (j < second)) → Parallel s (routes i) (routes j)
-  pub hop : ℕ
-  pub other : ℕ
-  pub meet : MeetFirst s (routes first) (routes second) hop other
-  pub here : r ≡ withEarlier (suc first) hop (refusedAt 15 (suc second) other)
+  pub first-hop : ℕ
+  pub second-hop : ℕ
+  pub meet : MeetFirst s (routes first) (routes second) first-hop second-hop
+  pub here : r ≡ withEarlier (suc first) first-hop (refusedAt 15 (suc second) second-hop)
 
 -- a list is accepted; or an array of it is not read; or all are, and two are not parallel
 abbrev pub Checks : Shape → List ℕ → ℕ → ℕ → List ℕ → Refusal → Type 0

@@ -37,7 +37,7 @@ use Rattle.driver.specs.Words.{Small}
 use Rattle.driver.proofs.WordLaws.{none-small, plain-small, number-small}
 
 -- what is so of both arms is so of the one taken
-either : {X : Type 0} (P : X → Type 0) (b : Bool) (x y : X) → P x → P y → P (cond b x y)
+pub either : {X : Type 0} (P : X → Type 0) (b : Bool) (x y : X) → P x → P y → P (cond b x y)
 either P true x y p q = p
 either P false x y p q = q
 

@@ -18,7 +18,7 @@ pub word-made : (r : Refusal) (v : ℕ) → _≡_ {A = Answer} (record { word = 
 unfolding word
 word-made r v = refl
 
-pub refusal-same : (x y : Refusal) → x .number ≡ y .number → x .route ≡ y .route → x .hop ≡ y .hop → earlierRoute x ≡ earlierRoute y → earlierHop x ≡ earlierHop y → x ≡ y
+refusal-same : (x y : Refusal) → x .number ≡ y .number → x .route ≡ y .route → x .hop ≡ y .hop → earlierRoute x ≡ earlierRoute y → earlierHop x ≡ earlierHop y → x ≡ y
 refusal-same x y a b c d e =
     ap (λ (n : ℕ). refusal n (x .route) (x .hop) (earlierRoute x) (earlierHop x)) a
     ∙ ap₂ (λ (i h : ℕ). refusal (y .number) i h (earlierRoute x) (earlierHop x)) b c

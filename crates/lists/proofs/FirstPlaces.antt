@@ -1,6 +1,6 @@
 -- Laws of first places: the first at which a test holds, and the first of an element in a list.
 use Prim.Native.Nat.{ℕ, zero, suc, _+_, _≤_, _<_, zero-le, suc-le-suc}
-use mathlib.Core.Path.{_≡_, refl, sym, ap, _∙_}
+use mathlib.Core.Path.{_≡_, refl, sym, ap, _∙_, subst}
 use mathlib.Core.Logic.{_≢_}
 use mathlib.Core.Bool.{Bool, true, false, cond}
 use mathlib.Core.List.{List, [], _∷_, _++_}
@@ -12,6 +12,10 @@ use lib.ListN.{length, getD}
 use borrow.Author.Tests.{eq-eqb, ne-eqb, eqb-true, eqb-false}
 use Rattle.lists.specs.Lists.{isIn, Once, firstWhere, placeIn}
 use Rattle.lists.proofs.ListLaws.{in-among, at-in, missing-in, snoc-at, length-snoc}
+
+-- what holds of all before i, and of i, holds of all before i + 1
+pub all-on : (P : ℕ → Type 0) (i : ℕ) → ((j : ℕ) → j < i → P j) → P i → (j : ℕ) → j < i + 1 → P j
+all-on P i f h j p = elim (decLt j i) [ yes y ↦ f j y | no y ↦ (let q : i ≡ j = omega arith in subst P q h) ]
 
 -- ---- the first at which a test holds
 
@@ -87,14 +91,7 @@ module _ (x : ℕ) (xs : List ℕ) where
   passed-none = record { within = zero-le; not-yet = λ j p. absurd (let z : ⊥ = omega arith in z) }
 
   pub passed-on : (i : ℕ) → Passed i → i < length xs → (getD xs i 0 ≡ x → ⊥) → Passed (i + 1)
-  passed-on i g h n = record { within = omega arith; not-yet = at }
-    where
-      at : (j : ℕ) → j < i + 1 → getD xs j 0 ≢ x
-      at j p =
-          elim (decLt j i) [
-            | yes y ↦ g .not-yet j y
-            | no y ↦ let q : j ≡ i = omega arith in λ e. n (ap (λ (k : ℕ). getD xs k 0) (sym q) ∙ e)
-          ]
+  passed-on i g h n = record { within = omega arith; not-yet = all-on (λ j. getD xs j 0 ≢ x) i (g .not-yet) n }
 
   pub passed-here : (i : ℕ) → Passed i → i < length xs → getD xs i 0 ≡ x → i ≡ placeIn x xs
   unfolding placeIn

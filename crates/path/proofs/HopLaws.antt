@@ -154,12 +154,12 @@ module _ (s : Shape) (a b l v : ℕ) (el : l ≡ levelOf b) (ev : v ≡ valueOf 
   unfolding hopFrom
   refuses r x e f = answer-refused (suc r) _ stopsHop x _ f e (λ z. omega arith)
 
-  pub hop-eight : (x : Hop) → s .k < l → x ≡ stopsHop 8 → x ≡ hopFrom s a b
+  hop-eight : (x : Hop) → s .k < l → x ≡ stopsHop 8 → x ≡ hopFrom s a b
   unfolding hopRefusal _or-else_
   hop-eight x h = refuses 7 x (rw (← el) (simp (lt-leb l (s .k) h)))
 
   module _ (m : ℕ) (most : m ≡ bound s l) where
-    pub hop-nine : (x : Hop) → l ≤ s .k → m ≤ v → x ≡ stopsHop 9 → x ≡ hopFrom s a b
+    hop-nine : (x : Hop) → l ≤ s .k → m ≤ v → x ≡ stopsHop 9 → x ≡ hopFrom s a b
     unfolding hopRefusal _or-else_
     hop-nine x level h = let q : bound s l ≤ v = omega arith in refuses 8 x (rw (← el, ← ev) (simp (le-leb l (s .k) level, le-ltb v (bound s l) q)))
 
@@ -247,7 +247,7 @@ module _ (s : Shape) (a b l v : ℕ) (el : l ≡ levelOf b) (ev : v ≡ valueOf 
             pub hop-goes : (r : Refusal) → r ≡ none → record { refusal = r; next = a - o * p + v * p; level = l; old = o } ≡ hopFrom s a b
             hop-goes = goes (passed .0) (passed .1) (passed .2)
 
-          pub hop-ten : t ≡ false → l ≤ s .k → v < m → (x : Hop) → x ≡ stopsHop 10 → x ≡ hopFrom s a b
+          hop-ten : t ≡ false → l ≤ s .k → v < m → (x : Hop) → x ≡ stopsHop 10 → x ≡ hopFrom s a b
           hop-ten h level q x f =
               let e = at-most-holds l (s .k) _ level _ (below-holds v m _ q _ refl) ∙ sym g ∙ h in
               same level q x (eqb-true o v (not-false _ e)) f

@@ -12,6 +12,7 @@ infix 35 _unless_
 abbrev pub refusal : ℕ → ℕ → ℕ → ℕ → ℕ → Refusal
 refusal r i h j g = record { number = r; route = i; hop = h; «earlier_route» = j; «earlier_hop» = g }
 
+-- the earlier route that a refusal names, and the hop of it
 abbrev pub earlierRoute : Refusal → ℕ
 earlierRoute r = r .«earlier_route»
 

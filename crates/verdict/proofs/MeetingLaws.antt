@@ -2,7 +2,7 @@
 use Prim.Native.Nat.{ℕ, zero, suc, _+_, _-_, _≤_, _<_, zero-le}
 use mathlib.Core.Path.{_≡_, refl, sym, ap, _∙_, subst}
 use mathlib.Core.Logic.{_≢_, _↔_, _⊎_, inl, inr, ⊎-elim}
-use mathlib.Core.Bool.{Bool, true, false, false≢true, cond, _&&_, _||_}
+use mathlib.Core.Bool.{Bool, true, false, false≢true, cond, _&&_, _||_, or-false}
 use mathlib.Core.List.{List, [], _∷_}
 use native.Mathlib.Omega.{arith}
 use native.Mathlib.Decide.{decLt}
@@ -12,7 +12,7 @@ use lib.Seq.{length-take-le, take-take, getD-take}
 use borrow.Author.Tests.{eq-eqb, ne-eqb, lt-ltb, le-ltb, ltb-true, ltb-false, eqb-true}
 use Rattle.lists.specs.Lists.{middle, firstWhere, placeIn, Apart}
 use Rattle.lists.proofs.ListLaws.{both-held, length-middle, middle-at}
-use Rattle.lists.proofs.FirstPlaces.{where-most, where-holds, where-before, where-is, where-same, place-most, place-there, place-before}
+use Rattle.lists.proofs.FirstPlaces.{where-most, where-holds, where-before, where-is, where-same, all-on}
 use Rattle.refusals.specs.Refusals.{refusedAt, withEarlier}
 use Rattle.path.specs.declared.Walked.{Walked}
 use Rattle.verdict.specs.declared.Meeting.{Meeting}
@@ -34,7 +34,7 @@ module _ (xs ys : List ℕ) (p q : ℕ) where
   unfolding sameAt
   there-same h k e = rw (lt-ltb p (length xs) h, lt-ltb q (length ys) k, eq-eqb (getD xs p 0) (getD ys q 0) e)
 
-  pub same-not : (p < length xs → q < length ys → getD xs p 0 ≢ getD ys q 0) → sameAt xs ys p q ≡ false
+  same-not : (p < length xs → q < length ys → getD xs p 0 ≢ getD ys q 0) → sameAt xs ys p q ≡ false
   same-not n = go (sameAt xs ys p q) refl
     where
       go : (b : Bool) → sameAt xs ys p q ≡ b → b ≡ false
@@ -143,7 +143,7 @@ module _ (u v : Walked) where
   first-there f =
       elim (decLt (meetsFirst u v) (hopsIn u)) [
         | yes y ↦ where-holds (meets u v (meetsFirst u v)) (hopsIn v) (ltb-true _ _ (where-holds (λ p. ltb (metAt u v p) (hopsIn v)) (hopsIn u) y))
-        | no n ↦ absurd (false≢true (sym f ∙ apart-parallel u v (λ p q x y. where-before (meets u v p) (hopsIn v) q (omega (arith, ltb-false (metAt u v p) (hopsIn v) (where-before (λ z. ltb (metAt u v z) (hopsIn v)) (hopsIn u) p (omega arith)))))))
+        | no n ↦ absurd (false≢true (sym f ∙ apart-parallel u v (λ p q x y. met-before u v p q (omega (arith, first-before u v p (omega arith))))))
       ]
 
   -- and nowhere before
@@ -210,35 +210,19 @@ module _ (w : Walked) (h : Arrived w) where
       ∙ getD-take (w .count) (w .servers) (suc i) 0 (omega arith)
       ∙ ap (λ (j : ℕ). getD (w .servers) j 0) e
 
--- a is the place of its switch among those of v
-module _ (u v : Walked) (hu : Arrived u) (hv : Arrived v) (i : ℕ) (hi : i < hopsIn u) (a : ℕ) (ea : a ≡ placeIn (getD (u .switches) i 0) (take (v .count - 1) (v .switches))) where
-  switch-place : a ≡ placeIn (getD (switchesIn u) i 0) (switchesIn v)
-  unfolding switchesIn
-  switch-place = ea ∙ ap (λ (x : ℕ). placeIn x (take (v .count - 1) (v .switches))) (sym (switch-at u hu i hi))
+-- a is the place of its switch among those of v; the last hop leads to the destination
+module _ (u v : Walked) (hu : Arrived u) (hv : Arrived v) (i : ℕ) (hi : i < hopsIn u) where
+  last-alike : u .count - 1 ≤ i + 1 → (q : ℕ) → q < hopsIn v → eqb (getD (u .switches) i 0) (getD (switchesIn v) q 0) ≡ meets u v i q
+  unfolding meets sameAt
+  last-alike h q p =
+      let a : i < length (switchesIn u) = omega (arith, switches-all u hu) in
+      let b : q < length (switchesIn v) = omega (arith, switches-all v hv) in
+      let c : length (between u) ≤ i = omega (arith, between-all u hu) in
+      rw (lt-ltb i (length (switchesIn u)) a, lt-ltb q (length (switchesIn v)) b, le-ltb i (length (between u)) c, switch-at u hu i hi) (sym (or-false _))
 
-  switch-most : a ≤ hopsIn v
-  switch-most = omega (arith, switch-place, place-most (getD (switchesIn u) i 0) (switchesIn v), switches-all v hv)
-
-  -- its switch is used by none before that place
-  unused : (j : ℕ) → j < a → sameAt (switchesIn u) (switchesIn v) i j ≡ false
-  unused j p = same-not _ _ i j (λ h k e. place-before (getD (switchesIn u) i 0) (switchesIn v) j (omega (arith, switch-place)) (sym e))
-
-  used : a < hopsIn v → meets u v i a ≡ true
-  used p =
-      let k : a < length (switchesIn v) = omega (arith, switches-all v hv) in
-      let h : i < length (switchesIn u) = omega (arith, switches-all u hu) in
-      let e = switch-place in
-      let t : getD (switchesIn v) a 0 ≡ getD (switchesIn u) i 0 = ap (λ (x : ℕ). getD (switchesIn v) x 0) e ∙ place-there (getD (switchesIn u) i 0) (switchesIn v) (rw (← e) k) in
-      meets-by u v i a .1 (inl (there-same (switchesIn u) (switchesIn v) i a h k (sym t)))
-
-  -- where it leads, none but the switch can be shared before that place
-  by-switch : ((j : ℕ) → j < a → sameAt (between u) (between v) i j ≡ false) → a ≡ metAt u v i
-  unfolding metAt
-  by-switch n = sym (where-is (meets u v i) (hopsIn v) a switch-most (λ j p. meets-not u v i j (unused j p) (n j p)) used)
-
-  -- the last hop leads to the destination
-  pub met-last : u .count - 1 ≤ i + 1 → a ≡ metAt u v i
-  met-last h = by-switch (λ j p. same-not _ _ i j (λ x y. absurd (let z : ⊥ = omega (arith, between-all u hu) in z)))
+  pub met-last : (a : ℕ) → a ≡ placeIn (getD (u .switches) i 0) (take (v .count - 1) (v .switches)) → u .count - 1 ≤ i + 1 → a ≡ metAt u v i
+  unfolding placeIn metAt switchesIn
+  met-last a e h = e ∙ ap (firstWhere _) (switches-all v hv) ∙ where-same _ (meets u v i) (hopsIn v) (last-alike h)
 
 -- ---- the same, where the hop leads to a server between the ends
 
@@ -283,26 +267,13 @@ module _ (used met : List ℕ) (w a : ℕ) where
         by-server false = rw (lt-ltb i (length met) h, eq-eqb a (getD met i 0) (sym e))
 
     pub unmet-on : i < length met → (getD used i 0 ≡ w → ⊥) → (getD met i 0 ≡ a → ⊥) → Unmet (i + 1)
-    unmet-on h n m = record { within = omega arith; no-switch = at used w (g .no-switch) n; no-server = at met a (g .no-server) m }
-      where
-        at : (xs : List ℕ) (x : ℕ) → ((j : ℕ) → j < i → getD xs j 0 ≢ x) → getD xs i 0 ≢ x → (j : ℕ) → j < i + 1 → getD xs j 0 ≢ x
-        at xs x f k j p =
-            elim (decLt j i) [
-              | yes y ↦ f j y
-              | no y ↦ let q : j ≡ i = omega arith in λ e. k (ap (λ (z : ℕ). getD xs z 0) (sym q) ∙ e)
-            ]
+    unmet-on h n m = record { within = omega arith; no-switch = all-on (λ j. getD used j 0 ≢ w) i (g .no-switch) n; no-server = all-on (λ j. getD met j 0 ≢ a) i (g .no-server) m }
 
     -- past all
     pub unmet-end : length met ≤ i → (getD used i 0 ≡ w → ⊥) → i + 1 ≡ firstMet used met w a
     unfolding firstMet
-    unmet-end h n = sym (where-is test (length used) (i + 1) (omega (arith, g .within)) all (λ p. absurd (let z : ⊥ = omega (arith, g .within) in z)))
-      where
-        all : (j : ℕ) → j < i + 1 → test j ≡ false
-        all j p =
-            elim (decLt j i) [
-              | yes y ↦ before j y
-              | no y ↦ let q : j ≡ i = omega arith in neither j (λ e. n (ap (λ (z : ℕ). getD used z 0) (sym q) ∙ e)) (λ z. absurd (let k : ⊥ = omega arith in k))
-            ]
+    unmet-end h n =
+        sym (where-is test (length used) (i + 1) (omega (arith, g .within)) (all-on (λ j. test j ≡ false) i before (neither i n (λ z. absurd (let k : ⊥ = omega arith in k)))) (λ p. absurd (let z : ⊥ = omega (arith, g .within) in z)))
 
 module _ (u v : Walked) (hu : Arrived u) (hv : Arrived v) (i : ℕ) (more : i + 1 < u .count - 1) where
   -- the switches of v are one more than its servers between the ends
@@ -338,14 +309,7 @@ none-met-start u v = record { within = zero-le; none-met = λ j p. absurd (let z
 module _ (u v : Walked) (i : ℕ) (g : NoneMet u v i) where
   module _ (h : i < u .count - 1) (q : ℕ) (e : q ≡ metAt u v i) where
     pub none-met-on : v .count - 1 ≤ q → NoneMet u v (i + 1)
-    none-met-on k = record { within = omega arith; none-met = at }
-      where
-        at : (j : ℕ) → j < i + 1 → hopsIn v ≤ metAt u v j
-        at j p =
-            elim (decLt j i) [
-              | yes y ↦ g .none-met j y
-              | no y ↦ let z : j ≡ i = omega arith in rw (z, ← e) k
-            ]
+    none-met-on k = record { within = omega arith; none-met = all-on (λ j. hopsIn v ≤ metAt u v j) i (g .none-met) (rw (← e) k) }
 
     -- this one meets: they are not parallel, and it is the first
     first : q < v .count - 1 → meetsFirst u v ≡ i
@@ -363,40 +327,39 @@ module _ (u v : Walked) (i : ℕ) (g : NoneMet u v i) where
         go true f = absurd (false≢true (sym (parallel-apart u v f i (metAt u v i)) ∙ where-holds (meets u v i) (hopsIn v) (rw (← e) k)))
         go false f = refl
 
-    pub met-here : q < v .count - 1 → _≡_ {A = Meeting} (record { hop = i + 1; other = q + 1 }) (meetingOf u v)
+    pub met-here : q < v .count - 1 → _≡_ {A = Meeting} (record { first = i + 1; later = q + 1 }) (meetingOf u v)
     unfolding meetingOf
-    met-here k = rw (crossed k, first k) (ap (λ (x : ℕ). record { hop = i + 1; other = x + 1 }) e)
+    met-here k = rw (crossed k, first k) (ap (λ (x : ℕ). record { first = i + 1; later = x + 1 }) e)
 
   none-meets : u .count - 1 ≤ i → (p q : ℕ) → p < hopsIn u → q < hopsIn v → meets u v p q ≡ false
-  unfolding metAt
-  none-meets h p q x y = where-before (meets u v p) (hopsIn v) q (omega (arith, g .none-met p (omega arith)))
+  none-meets h p q x y = met-before u v p q (omega (arith, g .none-met p (omega arith)))
 
   -- none meets
-  pub none-met-end : u .count - 1 ≤ i → _≡_ {A = Meeting} (record { hop = 0; other = 0 }) (meetingOf u v)
+  pub none-met-end : u .count - 1 ≤ i → _≡_ {A = Meeting} (record { first = 0; later = 0 }) (meetingOf u v)
   unfolding meetingOf
   none-met-end h = rw (apart-parallel u v (none-meets h))
 
 -- ---- as it is told: x is where they meet
 
 module _ (u v : Walked) (x : Meeting) (e : x ≡ meetingOf u v) where
-  pub meeting-none : x .hop ≡ 0 → parallel u v ≡ true
+  pub meeting-none : x .first ≡ 0 → parallel u v ≡ true
   unfolding meetingOf
-  meeting-none z = go (parallel u v) (sym (ap (λ (y : Meeting). y .hop) e) ∙ z)
+  meeting-none z = go (parallel u v) (sym (ap (λ (y : Meeting). y .first) e) ∙ z)
     where
-      go : (b : Bool) → cond {A = Meeting} b (record { hop = 0; other = 0 }) (record { hop = meetsFirst u v + 1; other = metAt u v (meetsFirst u v) + 1 }) .hop ≡ 0 → b ≡ true
+      go : (b : Bool) → cond {A = Meeting} b (record { first = 0; later = 0 }) (record { first = meetsFirst u v + 1; later = metAt u v (meetsFirst u v) + 1 }) .first ≡ 0 → b ≡ true
       go true k = refl
       go false k = absurd (let n : ⊥ = omega arith in n)
 
-  pub meeting-some : (x .hop ≡ 0 → ⊥) → parallel u v ≡ false
+  pub meeting-some : (x .first ≡ 0 → ⊥) → parallel u v ≡ false
   unfolding meetingOf
-  meeting-some n = go (parallel u v) (λ z. n (ap (λ (y : Meeting). y .hop) e ∙ z))
+  meeting-some n = go (parallel u v) (λ z. n (ap (λ (y : Meeting). y .first) e ∙ z))
     where
-      go : (b : Bool) → (cond {A = Meeting} b (record { hop = 0; other = 0 }) (record { hop = meetsFirst u v + 1; other = metAt u v (meetsFirst u v) + 1 }) .hop ≡ 0 → ⊥) → b ≡ false
+      go : (b : Bool) → (cond {A = Meeting} b (record { first = 0; later = 0 }) (record { first = meetsFirst u v + 1; later = metAt u v (meetsFirst u v) + 1 }) .first ≡ 0 → ⊥) → b ≡ false
       go true k = absurd (k refl)
       go false k = refl
 
-  pub meeting-told : (x .hop ≡ 0 → ⊥) → (i j : ℕ) → withEarlier i (x .hop) (refusedAt 15 j (x .other)) ≡ meeting i u j v
+  pub meeting-told : (x .first ≡ 0 → ⊥) → (i j : ℕ) → withEarlier i (x .first) (refusedAt 15 j (x .later)) ≡ meeting i u j v
   unfolding meetingOf meeting
   meeting-told n i j =
-      let f : x ≡ record { hop = meetsFirst u v + 1; other = metAt u v (meetsFirst u v) + 1 } = e ∙ rw (meeting-some n) in
-      ap (λ (y : Meeting). withEarlier i (y .hop) (refusedAt 15 j (y .other))) f
+      let f : x ≡ record { first = meetsFirst u v + 1; later = metAt u v (meetsFirst u v) + 1 } = e ∙ rw (meeting-some n) in
+      ap (λ (y : Meeting). withEarlier i (y .first) (refusedAt 15 j (y .later))) f

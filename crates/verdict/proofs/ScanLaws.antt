@@ -34,13 +34,13 @@ module _ (w : Walked) (i j m : ℕ) (ws : List Walked) (e : firstMeeting (i + 1)
     unfolding firstMeeting
     at = rw (from j m ws h (omega (arith, p .long)))
 
-    pub meeting-on : x .hop ≡ 0 → firstMeeting (i + 1) w (j + 1 + 1) (drop (j + 1) (take m ws)) ≡ firstMeeting (i + 1) w (i + 1 + 1) (drop (i + 1) (take m ws))
+    pub meeting-on : x .first ≡ 0 → firstMeeting (i + 1) w (j + 1 + 1) (drop (j + 1) (take m ws)) ≡ firstMeeting (i + 1) w (i + 1 + 1) (drop (i + 1) (take m ws))
     meeting-on z = sym (at ∙ rw (meeting-none w (getD ws j pastEnd) x f z)) ∙ e
 
-    pub meeting-here : (x .hop ≡ 0 → ⊥) → (r : Refusal) → r ≡ refusedAt 15 (j + 1) (x .other) → (y : Refusal) → y ≡ withEarlier (i + 1) (x .hop) r → y ≡ firstMeeting (i + 1) w (i + 1 + 1) (drop (i + 1) (take m ws))
+    pub meeting-here : (x .first ≡ 0 → ⊥) → (r : Refusal) → r ≡ refusedAt 15 (j + 1) (x .later) → (y : Refusal) → y ≡ withEarlier (i + 1) (x .first) r → y ≡ firstMeeting (i + 1) w (i + 1 + 1) (drop (i + 1) (take m ws))
     meeting-here n r g y k =
         let t = meeting-some w (getD ws j pastEnd) x f n in
-        k ∙ ap (withEarlier (i + 1) (x .hop)) g ∙ meeting-told w (getD ws j pastEnd) x f n (i + 1) (j + 1) ∙ sym (at ∙ rw t) ∙ e
+        k ∙ ap (withEarlier (i + 1) (x .first)) g ∙ meeting-told w (getD ws j pastEnd) x f n (i + 1) (j + 1) ∙ sym (at ∙ rw t) ∙ e
 
   pub meeting-end : {x : Refusal} → m ≤ j → x ≡ none → x ≡ firstMeeting (i + 1) w (i + 1 + 1) (drop (i + 1) (take m ws))
   unfolding firstMeeting

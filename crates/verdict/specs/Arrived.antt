@@ -32,4 +32,4 @@ firstMet used met w a = firstWhere (λ q. eqb w (getD used q 0) || (ltb q (lengt
 -- the hops of two walked arrays where they first meet, counted from 1; zeros where they are parallel
 unfoldable pub meetingOf : Walked → Walked → Meeting
 meetingOf u v =
-    cond (parallel u v) (record { hop = 0; other = 0 }) (record { hop = meetsFirst u v + 1; other = metAt u v (meetsFirst u v) + 1 })
+    cond (parallel u v) (record { first = 0; later = 0 }) (record { first = meetsFirst u v + 1; later = metAt u v (meetsFirst u v) + 1 })

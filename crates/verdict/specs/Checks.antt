@@ -35,6 +35,7 @@ parallel u v = disjoint (switchesIn u) (switchesIn v) && disjoint (between u) (b
 
 -- ---- where two walked arrays meet; p is a place of a hop of u, and q of v, counted from 0
 
+-- how many hops a walked array has
 abbrev pub hopsIn : Walked → ℕ
 hopsIn w = w .count - 1
 

@@ -8,6 +8,6 @@ pub use checks::check_list;
 
 // The hops where two walked arrays first meet, counted from 1; zeros where they are parallel.
 pub(crate) struct Meeting {
-    pub(crate) hop: usize,
-    pub(crate) other: usize,
+    pub(crate) first: usize,
+    pub(crate) later: usize,
 }

@@ -61,13 +61,13 @@ fn meeting_of(one: Walked, other: Walked) -> Meeting
         let place = met_at(one, other, i);
         if place < other_hops {
             return Meeting {
-                hop: i + 1,
-                other: place + 1,
+                first: i + 1,
+                later: place + 1,
             };
         }
         i += 1;
     }
-    Meeting { hop: 0, other: 0 }
+    Meeting { first: 0, later: 0 }
 }
 
 // The first of the walked arrays after place i that is not parallel to the one at i: 15.
@@ -80,9 +80,9 @@ fn first_meeting(walks: [Walked; 4], count: usize, i: usize) -> Refusal
     while j < count {
         let other = walks[j];
         let meeting = meeting_of(one, other);
-        if meeting.hop != 0 {
-            let refusal = Refusal::at(Refusal::NOT_PARALLEL, j + 1, meeting.other);
-            return refusal.with_earlier(i + 1, meeting.hop);
+        if meeting.first != 0 {
+            let refusal = Refusal::at(Refusal::NOT_PARALLEL, j + 1, meeting.later);
+            return refusal.with_earlier(i + 1, meeting.first);
         }
         j += 1;
     }

@@ -40,7 +40,7 @@ use Rattle.wrong.specs.Never.{NeverTells, Loan}
 use Rattle.wrong.specs.Examples.{noneFailed, switchTwice, straightBack, roundToSource, roundToServer, switchLater, eightRound, stale}
 use Rattle.wrong.specs.Again.{withHop, roomFor, Misread, Miswritten, Misnamed, Overtold, Again}
 use Rattle.wrong.proofs.Clash.{differ, clash-left}
-use Rattle.wrong.proofs.Earlier.{Told, told-walk, told-lay, told-write, reverse-refusal, bare-not, Bare, bare-pick, bare-place, bare-step}
+use Rattle.wrong.proofs.Earlier.{Told, told-walk, told-lay, told-write, reverse-refusal, bare-not, NoneEarlier, bare-pick, bare-place, bare-step}
 
 -- a word tells the refusal that it was made of
 pub in-word : {r : Refusal} {v : ℕ} {w : Answer} → Small r v → w ≡ word r v → refusalIn w ≡ r
@@ -225,7 +225,7 @@ misnamed tells =
       switch-not-before = λ κ r x p n. omega (arith, tells κ r x p .switch (n .0) .1, n .1);
     }
 
-overtold : {K A R X : Type 0} {post : K → A → R → X → Type 0} {a : A} {told : R → Refusal} → ((κ : K) (r : R) (x : X) → post κ a r x → Bare (told r)) → Overtold post a told
+overtold : {K A R X : Type 0} {post : K → A → R → X → Type 0} {a : A} {told : R → Refusal} → ((κ : K) (r : R) (x : X) → post κ a r x → NoneEarlier (told r)) → Overtold post a told
 overtold {told = told} tells =
     record {
       retired-number = λ κ r x p. bare-not (told r .number) 12 (tells κ r x p .number) refl;
@@ -275,11 +275,11 @@ wrong-again o q b =
       any-bcube-read = λ c a d bs lent. misnamed (λ κ r x p. told-in (read-small (shapeIn c) a d bs) (p .0) (told-walk (shapeIn c) [] a d bs));
       any-bcube-reverse = λ c a d bs lent. misnamed (λ κ r x p. told-in (reverse-small (shapeIn c) a d bs) (p .0) (told-reverse (shapeIn c) a d bs));
       any-bcube-write = λ c vs lent. misnamed (λ κ r x p. told-in (write-small (shapeIn c) vs) (p .0) (told-write (shapeIn c) vs));
-      any-pick-place = λ s t a d fs ks. overtold (λ κ r x p. subst (λ (y : Place). Bare (y .refusal)) (sym p) (bare-place s t a d fs ks));
-      any-pick-refusal = λ s t a d fs ks. overtold (λ κ r x p. subst Bare (sym p) (bare-pick s t a d fs ks));
-      any-step-once = λ s a d i bs es. overtold (λ κ r x p. subst (λ (y : Step). Bare (y .refusal)) (sym p) (bare-step s a d i bs es));
-      any-bcube-pick = λ c t a d fs ks. overtold (λ κ r x p. subst Bare (sym (in-word (pick-small (shapeIn c) t a d fs ks (placeAnswer (shapeIn c) t a d fs ks) refl) p)) (bare-place (shapeIn c) t a d fs ks));
-      any-bcube-step = λ c a d i bs es h. overtold (λ κ r x p. subst (λ (y : Step). Bare (y .refusal)) (sym (ap unpacked p ∙ step-unpacks (shapeIn c) a d i bs es h)) (bare-step (shapeIn c) a d i bs es));
+      any-pick-place = λ s t a d fs ks. overtold (λ κ r x p. subst (λ (y : Place). NoneEarlier (y .refusal)) (sym p) (bare-place s t a d fs ks));
+      any-pick-refusal = λ s t a d fs ks. overtold (λ κ r x p. subst NoneEarlier (sym p) (bare-pick s t a d fs ks));
+      any-step-once = λ s a d i bs es. overtold (λ κ r x p. subst (λ (y : Step). NoneEarlier (y .refusal)) (sym p) (bare-step s a d i bs es));
+      any-bcube-pick = λ c t a d fs ks. overtold (λ κ r x p. subst NoneEarlier (sym (in-word (pick-small (shapeIn c) t a d fs ks (placeAnswer (shapeIn c) t a d fs ks) refl) p)) (bare-place (shapeIn c) t a d fs ks));
+      any-bcube-step = λ c a d i bs es h. overtold (λ κ r x p. subst (λ (y : Step). NoneEarlier (y .refusal)) (sym (ap unpacked p ∙ step-unpacks (shapeIn c) a d i bs es h)) (bare-step (shapeIn c) a d i bs es));
       read-touched = λ κ r x p. kept (stale 9) (readAnswer (shapeIn (roomOf 4 1 4)) 0 3 switchTwice .servers) 0 (held-walks (read-rows .switch-twice)) refl refl (p .1);
       reverse-touched = λ κ r x p. kept (stale 8) (reverseAnswer (shapeIn (roomOf 4 1 4)) 0 3 straightBack .bytes) 0 (held-reverses (read-rows .straight-back)) refl refl (p .1);
       write-touched = λ κ r x p. kept (stale 8) (writeAnswer (shapeIn (roomOf 4 1 4)) (0 ∷ 1 ∷ 3 ∷ []) .bytes) 0 (held-writes (write-rows .switch-twice)) refl refl (p .1);

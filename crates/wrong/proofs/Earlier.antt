@@ -26,6 +26,7 @@ use Rattle.path.proofs.NumberLaws.{hop-numbers, array-numbers, write-numbers}
 use Rattle.path.proofs.RepeatLaws.{again-new, again-server, again-switch, earlier-server, earlier-switch, earlier-none}
 use Rattle.verdict.specs.Checks.{arrays, parallel, meeting, firstStop, firstMeeting, firstOf, firstPair, listRefusal, walksOf, checkAnswer}
 use Rattle.verdict.proofs.NumberLaws.{list-numbers}
+use Rattle.driver.proofs.PathSmall.{either}
 use Rattle.laying.specs.Answers.{layRefusal}
 use Rattle.pick.specs.Picks.{Source, inFresh, inKept, nowhere, pickSource, pickRefusal, pickAnswer}
 use Rattle.pick.specs.Places.{placeOf, placeAnswer}
@@ -119,10 +120,6 @@ module _ (h : ℕ) (met used : List ℕ) (b w : ℕ) (m : length met ≡ h + 1) 
 
 -- ---- what is so of each answer
 
-either : {X : Type 0} (P : X → Type 0) (b : Bool) (x y : X) → P x → P y → P (cond b x y)
-either P true x y p q = p
-either P false x y p q = q
-
 answer-so : {X : Type 0} (P : X → Type 0) (q : ℕ) (refused : ℕ → X) (x : X) → bare q ≡ true → ((r : ℕ) → bare r ≡ true → P (refused r)) → P x → P (answer q refused x)
 answer-so P zero refused x e f p = p
 answer-so P (suc q) refused x e f p = f (suc q) e
@@ -213,38 +210,38 @@ told-write s vs =
 
 -- ---- picking and a step, which name nothing earlier
 
-pub record Bare (r : Refusal) : Type 0 where
+pub record NoneEarlier (r : Refusal) : Type 0 where
   pub number : bare (r .number) ≡ true
   pub route : earlierRoute r ≡ 0
   pub hop : earlierHop r ≡ 0
 
-bare-plain : (q : ℕ) → bare q ≡ true → Bare (plain q)
+bare-plain : (q : ℕ) → bare q ≡ true → NoneEarlier (plain q)
 bare-plain q e = record { number = e; route = refl; hop = refl }
 
 module _ (s : Shape) (t : List ℕ) (a d : ℕ) (fs ks : List ℕ) where
   pick-bare : bare (pickRefusal s t a d fs ks) ≡ true
   pick-bare = one-passes bare refl refl (pick-numbers s t a d fs ks)
 
-  pub bare-pick : Bare (pickAnswer s t a d fs ks)
+  pub bare-pick : NoneEarlier (pickAnswer s t a d fs ks)
   unfolding pickAnswer
   bare-pick = bare-plain _ pick-bare
 
-  pub bare-place : Bare (placeAnswer s t a d fs ks .refusal)
+  pub bare-place : NoneEarlier (placeAnswer s t a d fs ks .refusal)
   unfolding placeAnswer
   bare-place = go (pickSource s t a d fs ks)
     where
-      go : (x : Source) → Bare (placeOf (pickRefusal s t a d fs ks) x .refusal)
+      go : (x : Source) → NoneEarlier (placeOf (pickRefusal s t a d fs ks) x .refusal)
       go (inFresh i) = bare-plain 0 refl
       go (inKept i) = bare-plain 0 refl
       go nowhere = bare-plain _ pick-bare
 
-pub bare-step : (s : Shape) (a d i : ℕ) (bs es : List ℕ) → Bare (stepAnswer s a d i bs es .refusal)
+pub bare-step : (s : Shape) (a d i : ℕ) (bs es : List ℕ) → NoneEarlier (stepAnswer s a d i bs es .refusal)
 unfolding stepAnswer withPlace
 bare-step s a d i bs es =
-    answer-so (λ (y : Step). Bare (y .refusal)) (stepRefusal s a d i bs es) (λ r. noStep (withPlace i r)) _
+    answer-so (λ (y : Step). NoneEarlier (y .refusal)) (stepRefusal s a d i bs es) (λ r. noStep (withPlace i r)) _
     (one-passes bare refl refl (step-numbers s a d i bs es))
-    (λ r e. either Bare (atHop r) (refusedAt r 1 (i + 1)) (plain r) (record { number = e; route = refl; hop = refl }) (bare-plain r e))
-    (either (λ (y : Step). Bare (y .refusal)) (eqb a d) delivery (forwarded s a i es (getD bs i 0)) (bare-plain 0 refl) (bare-plain 0 refl))
+    (λ r e. either NoneEarlier (atHop r) (refusedAt r 1 (i + 1)) (plain r) (record { number = e; route = refl; hop = refl }) (bare-plain r e))
+    (either (λ (y : Step). NoneEarlier (y .refusal)) (eqb a d) delivery (forwarded s a i es (getD bs i 0)) (bare-plain 0 refl) (bare-plain 0 refl))
 
 -- ---- refusals of a list
 

@@ -151,7 +151,7 @@ pub record Misnamed {K A R X : Type 0} (post : K → A → R → X → Type 0) (
 
 -- of a call that names nothing earlier
 pub record Overtold {K A R X : Type 0} (post : K → A → R → X → Type 0) (a : A) (told : R → Refusal) : Type 0 where
-  -- 12, 15, 28 or 29, which say why one route is not usable
+  -- 12, which is retired, 15, 28 or 29, which picking and a step never give
   pub retired-number : NeverTells post a (λ r. told r .number) 12
   pub meeting : NeverTells post a (λ r. told r .number) 15
   pub server-again : NeverTells post a (λ r. told r .number) 28

@@ -30,8 +30,8 @@ use Rattle.wrong.specs.Never.{Never, NeverTells, Loan, _&_, _lends_}
 use Rattle.wrong.specs.Examples.{array, healthy, failing, eightHops, switchTwice, roundToSource, roundToServer, switchLater}
 
 -- a refused hop that tells a next server, a level and an old value
-abbrev pub stopsAt : Refusal → ℕ → ℕ → ℕ → Hop
-stopsAt r a l v = record { refusal = r; next = a; level = l; old = v }
+abbrev pub refusedHop : Refusal → ℕ → ℕ → ℕ → Hop
+refusedHop r a l v = record { refusal = r; next = a; level = l; old = v }
 
 pub record Path (o q : Loan) : Type 0 where
   -- ---- byte_of
@@ -130,19 +130,19 @@ pub record Path (o q : Loan) : Type 0 where
   -- 4 with a place: server 16 of (4,1)
   pub four-with-a-place : Never hop-of.Post (fullRoom 4 1 & 16 & 0x41 & tt) (noHop (refusedAt 4 1 1))
   -- the level told with 8
-  pub level-told-with-8 : Never hop-of.Post (fullRoom 4 1 & 0 & 0x80 & tt) (stopsAt (refusedAt 8 1 1) 0 2 0)
+  pub level-told-with-8 : Never hop-of.Post (fullRoom 4 1 & 0 & 0x80 & tt) (refusedHop (refusedAt 8 1 1) 0 2 0)
   -- the server that it would come to told with 9
-  pub next-told-with-9 : Never hop-of.Post (shapeOf 8 3 4 & 2047 & 0xc4 & tt) (stopsAt (refusedAt 9 1 1) 2559 0 0)
+  pub next-told-with-9 : Never hop-of.Post (shapeOf 8 3 4 & 2047 & 0xc4 & tt) (refusedHop (refusedAt 9 1 1) 2559 0 0)
   -- the old value told with 9
-  pub old-told-with-9 : Never hop-of.Post (shapeOf 8 3 4 & 2047 & 0xc4 & tt) (stopsAt (refusedAt 9 1 1) 0 0 3)
+  pub old-told-with-9 : Never hop-of.Post (shapeOf 8 3 4 & 2047 & 0xc4 & tt) (refusedHop (refusedAt 9 1 1) 0 0 3)
   -- the server told with 10
-  pub next-told-with-10 : Never hop-of.Post (fullRoom 4 1 & 7 & 0x41 & tt) (stopsAt (refusedAt 10 1 1) 7 0 0)
+  pub next-told-with-10 : Never hop-of.Post (fullRoom 4 1 & 7 & 0x41 & tt) (refusedHop (refusedAt 10 1 1) 7 0 0)
   -- the level told with 10
-  pub level-told-with-10 : Never hop-of.Post (fullRoom 4 1 & 7 & 0x41 & tt) (stopsAt (refusedAt 10 1 1) 0 1 0)
+  pub level-told-with-10 : Never hop-of.Post (fullRoom 4 1 & 7 & 0x41 & tt) (refusedHop (refusedAt 10 1 1) 0 1 0)
   -- the old value, which is the new one, told with 10
-  pub old-told-with-10 : Never hop-of.Post (fullRoom 4 1 & 7 & 0x41 & tt) (stopsAt (refusedAt 10 1 1) 0 0 1)
+  pub old-told-with-10 : Never hop-of.Post (fullRoom 4 1 & 7 & 0x41 & tt) (refusedHop (refusedAt 10 1 1) 0 0 1)
   -- the level told with 4
-  pub level-told-with-4 : Never hop-of.Post (fullRoom 4 1 & 16 & 0x41 & tt) (stopsAt (plain 4) 0 1 0)
+  pub level-told-with-4 : Never hop-of.Post (fullRoom 4 1 & 16 & 0x41 & tt) (refusedHop (plain 4) 0 1 0)
   -- any next server, level or old value told on a refusal
   pub any-next-on-refusal : (s : Shape) (a b : ℕ) (y : Hop) → y .refusal .number ≢ 0 → y .next ≢ 0 → Never hop-of.Post (s & a & b & tt) y
   pub any-level-on-refusal : (s : Shape) (a b : ℕ) (y : Hop) → y .refusal .number ≢ 0 → y .level ≢ 0 → Never hop-of.Post (s & a & b & tt) y
@@ -158,7 +158,7 @@ pub record Path (o q : Loan) : Type 0 where
   pub last-of-two-places : Never place-in.Post (q lends 4 ∷ 7 ∷ 4 ∷ [] & 4 & tt) 2
   -- what is not there told at place 0
   pub missing-at-0 : Never place-in.Post (q lends 4 ∷ 7 ∷ [] & 0 & tt) 0
-  -- the place past the end, read as 0, gone by
+  -- one place more than the list has
   pub past-the-end : Never place-in.Post (q lends 4 ∷ 7 ∷ [] & 0 & tt) 3
   -- of any list: a place where something else stands, one after another that has it, one past the length
   pub any-place-of-another : (xs : List ℕ) (x p : ℕ) → p < length xs → getD xs p 0 ≢ x → Never place-in.Post (q lends xs & x & tt) p
