@@ -1,6 +1,6 @@
 /* calls check: asks every question of every row of both, the proved library and a plain one, and compares what they
  * answer and write; prints how many. The plain one is that of tests/c/plain.c, and for the calls with a table and its
- * summary that of plain.c here, which is written for speed.
+ * summary and those of the spanning trees that of plain.c here, which is written for speed.
  * calls rows: prints the names of the rows.
  * calls WHICH ROW TIMES: asks every question of a row TIMES times of one of them (proved, plain or none, which is an
  * empty call with the same arguments), and prints how many calls that were, the sum of what they answered, and
@@ -70,7 +70,8 @@ static void make_questions(void) {
 }
 
 /* ---- tables with their summaries, in four rooms: some random failed links; and servers to be marked and cleared, no
- * two of them at one switch, so that each can be put as it was before its own change */
+ * two of them at one switch, so that each can be put as it was before its own change. The same servers are the sources of
+ * trees */
 
 enum { ROOMS = 4 };
 static const uint32_t shapes[ROOMS][3] = {{8, 3, 8}, {64, 1, 64}, {12, 3, 2}, {8, 3, 4}};
@@ -79,8 +80,9 @@ static struct summed {
     bcube_room room;
     uint32_t k, servers, entries;
     uint8_t table[SERVERS], summary[BCUBE_MOST_SWITCHES], counted[BCUBE_MOST_SWITCHES];
+    uint32_t parents[BCUBE_TREE_NUMBERS];
     struct link {
-        uint64_t server, level;
+        uint64_t server, level, child; /* another server, whose parent is asked for */
         uint32_t place[4]; /* of the entries of its switches, */
         uint8_t entry[4];  /* and what they are while its links are live */
     } link[QUESTIONS], *now;
@@ -100,6 +102,7 @@ static void make_link(struct summed *s, int made) {
         uint32_t before = 0;
         link->server = below(s->servers);
         link->level = below(s->k + 1);
+        link->child = (link->server + 1 + question[made].destination % (s->servers - 1)) % s->servers;
         for (uint32_t level = 0; level <= s->k; level++) {
             link->place[level] = before + bcube_value(plain_switch(s->room, link->server, level));
             link->entry[level] = s->summary[link->place[level]];
@@ -186,7 +189,11 @@ ROW(step, bcube_stepped, both_of, step, (ENDS, uint64_t index, BYTES(path), BYTE
     SUMMED(clear_all, r, ALL(r), (SERVER), (s->room, s->now->server, BOTH))           \
     SUMMED(dead_switch, r, 0, (bcube_room room, BYTES(table), BYTES(summary)), (s->room, BOTH)) \
     SUMMED(summarize, r, 0, (bcube_room room, BYTES(table), uint8_t *summary, size_t summary_len), \
-           (s->room, s->table, s->servers, s->counted, s->entries))
+           (s->room, s->table, s->servers, s->counted, s->entries))                   \
+    SUMMED(parent, r, 0, (bcube_room room, uint64_t source, uint64_t tree, uint64_t server), \
+           (s->room, s->now->server, s->now->level, s->now->child))                   \
+    SUMMED(tree, r, 0, (bcube_room room, uint64_t source, uint64_t tree, uint32_t *parents), \
+           (s->room, s->now->server, s->now->level, s->parents))
 
 IN_ROOM(0)
 IN_ROOM(1)
@@ -206,11 +213,20 @@ static const struct {
 #define IN(call, r, room) {#call ":" room, none_##call##r, tested_##call##r, proved_##call##r}
 #define IN_ROOMS(call) IN(call, 0, "8,3"), IN(call, 1, "64,1"), IN(call, 2, "12,3,2"), IN(call, 3, "8,3,4")
     IN_ROOMS(mark), IN_ROOMS(clear), IN_ROOMS(mark_all), IN_ROOMS(clear_all),
-    IN_ROOMS(dead_switch), IN_ROOMS(summarize),
+    IN_ROOMS(dead_switch), IN_ROOMS(summarize), IN_ROOMS(parent), IN_ROOMS(tree),
 };
 enum { ROWS = sizeof rows / sizeof *rows };
 
 /* ---- what the words ask for */
+
+/* what the calls write, as it is before a call */
+static void unwrite(void) {
+    memset(out.bytes, 0xaa, WRITTEN);
+    for (int r = 0; r < ROOMS; r++) {
+        memset(summed[r].counted, 0xaa, sizeof summed[r].counted);
+        memset(summed[r].parents, 0xaa, sizeof summed[r].parents);
+    }
+}
 
 static int check(void) {
     static struct summed kept[ROOMS];
@@ -218,13 +234,11 @@ static int check(void) {
     for (int r = 0; r < ROWS; r++)
         for (int i = 0; i < QUESTIONS; i++, compared++) {
             uint8_t written[WRITTEN];
-            memset(out.bytes, 0xaa, WRITTEN);
-            for (int s = 0; s < ROOMS; s++) memset(summed[s].counted, 0xaa, sizeof summed[s].counted);
+            unwrite();
             uint64_t plain = rows[r].plain(&question[i]);
             memcpy(written, out.bytes, WRITTEN);
             memcpy(kept, summed, sizeof kept);
-            memset(out.bytes, 0xaa, WRITTEN);
-            for (int s = 0; s < ROOMS; s++) memset(summed[s].counted, 0xaa, sizeof summed[s].counted);
+            unwrite();
             if (rows[r].proved(&question[i]) == plain && memcmp(written, out.bytes, WRITTEN) == 0 &&
                 memcmp(kept, summed, sizeof kept) == 0)
                 continue;

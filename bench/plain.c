@@ -1,5 +1,7 @@
 #include "plain.h"
 
+#include <string.h>
+
 static uint64_t mac_at(const uint8_t *entry) {
     uint32_t first = (uint32_t)entry[0] << 24 | (uint32_t)entry[1] << 16 | (uint32_t)entry[2] << 8 | entry[3];
     uint32_t last = (uint32_t)entry[4] << 8 | entry[5];
@@ -195,4 +197,46 @@ bcube_answer tested_summarize(bcube_room room, const uint8_t *table, size_t tabl
             for (uint32_t low = 0; low < weight; low++) *summary++ = count(&s, table, high + low, level);
     }
     return refuses(0);
+}
+
+/* ---- spanning trees */
+
+static void digits_of(const struct shape *s, uint32_t server, uint32_t digit[4]) {
+    for (uint32_t level = 0; level <= s->k; level++, server /= s->n) digit[level] = server % s->n;
+}
+
+/* back from the tree's own level to the first at which the digits differ, which is the own one at the latest */
+static uint32_t parent_by(const struct shape *s, uint32_t tree, const uint32_t *source, const uint32_t *own, uint32_t server) {
+    uint32_t level = tree;
+    if (source[tree] != own[tree])
+        do level = level == 0 ? s->k : level - 1;
+        while (source[level] == own[level]);
+    return own[level] != 0 ? server - s->power[level] : server + (bound(s, level) - 1) * s->power[level];
+}
+
+bcube_answer tested_parent(bcube_room room, uint64_t source, uint64_t tree, uint64_t server) {
+    struct shape s;
+    uint32_t why = room_refusal(&s, room), from[4], own[4];
+    if (why) return refuses(why);
+    if (source >= s.servers || server >= s.servers) return refuses(4);
+    if (tree > s.k) return refuses(20);
+    if (source == server) return refuses(5);
+    digits_of(&s, (uint32_t)source, from);
+    digits_of(&s, (uint32_t)server, own);
+    return (bcube_answer){(uint64_t)parent_by(&s, (uint32_t)tree, from, own, (uint32_t)server) << 32};
+}
+
+bcube_answer tested_tree(bcube_room room, uint64_t source, uint64_t tree, uint32_t parents[4096]) {
+    struct shape s;
+    uint32_t why = room_refusal(&s, room), from[4], own[4] = {0};
+    if (why) return refuses(why);
+    if (source >= s.servers) return refuses(4);
+    if (tree > s.k) return refuses(20);
+    digits_of(&s, (uint32_t)source, from);
+    for (uint32_t server = 0; server < s.servers; server++) {
+        parents[server] = server == source ? BCUBE_NO_PARENT : parent_by(&s, (uint32_t)tree, from, own, server);
+        for (uint32_t level = 0; level <= s.k && ++own[level] == s.n; level++) own[level] = 0;
+    }
+    memset(parents + s.servers, 0, sizeof *parents * (BCUBE_TREE_NUMBERS - s.servers));
+    return (bcube_answer){(uint64_t)s.servers << 32};
 }

@@ -1,6 +1,7 @@
 /* Plain C, written for speed, to measure the proved library against. Two steps: one that makes the same tests, and one
- * that makes none; both answer in the proved step's form, the word and the MAC. And the calls with a table and its
- * summary, with the same tests: a pass over the table, and one over the servers of each switch that is asked for. */
+ * that makes none; both answer in the proved step's form, the word and the MAC. The calls with a table and its
+ * summary, with the same tests: a pass over the table, and one over the servers of each switch that is asked for. And
+ * those of the spanning trees, by the rule of the parent, with the digits carried from server to server in a whole tree. */
 #ifndef PLAIN_H
 #define PLAIN_H
 
@@ -24,5 +25,8 @@ bcube_answer tested_dead_switch(bcube_room room, const uint8_t *table, size_t ta
                                 size_t summary_len);
 bcube_answer tested_summarize(bcube_room room, const uint8_t *table, size_t table_len, uint8_t *summary,
                               size_t summary_len);
+
+bcube_answer tested_parent(bcube_room room, uint64_t source, uint64_t tree, uint64_t server);
+bcube_answer tested_tree(bcube_room room, uint64_t source, uint64_t tree, uint32_t parents[4096]);
 
 #endif

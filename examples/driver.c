@@ -1,6 +1,7 @@
 /* A driver in small: one room, one failed link, and one packet brought from server 0 to server 7, with the trace that
  * it leaves; then a server dies, a packet goes around it, and the server comes back; then a planner hands in lists, and
- * is told by which hops they are refused; and then a switch dies, and is named to the field crew.
+ * is told by which hops they are refused; then a switch dies, and is named to the field crew; and last a file goes out to
+ * all servers, in two parts by two trees.
  *
  * To build and run it on x86-64 Linux, from the root of the repository:
  *
@@ -195,6 +196,46 @@ static void check_planned(void) {
     check_routes("third", returning, sizeof returning);
 }
 
+/* How many parts of the file each server has been handed, and how many went by each hop. */
+static uint32_t parts[SERVERS], carried[SERVERS][SERVERS];
+
+/* What a server does with a part that it has: it hands it to each neighbour whose parent it is in the tree of the part.
+ * Here the neighbour's turn comes at once. */
+static void hand_on(uint32_t here, uint32_t part) {
+    for (uint32_t level = 0; level <= K; level++)
+        for (uint32_t value = 0; value < granted(bcube_bound(room, level)); value++) {
+            uint32_t next = granted(bcube_neighbour(room, here, level, value));
+            if (next == here || next == SOURCE) continue; /* the source has no parent */
+            if (granted(bcube_parent(room, SOURCE, part, next)) != here) continue;
+            parts[next]++;
+            carried[here][next]++;
+            hand_on(next, part);
+        }
+}
+
+/* Brings a file to all servers, part 0 by tree 0 and so on. The tables of parents are for the eye: no server needs them. */
+static void roll_out(void) {
+    static uint32_t parents[BCUBE_TREE_NUMBERS];
+    uint32_t whole = 0, hops = 0, most = 0;
+    for (uint32_t part = 0; part <= K; part++) {
+        uint32_t count = granted(bcube_tree(room, SOURCE, part, parents));
+        printf("  part %u, each server's parent:", part);
+        for (uint32_t i = 0; i < count; i++)
+            if (parents[i] == BCUBE_NO_PARENT) printf(" -");
+            else printf(" %u", parents[i]);
+        printf("\n");
+        hand_on(SOURCE, part);
+    }
+    for (uint32_t a = 0; a < SERVERS; a++) {
+        whole += parts[a] == K + 1;
+        for (uint32_t b = 0; b < SERVERS; b++) {
+            hops += carried[a][b] != 0;
+            if (carried[a][b] > most) most = carried[a][b];
+        }
+    }
+    printf("  %u servers were handed the whole file, by %u hops; the most parts by one hop: %u\n", whole, hops, most);
+}
+
 int main(void) {
     uint8_t kept[BCUBE_LIST_BYTES], fresh[BCUBE_LIST_BYTES];
     if (bcube_version() / 10000 != BCUBE_VERSION / 10000) return 1; /* another library than the header's */
@@ -249,5 +290,8 @@ int main(void) {
     print_refusal(bcube_dead_switch(room, failed, SERVERS, summary, switches));
     granted(bcube_summarize(room, failed, SERVERS, summary, switches)); /* so it is counted afresh */
     name_dead_switch();
+
+    printf("\nserver %d sends a file to all others, in %d parts\n", SOURCE, K + 1);
+    roll_out();
     return 0;
 }

@@ -48,6 +48,12 @@
  * or a clear those of the switches that it touches, bcube_dead_switch all. It leaves every other byte of the summary
  * alone, whatever that holds. Table and summary must not overlap.
  *
+ * SPANNING TREES. A file for all servers goes out from one of them, the source, by k+1 trees, numbered 0 to k. In each
+ * every server but the source has one parent, a neighbour, which hands it the file. From any server the way from parent to
+ * parent ends at the source, after k * (n - 1) + m hops at most (m - 1 where k is 0). No hop from one server to another
+ * stands in two of the trees; so of a file in k+1 parts, part l by tree l, every server gets every part, and no hop
+ * carries two. bcube_parent names one parent, bcube_tree those of a whole tree. Neither looks at failed links.
+ *
  * THE ANSWER of every call but bcube_step is one word, in a type of its own. Read it by bcube_refusal,
  * bcube_value, bcube_route and bcube_hop. Where bcube_refusal gives BCUBE_NOT_REFUSED, the value is the answer,
  * and the out buffer, if the call has one, is written in full. Otherwise the call is refused: bcube_refusal
@@ -65,7 +71,7 @@
  * Each call below lists what it can refuse, in the order in which that is tried; the first that applies is
  * given. What the numbers mean stands at the names of the refusals.
  *
- * NUMBERS are all uint64_t, and are tested as they come: none is cut before it is tested.
+ * NUMBERS are all uint64_t, but for those of a whole tree, and are tested as they come: none is cut before it is tested.
  *
  * BUFFERS. A buffer of any length comes as a pointer and a length, in bytes, or for bcube_write's servers
  * in numbers. It must point to as many readable elements as its length says (writable, for the tables and summaries
@@ -77,9 +83,10 @@
  * to it: a table and its summary are the driver's to guard, and as one, since the calls hold them to each other.
  *
  * COST. Each call says what it costs: a constant few instructions; the table, which is a pass over the N
- * bytes of the failed-link table; the servers of a switch, at most 64, or all links, each asked once; or a search,
- * which may visit every server. It says too how many bytes of stack it takes at most, beside its return address:
- * tests/c/stack measures that, and it is written here rounded up to 64. docs/PERFORMANCE.md has the instructions.
+ * bytes of the failed-link table; the servers of a switch, at most 64, or all links, each asked once; a tree, which is
+ * a constant for each server, and the 4,096 numbers; or a search, which may visit every server. It says too how many
+ * bytes of stack it takes at most, beside its return address: tests/c/stack measures that, and it is written here
+ * rounded up to 64. docs/PERFORMANCE.md has the instructions.
  *
  * WHERE IT RUNS. In user space, on x86-64. For a kernel the library would have to be compiled again, without
  * SSE registers and without a red zone, and with a stack for the searches. bcube_step uses neither of the
@@ -106,13 +113,13 @@ extern "C" {
 
 /* ---- the version: 10,000 times the first number, 100 times the second, and the third */
 
-#define BCUBE_VERSION 50000 /* 5.0.0; docs/CHANGES.md says what each version changed */
+#define BCUBE_VERSION 50100 /* 5.1.0; docs/CHANGES.md says what each version changed */
 
 /* The version of the library that the program runs with, to hold against BCUBE_VERSION, the header's. Another
  * first number says that the two may not fit: docs/CHANGES.md says what it changed. A library of a lower version lacks
- * what was added since: before 50000 it gives 12 for 28 and 29, and 15 with hop 0, and bcube_earlier_route and
- * bcube_earlier_hop read 0 of every answer; before 40100 bcube_step_level, bcube_step_old and bcube_step_back read 0 of
- * every step. Cost: constant; 0 bytes of stack. */
+ * what was added since: before 50100 bcube_parent and bcube_tree; before 50000 it gives 12 for 28 and 29, and 15 with hop 0,
+ * and bcube_earlier_route and bcube_earlier_hop read 0 of every answer; before 40100 bcube_step_level, bcube_step_old and
+ * bcube_step_back read 0 of every step. Cost: constant; 0 bytes of stack. */
 BCUBE_RESULT uint64_t bcube_version(void);
 
 /* ---- limits and sizes */
@@ -128,6 +135,9 @@ BCUBE_RESULT uint64_t bcube_version(void);
 #define BCUBE_PATH_BYTES 8    /* the path bytes of a packet, or of one route */
 #define BCUBE_LIST_BYTES 32   /* room for the most routes of a list: 4 arrays */
 #define BCUBE_ROUTE_SERVERS 9 /* room for the servers of one route */
+
+#define BCUBE_TREE_NUMBERS 4096     /* room for a whole tree: a number for each server of any room */
+#define BCUBE_NO_PARENT 4294967295u /* what stands there for the source */
 
 #define BCUBE_NEIGHBOUR_TABLE_BYTES 2048 /* a neighbour table: 256 entries */
 #define BCUBE_NEIGHBOUR_ENTRY_BYTES 8    /* one entry: MAC at 0 to 5, */
@@ -186,7 +196,7 @@ static inline const char *bcube_refusal_text(uint64_t number) {
     case BCUBE_REFUSED_LEVELS: return "k, the highest level, is above 3.";
     case BCUBE_REFUSED_SERVERS: return "The room would have more than 4,096 servers.";
     case BCUBE_REFUSED_ADDRESS: return "A server is not below the number of servers.";
-    case BCUBE_REFUSED_SAME_ENDS: return "The source is the destination.";
+    case BCUBE_REFUSED_SAME_ENDS: return "The source is the destination, or the server whose parent is asked for.";
     case BCUBE_REFUSED_TABLE: return "The failed-link table is not one byte a server, or has a bit above bit k set.";
     case BCUBE_REFUSED_LIST:
         return "A single array is not 8 bytes; or a list is not whole arrays of 8 bytes, or has more than k+1, or none to check.";
@@ -201,7 +211,7 @@ static inline const char *bcube_refusal_text(uint64_t number) {
     case BCUBE_REFUSED_NEIGHBOUR_TABLE: return "The neighbour table is not 2,048 bytes.";
     case BCUBE_REFUSED_HOP_INDEX: return "The next hop index is 8 or more, away from the destination.";
     case BCUBE_REFUSED_UNAVAILABLE: return "The next neighbour is not available.";
-    case BCUBE_REFUSED_LEVEL: return "A level is above k.";
+    case BCUBE_REFUSED_LEVEL: return "A level is above k, or a tree is.";
     case BCUBE_REFUSED_DIGIT:
         return "A digit, or a port, is not below its bound; or a place above k is not zero; or the level has no such switch.";
     case BCUBE_REFUSED_SERVER_COUNT: return "The servers to write are fewer than 2, or more than 9.";
@@ -550,6 +560,23 @@ static inline uint8_t bcube_step_back(bcube_stepped step) { return (uint8_t)(ste
 static inline uint8_t bcube_mac_byte(uint64_t mac, uint64_t i) {
     return (uint8_t)(i > 5 ? 0 : mac >> (40 - 8 * i) & 255);
 }
+
+/* ---- spanning trees
+ *
+ * Where a server hangs in tree l: if it has the source's own digit l, its parent is the server with digit l lowered by
+ * one; else with digit j lowered by one, level j being the last of l, l+1, .. k, 0, .. l-1 at which its digit is not the
+ * source's. Below 0 comes the greatest value of the digit, so m - 1 at level k, and n - 1 at every other. */
+
+/* The parent of a server in a tree of a source: the server that hands it the file. Refuses 1, 2, 26, 3, 4 (either
+ * server), 20 (the tree is above k), 5 (the server is the source, which has no parent). Value: the parent's address.
+ * Cost: constant; 128 bytes of stack. */
+BCUBE_RESULT bcube_answer bcube_parent(bcube_room room, uint64_t source, uint64_t tree, uint64_t server);
+
+/* A whole tree of a source. Refuses 1, 2, 26, 3, 4, 20 (the tree is above k). Value: how many servers the room has, N.
+ * Written: parents[x] is the parent of server x, and BCUBE_NO_PARENT for the source; zeros after server N - 1, the last.
+ * Cost: a tree; 256 bytes of stack. */
+BCUBE_BUFFER(4) BCUBE_RESULT bcube_answer bcube_tree(bcube_room room, uint64_t source, uint64_t tree,
+                                                     uint32_t parents[4096]);
 
 #ifdef __cplusplus
 }

@@ -65,6 +65,8 @@ BOTH(a_word, find, (ROOM, NUMBER(0), NUMBER(1), LENT(0), OUT))
 BOTH(a_word, select, (ROOM, NUMBER(0), NUMBER(1), LENT(0), OUT))
 BOTH(a_word, pick, (ROOM, NUMBER(0), NUMBER(1), LENT(0), LENT(1), LENT(2)))
 BOTH(a_step, step, (ROOM, NUMBER(0), NUMBER(1), NUMBER(2), LENT(0), LENT(1)))
+BOTH(a_word, parent, (ROOM, NUMBER(0), NUMBER(1), NUMBER(2)))
+BOTH(a_word, tree, (ROOM, NUMBER(0), NUMBER(1), OUT))
 
 /* sets of refusals; 0, no refusal, is in each */
 #define R(number) (UINT64_C(1) << (number))
@@ -122,6 +124,8 @@ static const struct {
     [PICK] = {CALL(pick, ENDS | R(6) | R(7) | R(16), 0), {"source", "destination"}, {"table", "fresh", "kept"}},
 #define STEPPED (SHAPED | R(4) | R(17) | R(7) | R(18) | R(8) | R(9) | R(10) | R(19))
     [STEP] = {CALL(step, STEPPED, 0), {"here", "destination", "index"}, {"path", "neighbours"}},
+    [PARENT] = {CALL(parent, ENDS | R(20), 0), {"source", "tree", "server"}, {0}},
+    [TREE] = {CALL(tree, SHAPED | R(4) | R(20), 4 * BCUBE_TREE_NUMBERS), {"source", "tree"}, {0}},
 };
 
 /* the refusal of what a call gave back, which is the lowest byte of a word */
@@ -213,10 +217,19 @@ static void print_answer(const char *whose, answer given, enum call call) {
     printf("\n");
 }
 
-/* the first bytes of what a call left */
+/* the first eight bytes of which the two calls did not leave the same begin here; 0 where all are the same */
+static size_t first_other(const struct written *it) {
+    for (size_t j = 0; j < it->size; j++)
+        if (it->proved[j] != it->plain[GUARD + j]) return j / 8 * 8;
+    return 0;
+}
+
+/* the first bytes of what a call left, or those from the first on that the other did not leave */
 static void print_left(const char *whose, int i, const uint8_t *bytes) {
+    size_t from = first_other(&written[i]);
     printf("  %s left%s", whose, i == 0 ? "" : " in the summary");
-    for (size_t j = 0; j < written[i].size && j < 72; j++) printf("%s%02x", j % 8 ? "" : " ", bytes[j]);
+    if (from != 0) printf(" from byte %zu on", from);
+    for (size_t j = from; j < written[i].size && j < from + 72; j++) printf("%s%02x", j % 8 ? "" : " ", bytes[j]);
     printf("\n");
 }
 
@@ -354,6 +367,12 @@ void not_as_worked(const struct question *q, answer given, answer wanted) {
     print_answer("wanted", wanted, q->call);
     for (int i = 0; i < 2; i++)
         if (writes(q->call, i)) print_left("plain ", i, written[i].plain + GUARD);
+}
+
+void not_a_tree(const struct question *q, const char *what, uint32_t server) {
+    if (differing++ >= 20) return;
+    printf("%s, server %" PRIu32 ": ", what, server);
+    print_question(q);
 }
 
 void not_as_counted(const struct question *q) {

@@ -14,6 +14,7 @@ enum call {
     READ, WRITE, REVERSE, CHECK,
     BUILD, FIND, SELECT, PICK,
     STEP,
+    PARENT, TREE,
     CALLS
 };
 
@@ -52,6 +53,9 @@ void not_as_worked(const struct question *question, answer given, answer wanted)
 
 /* Reports a question after which the summary carried along is not the one counted afresh. */
 void not_as_counted(const struct question *question);
+
+/* Reports a whole tree of which something does not hold that the rules say of all, or not of this server. */
+void not_a_tree(const struct question *question, const char *what, uint32_t server);
 
 unsigned long comparisons(void);
 unsigned long differences(void);

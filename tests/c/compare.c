@@ -20,6 +20,11 @@
  * kind of wrong entry and of wrong length, and marks and clears in a row, with the table and the summary carried along
  * and held to the count after each. All of these in larger rooms too.
  *
+ * Then the spanning trees: in every room of at most 64 servers every tree of every source whole, and the parent of every
+ * server; in larger rooms those of some sources. Of each tree it is held that a parent and its child are neighbours, that
+ * from every server the parents lead to the source in exactly the steps of the rules, the most of which are met, and
+ * that no hop stands in two trees of a source. And the refusals of a room, a source, a tree and a server in every mixture.
+ *
  * Last as many rounds (1 if not said) of questions of any kind in rooms of every size, with arguments and buffers
  * damaged in every way that the rules name, and numbers of up to 64 bits. The same numbers give the same run.
  * Prints the counts by call and by refusal, and by the kinds of 15, 28 and 29; status 1 if anything differs, or a refusal
@@ -711,6 +716,54 @@ static void worked_picking(void) {
     picked(ask_pick(0, 3, unusable, 8, lists, 8), 0, 0, 0);
 }
 
+/* a whole tree, and the parent of each server in it */
+static void worked_tree(uint32_t source, uint32_t tree, const uint32_t *parents) {
+    uint32_t whole[BCUBE_TREE_NUMBERS] = {0};
+    memcpy(whole, parents, servers * sizeof *parents);
+    worked(about(TREE, source, tree, 0, 0), valued(servers), whole, sizeof whole);
+    for (uint32_t x = 0; x < servers; x++)
+        worked(about(PARENT, source, tree, x, 0), x == source ? refused(5, 0, 0) : valued(parents[x]), "", 0);
+}
+
+/* from 0 in (4,1) tree 0 goes 0, 1, 2, 3, then up from each of these, and last from 7, 11 and 15 to 4, 8 and 12 */
+static void worked_whole_trees(void) {
+    static const uint32_t none = BCUBE_NO_PARENT;
+    enter_full(4, 1);
+    worked_tree(0, 0, (const uint32_t[]){none, 0, 1, 2, 7, 1, 2, 3, 11, 5, 6, 7, 15, 9, 10, 11});
+    worked_tree(0, 1, (const uint32_t[]){none, 13, 14, 15, 0, 4, 5, 6, 4, 8, 9, 10, 8, 12, 13, 14});
+    enter(4, 1, 2);
+    worked_tree(5, 0, (const uint32_t[]){4, 0, 6, 7, 7, none, 5, 6});
+    worked_tree(5, 1, (const uint32_t[]){3, 5, 1, 2, 0, none, 2, 3});
+    enter_full(2, 1);
+    worked_tree(0, 0, (const uint32_t[]){none, 0, 3, 1});
+    worked_tree(0, 1, (const uint32_t[]){none, 3, 0, 2});
+    enter_full(2, 0);
+    worked_tree(1, 0, (const uint32_t[]){1, none});
+    enter(64, 0, 3);
+    worked_tree(2, 0, (const uint32_t[]){2, 0, none});
+}
+
+/* parents in rooms of four levels, and the order of 4, 20 and 5, after 1, 2, 26 and 3 */
+static void worked_parents(void) {
+    static const struct {
+        uint32_t n, k, m, why;
+        uint64_t source, tree, server;
+        uint32_t parent;
+    } rows[] = {
+        {2, 3, 2, 0, 0, 0, 10, 11},   {2, 3, 2, 0, 0, 1, 10, 2},   {2, 3, 2, 0, 0, 2, 10, 14},   {2, 3, 2, 0, 0, 3, 10, 8},
+        {8, 3, 4, 0, 1, 0, 521, 520}, {8, 3, 4, 0, 1, 1, 521, 9},  {8, 3, 4, 0, 1, 2, 521, 969}, {8, 3, 4, 0, 1, 3, 521, 513},
+        {8, 3, 4, 0, 0, 3, 1, 1537},  {4, 1, 4, 4, 16, 2, 16, 0},  {4, 1, 4, 4, 3, 2, 16, 0},    {4, 1, 4, 4, 16, 1, 3, 0},
+        {4, 1, 4, 20, 3, 2, 3, 0},    {4, 1, 4, 20, 3, 2, 4, 0},   {4, 1, 4, 5, 3, 1, 3, 0},     {4, 1, 1, 26, 3, 1, 3, 0},
+        {4, 1, 1, 26, 16, 2, 16, 0},  {9, 3, 9, 3, 9999, 4, 9999, 0},
+        {8, 4, 9, 2, 9999, 5, 9999, 0}, {65, 4, 9, 1, 9999, 5, 9999, 0}, {4, 1, 4, 20, 3, UINT64_C(1) << 32, 4, 0},
+        {4, 1, 4, 4, (UINT64_C(1) << 32) + 3, 1, 4, 0}, {4, 1, 4, 4, 3, 1, (UINT64_C(1) << 32) + 4, 0}};
+    for (size_t i = 0; i < sizeof rows / sizeof *rows; i++) {
+        room = plain_filled_room(rows[i].n, rows[i].k, rows[i].m);
+        uint64_t word = rows[i].why ? refused(rows[i].why, 0, 0) : valued(rows[i].parent);
+        worked(about(PARENT, rows[i].source, rows[i].tree, rows[i].server, 0), word, "", 0);
+    }
+}
+
 /* ---- small rooms: every server, level and value */
 
 /* a number after those that are right: the first wrong ones, then the far ones */
@@ -1389,6 +1442,130 @@ static void changes_in_a_row(uint32_t count) {
 
 static void some_changes_in_a_row(void) { changes_in_a_row(40); }
 
+/* ---- spanning trees */
+
+static unsigned long whole_trees, led; /* trees that were held to the rules, and their servers that were led to the source */
+
+/* how often digit after digit of a server is above the source's; and once round the tree's own level, where it is not */
+static uint32_t steps_of(uint32_t source, uint32_t tree, uint32_t server) {
+    uint32_t steps = 0;
+    for (uint32_t level = 0; level <= k; level++) {
+        uint32_t values = bound(level), above = (digit_of(server, level) + values - digit_of(source, level)) % values;
+        steps += level == tree && above == 0 ? values : above;
+    }
+    return steps;
+}
+
+/* the most steps of any server */
+static uint32_t most_steps(void) { return k == 0 ? m - 1 : k * (n - 1) + m; }
+
+/* from parent to parent, as far as the source; more than the most where that does not end */
+static uint32_t steps_by(const uint32_t *parents, uint32_t source, uint32_t server) {
+    uint32_t steps = 0;
+    while (server < servers && server != source && steps <= most_steps()) server = parents[server], steps++;
+    return server == source ? steps : most_steps() + 1;
+}
+
+/* what the rules say of a whole tree, by its numbers alone */
+static void hold_tree(const struct question *q, const uint32_t *parents) {
+    uint32_t source = (uint32_t)q->number[0], tree = (uint32_t)q->number[1], most = 0;
+    whole_trees++;
+    if (parents[source] != BCUBE_NO_PARENT) not_a_tree(q, "the source has a parent", source);
+    for (uint32_t x = 0; x < servers; x++) {
+        if (x == source) continue;
+        uint32_t steps = steps_by(parents, source, x);
+        if (bcube_value(plain_between(room, parents[x], x)) == 0) not_a_tree(q, "a parent that is no neighbour", x);
+        if (steps != steps_of(source, tree, x)) not_a_tree(q, "another number of steps to the source", x);
+        if (steps > most) most = steps;
+        led++;
+    }
+    if (most != most_steps()) not_a_tree(q, "other most steps", source);
+    for (uint32_t x = servers; x < BCUBE_TREE_NUMBERS; x++)
+        if (parents[x] != 0) not_a_tree(q, "a number past the last server", x);
+}
+
+/* no hop from a parent to its child stands in two trees */
+static void hold_apart(const struct question *q, uint32_t parents[4][BCUBE_TREE_NUMBERS]) {
+    for (uint32_t x = 0; x < servers; x++)
+        for (uint32_t tree = 1; tree <= k; tree++)
+            for (uint32_t lower = 0; lower < tree; lower++)
+                if (x != q->number[0] && parents[tree][x] == parents[lower][x]) not_a_tree(q, "a hop of two trees", x);
+}
+
+/* a tree whole, and the parent of each server, which has to be the one that stands there */
+static void one_tree(const struct question *q, uint32_t parents[BCUBE_TREE_NUMBERS]) {
+    ask(q);
+    memcpy(parents, left(), sizeof(uint32_t) * BCUBE_TREE_NUMBERS);
+    hold_tree(q, parents);
+    for (uint32_t x = 0; x < servers; x++) {
+        uint64_t word = x == q->number[0] ? refused(5, 0, 0) : valued(parents[x]);
+        worked(about(PARENT, q->number[0], q->number[1], x, 0), word, "", 0);
+    }
+}
+
+/* a tree that there is not, or of a source that there is not: the refusal, with any server and with the source itself */
+static void no_tree(uint64_t source, uint64_t tree, uint32_t why) {
+    worked(about(TREE, source, tree, 0, 0), refused(why, 0, 0), "", 0);
+    worked(about(PARENT, source, tree, any(servers), 0), refused(why, 0, 0), "", 0);
+    worked(about(PARENT, source, tree, source, 0), refused(why, 0, 0), "", 0);
+}
+
+/* all trees of a source */
+static void trees_from(uint32_t source) {
+    static uint32_t parents[4][BCUBE_TREE_NUMBERS];
+    struct question q = about(TREE, source, 0, 0, 0);
+    for (uint32_t tree = 0; tree <= k; tree++) {
+        q.number[1] = tree;
+        one_tree(&q, parents[tree]);
+    }
+    hold_apart(&q, parents);
+}
+
+/* all trees of all sources; then trees that are none, sources that are none, and servers that are none */
+static void every_tree(void) {
+    for (uint32_t source = 0; source < servers; source++) trees_from(source);
+    for (uint32_t i = 0; i < BEYOND; i++) {
+        no_tree(any(servers), beyond(k + 1 + i, k + 1), 20);
+        no_tree(beyond(servers + i, servers), any(2) ? any(k + 1) : k + 1, 4);
+        worked(about(PARENT, any(servers), any(k + 1), beyond(servers + i, servers), 0), refused(4, 0, 0), "", 0);
+    }
+}
+
+/* of the first source, of the last and of some */
+static void some_trees(void) {
+    trees_from(0);
+    trees_from(servers - 1);
+    for (uint32_t i = 0; i < 2; i++) trees_from(any(servers));
+}
+
+/* a parent and a whole tree in a room that is refused with this number, or with none where it is 0: sources, trees and
+ * servers that there are and that there are not, and of all that applies the first is given */
+static void mixed(uint32_t room_why) {
+    for (uint32_t a = 0; a < 1 + BEYOND; a++)
+        for (uint32_t t = 0; t < 1 + BEYOND; t++) {
+            uint64_t source = a == 0 ? any(servers) : beyond(servers + a - 1, servers);
+            uint64_t tree = t == 0 ? any(k + 1) : beyond(k + t, k + 1);
+            uint32_t why = a != 0 ? 4 : t != 0 ? 20 : 0;
+            worked(about(TREE, source, tree, 0, 0), room_why ? room_why : why ? why : valued(servers), "", 0);
+            why = room_why ? room_why : why ? why : 5;
+            worked(about(PARENT, source, tree, source, 0), why, "", 0);
+            for (uint32_t x = 0; x < BEYOND; x++)
+                worked(about(PARENT, source, tree, beyond(servers + x, servers), 0), room_why ? room_why : 4, "", 0);
+        }
+}
+
+static void mixed_trees(void) {
+    static const struct { uint32_t n, k, m, why; } none[] = {
+        {65, 4, 66, 1}, {1, 0, 2, 1}, {64, 4, 65, 2}, {8, 4, 1, 2}, {8, 3, 9, 26}, {64, 3, 1, 26}, {9, 3, 9, 3}, {64, 3, 2, 3}};
+    bcube_room is = room;
+    mixed(0);
+    for (size_t i = 0; i < sizeof none / sizeof *none; i++) {
+        room = plain_filled_room(none[i].n, none[i].k, none[i].m);
+        mixed(none[i].why);
+    }
+    room = is;
+}
+
 /* ---- all small rooms */
 
 static void part(const char *what) {
@@ -1522,6 +1699,9 @@ static struct question any_question(enum call call) {
         if (any(8) == 0) q.number[1] = q.number[0];
         lend(&q, 0, path, ARRAY);
         lend(&q, 1, neighbours, BCUBE_NEIGHBOUR_TABLE_BYTES);
+    } else if (call == PARENT || call == TREE) {
+        q.number[1] = any(k + 1);
+        if (call == PARENT) q.number[2] = any(8) ? destination : source;
     } else {
         if (call == FAILED_LINK || call == MARK || call == CLEAR) q.number[1] = any(k + 1);
         make_table(source, destination);
@@ -1621,14 +1801,14 @@ static void any_room_of_levels(uint32_t levels) {
     while (k < levels);
 }
 
-/* questions of every call; in large rooms, where each takes long, the searches are fewer, and those with a summary */
+/* questions of every call; in large rooms, where each takes long, the searches are fewer, those with a summary, and trees */
 static void any_questions(uint32_t count) {
     fill_neighbours();
     for (uint32_t i = 0; i < count; i++) {
         if (i % 4 == 0) any_room();
         enum call call = (enum call)any(CALLS);
         if ((call == FIND || call == SELECT) && servers > 256 && any(12)) continue;
-        if (call >= MARK && call <= SUMMARIZE && servers > 256 && any(3)) continue;
+        if (((call >= MARK && call <= SUMMARIZE) || call >= PARENT) && servers > 256 && any(3)) continue;
         struct question q = any_question(call);
         if (any(2))
             for (uint32_t times = 1 + any(3); times > 0; times--) (any(2) ? damage_number : damage_buffer)(&q);
@@ -1724,6 +1904,8 @@ static void one_round(void) {
     for (uint32_t i = 0; i < CHOSEN; i++) enter_chosen(i), some_pairs(12);
     for (uint32_t i = 0; i < CHOSEN; i++) enter_chosen(i), changes_in_a_row(40), wrong_summaries();
     for (uint32_t i = 0; i < 20; i++) any_room(), changes_in_a_row(20), wrong_summaries();
+    for (uint32_t i = 0; i < 20; i++) any_room(), trees_from(any_server());
+    for (uint32_t i = 0; i < 4; i++) any_room(), mixed_trees();
     for (int i = 0; i < 6; i++) enter_any(3 + any(5), 3), some_pairs(8);
     for (int i = 0; i < 6; i++) enter_any(5 + any(11), 2), some_pairs(8);
     for (int i = 0; i < 6; i++) enter_any(9 + any(55), 1), some_pairs(8);
@@ -1763,6 +1945,8 @@ int main(int count, char **words) {
     worked_meetings();
     worked_steps();
     worked_picking();
+    worked_whole_trees();
+    worked_parents();
     part("worked by hand");
     rooms_of_any_numbers();
     part("rooms made of any numbers");
@@ -1812,11 +1996,19 @@ int main(int count, char **words) {
     small_full_rooms(some_changes_in_a_row, 1);
     small_half_filled_rooms(some_changes_in_a_row, 31, 1);
     part("rooms of at most 64 servers: changes in a row");
+    small_full_rooms(every_tree, 1);
+    small_half_filled_rooms(every_tree, 1, 1);
+    part("rooms of at most 64 servers: every tree of every source");
+    for (uint32_t i = 0; i < CHOSEN; i++) enter_chosen(i), some_trees();
+    part("larger rooms: every tree of some sources");
+    for (uint32_t i = 0; i < CHOSEN; i++) enter_chosen(i), mixed_trees();
+    part("trees and parents refused, in every mixture");
     for (unsigned long round = 1; round <= rounds; round++) {
         one_round();
         if (rounds > 1) progress(round, rounds);
     }
     part("rooms of every size, right and damaged");
+    printf("%lu whole trees, whose %lu servers the parents lead to the source in the steps of the rules\n", whole_trees, led);
     int amiss = print_counts();
     if (amiss) printf("%d of these counts are amiss\n", amiss);
     printf("%lu comparisons, %lu differ\n", comparisons(), differences());

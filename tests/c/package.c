@@ -146,6 +146,19 @@ static void steps(bcube_room room) {
     holds(bcube_step_delivered(step) && !bcube_step_level(step) && !bcube_step_old(step) && !bcube_step_back(step), "delivered");
 }
 
+/* the parents of server 4 in the two trees of server 0 of a room of 16 servers, and of all servers in the first */
+static void trees(bcube_room room) {
+    static uint32_t parents[BCUBE_TREE_NUMBERS];
+    holds(bcube_value(bcube_parent(room, 0, 0, 4)) == 7 && bcube_value(bcube_parent(room, 0, 1, 4)) == 0, "parent");
+    holds(bcube_refusal(bcube_parent(room, 4, 0, 4)) == BCUBE_REFUSED_SAME_ENDS, "the source has no parent");
+    holds(bcube_refusal(bcube_parent(room, 0, (uint64_t)1 << 32, 4)) == BCUBE_REFUSED_LEVEL, "a tree is cut");
+    parents[15] = 99;
+    holds(bcube_refusal(bcube_tree(room, 0, 2, parents)) == BCUBE_REFUSED_LEVEL && parents[15] == 99, "no such tree");
+    holds(bcube_value(bcube_tree(room, 0, 0, parents)) == 16 && parents[4] == 7 && parents[15] == 11, "tree");
+    holds(parents[0] == BCUBE_NO_PARENT, "what stands for the source");
+    holds(parents[16] == 0 && parents[BCUBE_TREE_NUMBERS - 1] == 0, "past the last server");
+}
+
 /* every number has a sentence of its own, and every other number, 12 too, which is retired, one that says so */
 static void texts(void) {
     const char *none = bcube_refusal_text(UINT64_MAX);
@@ -167,6 +180,7 @@ int main(void) {
     paths(room);
     again(room);
     steps(room);
+    trees(bcube_room_of(4, 1));
     texts();
     holds(bcube_version() == BCUBE_VERSION, "another version than the header's");
     holds(BCUBE_FEWEST_PORTS == 2 && BCUBE_MOST_PORTS == 64 && BCUBE_MOST_HOPS == 8, "limits");

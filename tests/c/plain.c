@@ -8,9 +8,12 @@
  *   - in rooms of at most 64 servers, when more digits differ from the destination's than hops are left (each
  *     hop changes one), or when every link of the destination is failed or leads to an avoided switch;
  *   - in larger rooms, so that the search ends, when the destination is farther than the hops left, by a
- *     table of distances to it over usable hops. */
+ *     table of distances to it over usable hops.
+ *
+ * A spanning tree is grown as Figure 5 of the paper grows it, server by server, and a parent is looked up there. */
 #include "plain.h"
 
+#include <assert.h>
 #include <string.h>
 
 enum { LEVELS = 4, HOPS = 8, ARRAY = 8, MOST_SERVERS = 4096, SMALL_ROOM = 64, FAR = 255 };
@@ -385,9 +388,79 @@ static int least_route(struct search *search, uint64_t source, struct route *rou
     return 0;
 }
 
+/* ---- spanning trees */
+
+struct tree {
+    struct room room;
+    uint32_t source, own;           /* its own level */
+    uint32_t count;                 /* of the servers that it has, */
+    uint32_t server[MOST_SERVERS];  /* which are these, in the order in which they were added; */
+    uint32_t parent[MOST_SERVERS];  /* and the parent of each, by its address */
+};
+
+/* one more server, that the tree has not, by a hop from its parent */
+static void add_server(struct tree *tree, const struct place *parent, const struct place *server) {
+    uint32_t address = address_of(&tree->room, server);
+    assert(address != tree->source && tree->parent[address] == UINT32_MAX);
+    tree->parent[address] = address_of(&tree->room, parent);
+    tree->server[tree->count++] = address;
+}
+
+static struct place raised(const struct room *room, struct place place, uint32_t level) {
+    return moved(place, level, (place.digit[level] + 1) % bound(room, level));
+}
+
+/* from a server that the tree has: the digit at the level raised by one, so many times, and a server added each time */
+static void add_chain(struct tree *tree, uint32_t server, uint32_t level, uint32_t times) {
+    struct place here = place_of(&tree->room, server);
+    while (times-- > 0) {
+        struct place next = raised(&tree->room, here, level);
+        add_server(tree, &here, &next);
+        here = next;
+    }
+}
+
+/* the first part: the root, then a pass for each level from the tree's own on, with a chain from each server that the
+ * tree had before. At its own level the root is one step on already, and a chain ends before the source's own digit */
+static void add_passes(struct tree *tree, const struct place *source) {
+    uint32_t levels = tree->room.k + 1;
+    struct place root = raised(&tree->room, *source, tree->own);
+    add_server(tree, source, &root);
+    for (uint32_t pass = 0; pass < levels; pass++) {
+        uint32_t level = (tree->own + pass) % levels, had = tree->count;
+        uint32_t times = bound(&tree->room, level) - (pass == 0 ? 2 : 1);
+        for (uint32_t i = 0; i < had; i++) add_chain(tree, tree->server[i], level, times);
+    }
+}
+
+/* the second part: the servers that have the source's own digit there, each from the one whose digit is one lower */
+static void add_others(struct tree *tree, const struct place *source) {
+    uint32_t own = source->digit[tree->own], values = bound(&tree->room, tree->own);
+    for (uint32_t server = 0; server < tree->room.servers; server++) {
+        struct place place = place_of(&tree->room, server), below = moved(place, tree->own, (own + values - 1) % values);
+        if (place.digit[tree->own] == own && server != tree->source) add_server(tree, &below, &place);
+    }
+}
+
+/* the tree of a source; the one asked for last is kept */
+static const struct tree *tree_of(const struct room *room, uint64_t source, uint64_t own) {
+    static struct tree tree;
+    if (memcmp(&tree.room, room, sizeof *room) == 0 && tree.source == source && tree.own == own) return &tree;
+    struct place from = place_of(room, source);
+    tree.room = *room;
+    tree.source = (uint32_t)source;
+    tree.own = (uint32_t)own;
+    tree.count = 0;
+    for (uint32_t server = 0; server < MOST_SERVERS; server++) tree.parent[server] = UINT32_MAX;
+    add_passes(&tree, &from);
+    add_others(&tree, &from);
+    assert(tree.count == room->servers - 1);
+    return &tree;
+}
+
 /* ---- the calls: the room, addresses and switches */
 
-uint64_t plain_version(void) { return 50000; }
+uint64_t plain_version(void) { return 50100; }
 
 static uint64_t held(uint64_t number) { return number > 255 ? 255 : number; }
 
@@ -903,4 +976,27 @@ bcube_stepped plain_step(bcube_room value, uint64_t here, uint64_t destination, 
     step.word |= (uint64_t)byte_to(&to, &from) << 56;
     for (uint32_t i = 0; i < 6; i++) step.mac = step.mac << 8 | entry[i];
     return step;
+}
+
+/* ---- the calls: spanning trees */
+
+bcube_answer plain_parent(bcube_room value, uint64_t source, uint64_t tree, uint64_t server) {
+    struct room room;
+    uint32_t why = enter(&room, value);
+    if (!why && (source >= room.servers || server >= room.servers)) why = 4;
+    if (!why && tree > room.k) why = 20;
+    if (!why && server == source) why = 5;
+    if (why) return refused(why);
+    return answered(tree_of(&room, source, tree)->parent[server]);
+}
+
+bcube_answer plain_tree(bcube_room value, uint64_t source, uint64_t tree, uint32_t parents[4096]) {
+    struct room room;
+    uint32_t why = enter(&room, value);
+    if (!why && source >= room.servers) why = 4;
+    if (!why && tree > room.k) why = 20;
+    if (why) return refused(why);
+    memcpy(parents, tree_of(&room, source, tree)->parent, sizeof(uint32_t) * room.servers);
+    for (uint32_t i = room.servers; i < MOST_SERVERS; i++) parents[i] = 0;
+    return answered(room.servers);
 }

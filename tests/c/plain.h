@@ -60,4 +60,7 @@ bcube_answer plain_pick(bcube_room room, uint64_t source, uint64_t destination, 
 bcube_stepped plain_step(bcube_room room, uint64_t here, uint64_t destination, uint64_t index, const uint8_t *path,
                          size_t path_len, const uint8_t *neighbours, size_t neighbours_len);
 
+bcube_answer plain_parent(bcube_room room, uint64_t source, uint64_t tree, uint64_t server);
+bcube_answer plain_tree(bcube_room room, uint64_t source, uint64_t tree, uint32_t parents[4096]);
+
 #endif

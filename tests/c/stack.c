@@ -27,6 +27,7 @@ static struct {
 static uint64_t digits[4], servers[BCUBE_ROUTE_SERVERS];
 static uint8_t table[BCUBE_MOST_SERVERS], summary[BCUBE_MOST_SWITCHES], counted[BCUBE_MOST_SWITCHES];
 static uint8_t path[BCUBE_PATH_BYTES], routes[BCUBE_LIST_BYTES];
+static uint32_t parents[BCUBE_TREE_NUMBERS];
 enum { QUESTIONS = 630 };
 
 static void next_question(int i) {
@@ -99,7 +100,9 @@ static void next_question(int i) {
     CALL(bcube_answer, find, (q.room, ENDS, TABLE, path), (bcube_room, uint64_t, uint64_t, const uint8_t *, size_t, uint8_t *)) \
     CALL(bcube_answer, select, (q.room, ENDS, TABLE, routes), (bcube_room, uint64_t, uint64_t, const uint8_t *, size_t, uint8_t *)) \
     CALL(bcube_answer, pick, (q.room, ENDS, TABLE, q.path, 8, q.list, 8 * (1 + q.level)), (bcube_room, uint64_t, uint64_t, const uint8_t *, size_t, const uint8_t *, size_t, const uint8_t *, size_t)) \
-    CALL(bcube_stepped, step, (q.room, ENDS, q.level, PATH, q.neighbours, sizeof q.neighbours), (bcube_room, uint64_t, uint64_t, uint64_t, const uint8_t *, size_t, const uint8_t *, size_t))
+    CALL(bcube_stepped, step, (q.room, ENDS, q.level, PATH, q.neighbours, sizeof q.neighbours), (bcube_room, uint64_t, uint64_t, uint64_t, const uint8_t *, size_t, const uint8_t *, size_t)) \
+    CALL(bcube_answer, parent, (q.room, q.source, q.level, q.destination), (bcube_room, uint64_t, uint64_t, uint64_t)) \
+    CALL(bcube_answer, tree, (q.room, q.source, q.level, parents), (bcube_room, uint64_t, uint64_t, uint32_t *))
 
 #define CALL(form, name, arguments, parameters)                                       \
     __attribute__((noipa)) static form empty_##name parameters { form nothing; memset(&nothing, 0, sizeof nothing); return nothing; } \

@@ -9,12 +9,11 @@ route are counted by walking its bytes from the source to the first arrival.
 """
 import os
 import random
-import re
 import sys
 
-
-def digits(n, k, a):
-    return [a // n ** i % n for i in range(k + 1)]
+sys.dont_write_bytecode = True
+sys.path.insert(0, os.path.join(os.path.dirname(os.path.abspath(__file__)), '..', 'lines'))
+from lines import damaged, digits, main, read  # noqa: E402
 
 
 def refusal(n, k, a, d):
@@ -57,12 +56,10 @@ def count_hops(n, k, a, d, route):
 
 
 def answer(data):
-    line, newline, _ = data.partition(b'\n')
-    if len(line + newline) > 64 or not re.fullmatch(rb'[0-9]+ [0-9]+ [0-9]+ [0-9]+', line):
+    numbers = read(data, 4)
+    if numbers is None:
         return b'input\n'
-    n, k, a, d = map(int, line.split(b' '))
-    if max(n, k, a, d) > 65535:
-        return b'input\n'
+    n, k, a, d = numbers
     r = refusal(n, k, a, d)
     if r:
         return b'refused %d\n' % r
@@ -73,41 +70,12 @@ def answer(data):
     return text.encode()
 
 
-def padded(line, size, newline):
-    """The line with zeros before its first number, so that it has `size` bytes with its newline."""
-    return b'0' * (size - len(line) - len(newline)) + line + newline
-
-
-WORKED = b'8 3 1 521'
 SHAPES = [(2, 0), (64, 0), (2, 1), (4, 1), (64, 1), (2, 2), (16, 2), (2, 3), (3, 3), (8, 3)]
 
 
 def groups():
-    yield 'the worked line, and how it may end', [WORKED + e for e in (b'\n', b'', b'\nrest', b'\n\n', b'\n8 3 1 522\n', b'\n\0', b'\n' + b'x' * 200)]
-    yield 'nothing, and a lone newline', [b'', b'\n', b'\n' + WORKED + b'\n', b'\n\n']
-    yield 'carriage returns, tabs, signs and other bytes', [
-        WORKED + b'\r\n', b'8\t3\t1\t521\n', b'8 3 1\t521\n', b'8 3 1 521\t\n', b'+8 3 1 521\n', b'8 3 -1 521\n', b'-8 3 1 521\n', b'8 3 1 -0\n',
-        b'8 3 1 0x9\n', b'8 3 1 521a\n', b'8 3 1 5 21\n', b'8 3 1 52/\n', b'8 3 1 52:\n', b'8,3,1,521\n', b'8.0 3 1 521\n', b'8 3 1 521.\n', b'abc\n',
-        b'8_0 3 1 521\n', b'8 3 1 521\x0b\n', b'8 3 1 521\x0c\n', b'"8 3 1 521"\n']
-    yield 'NUL and high bytes', [
-        b'\0', b'\0\n', b'8 3 1 521\0\n', b'8 3 1 521\0', b'8\0003 1 521\n', b'\0008 3 1 521\n', b'8 3 1 52\xb1\n', b'\xff\n', b'\xff' * 80, b'8 3 1 \xff\n',
-        b'\xef\xbb\xbf8 3 1 521\n', b'8\xc2\xa03 1 521\n', b'\xd9\xa8 3 1 521\n', b'8 3 1 521\x80']
-    yield 'double, leading and trailing spaces', [
-        b'8  3 1 521\n', b'8 3  1 521\n', b'8 3 1  521\n', b' 8 3 1 521\n', b'8 3 1 521 \n', b'8 3 1 521 ', b' \n', b' ', b'   \n', b'8 3 1 \n', b' 3 1 521\n']
-    yield 'too few and too many numbers', [
-        b'8\n', b'8 3\n', b'8 3 1\n', b'8 3 1 521 0\n', b'8 3 1 521 0 0\n', b'8 3 1 521 8 3 1 521\n', b'8 3\n1 521\n', b'8\n3\n1\n521\n']
-    yield 'leading zeros', [
-        b'08 03 01 0521\n', b'0008 0003 0001 0000521\n', b'00000000000000000008 3 1 521\n', b'8 0000 1 3\n', b'8 3 00000 00001\n', b'8 3 1 0000000065535\n',
-        b'8 3 1 0000000065536\n']
-    for size in (63, 64, 65, 66):
-        yield '%d bytes with and without a newline' % size, [
-            padded(WORKED, size, b'\n'), padded(WORKED, size, b''), padded(WORKED, size, b'\n') + b'rest', b'1' * size, b'1' * (size - 1) + b'\n', b' ' * size,
-            b'x' * (size - 1) + b'\n', padded(b'8 3 1 65535', size, b'\n'), padded(b'8 3 1 65535', size, b'')]
-    yield 'longer lines', [padded(WORKED, 100, b'\n'), padded(WORKED, 4096, b'\n'), padded(WORKED, 100, b'') + b'\n' + WORKED + b'\n', b'9' * 5000]
-    yield '65,535 and 65,536', [
-        b'8 3 65535 0\n', b'8 3 65536 0\n', b'8 3 0 65535\n', b'8 3 0 65536\n', b'65535 0 0 1\n', b'65536 0 0 1\n', b'2 65535 0 1\n', b'2 65536 0 1\n',
-        b'65535 65535 65535 65535\n', b'65535 65535 65535 65536\n', b'8 3 1 65537\n', b'8 3 1 99999\n', b'8 3 1 100000\n', b'8 3 1 4294967817\n',
-        b'8 3 1 18446744073709551616\n', b'8 3 1 18446744073709552137\n', b'18446744073709551624 3 1 521\n', b'8 3 1 340282366920938463463374607431768211977\n']
+    yield from damaged(b'8 3 1 521')
+    yield 'zeros with zeros before them', [b'8 0000 1 3\n', b'8 3 00000 00001\n']
     yield 'refusal 1', [b'1 0 0 1\n', b'0 0 0 0\n', b'65 0 0 1\n', b'65 4 0 0\n', b'1 4 9 9\n', b'1 0 0 1']
     yield 'refusal 2', [b'2 4 0 1\n', b'64 4 0 0\n', b'8 4 1 521\n', b'2 4 65535 65535\n']
     yield 'refusal 3', [b'9 3 0 1\n', b'17 2 0 1\n', b'64 2 0 0\n', b'64 3 5000 5000\n']
@@ -125,20 +93,5 @@ def groups():
     yield 'forty more', lines
 
 
-def escaped(data):
-    text = ''
-    for b in data:
-        c = chr(b)
-        text += '\\n' if c == '\n' else '\\t' if c == '\t' else c if 32 <= b < 127 and c not in '\\|#' else '\\x%02x' % b
-    return text
-
-
-def cases():
-    return ''.join('# %s\n' % name + ''.join('%s|%s\n' % (escaped(i), escaped(answer(i))) for i in inputs) for name, inputs in groups())
-
-
 if __name__ == '__main__':
-    if sys.argv[1:] == ['--check']:
-        stored = open(os.path.join(os.path.dirname(os.path.abspath(__file__)), 'cases')).read()
-        sys.exit(0 if stored == cases() else 'tests/desk/cases is not what tests/desk/model.py prints')
-    sys.stdout.write(cases())
+    main(__file__, groups(), answer)

@@ -4,12 +4,15 @@
   tests/worked/model.py            recompute every row of crates/worked_*/stdout and say which differ
   tests/worked/model.py FILE..     the same for other files of rows
 
+Either first grows all spanning trees of small rooms, and ends with status 1 where one is not what rules 13.1 to 13.4 say.
+
 A row is a question, ' = ' and an answer. A question names its room by (n,k) where the room is full, and by (n,k,m) where it is
 not. A step names the bytes of its neighbour table and the one entry that is filled, or says 'all': the entry of each byte then
 has the byte as its MAC, the byte's level as its OutPort, and flag 1. The model shares nothing with the library: digits are
 lists, switches are counted one by one, neighbours are found by comparing digits, the level and the old value of a hop by comparing
 its two servers, an alternate is found by trying all routes in order, failed links are counted by going through all
-servers of the room, and where two routes first meet is the least of all their meetings.
+servers of the room, where two routes first meet is the least of all their meetings, and a spanning tree is grown from its
+root, pass by pass, as the paper's Figure 5 does it.
 """
 import collections
 import functools
@@ -446,6 +449,98 @@ def accepted_from(s, a):
     return count
 
 
+# ---- spanning trees
+
+def shifted(s, a, level, by):
+    """The server with one digit raised by a number, mod its bound."""
+    ds = digits(s, a)
+    ds[level] = (ds[level] + by) % bounds(s)[level]
+    return address(s, ds)
+
+
+def hops_of(s, source, tree):
+    """The hops of a tree, each a parent and its child, in the order in which Figure 5 adds them."""
+    root = shifted(s, source, tree, 1)
+    has, hops = [root], [(source, root)]
+    for i in range(s.k + 1):
+        level = (tree + i) % (s.k + 1)
+        grown = []
+        for a in has:
+            # a chain is as long as its level has values; the first pass stops a step sooner, before the source
+            for _ in range(bounds(s)[level] - (1 if i else 2)):
+                b = shifted(s, a, level, 1)
+                hops.append((a, b))
+                grown.append(b)
+                a = b
+        has += grown
+    own = digits(s, source)[tree]
+    return hops + [(shifted(s, x, tree, -1), x) for x in room(s) if x != source and digits(s, x)[tree] == own]
+
+
+@functools.lru_cache
+def tree_of(s, source, tree):
+    """The parent of each server but the source, which is added once."""
+    hops = hops_of(s, source, tree)
+    if sorted(x for _, x in hops) != [x for x in room(s) if x != source]:
+        raise SystemExit(f'{s} source {source} tree {tree}: not each server once')
+    return {x: p for p, x in hops}
+
+
+def way(parents, x):
+    """From parent to parent, up to the source, which has none."""
+    out = []
+    while x in parents:
+        if len(out) > len(parents):
+            raise SystemExit(f'the way of server {x} has no end')
+        x = parents[x]
+        out.append(x)
+    return out
+
+
+def parent_by_rule(s, source, tree, x):
+    """The parent in the words of rules 13.2 and 13.3."""
+    apart = differing(s, source, x)
+    if tree not in apart:
+        return shifted(s, x, tree, -1)
+    order = [level % (s.k + 1) for level in range(tree, tree + s.k + 1)]
+    return shifted(s, x, [level for level in order if level in apart][-1], -1)
+
+
+def steps_by_rule(s, source, tree, x):
+    """The steps to the source in the words of rule 13.4."""
+    if x == source:
+        return 0
+    gaps = [(a - b) % most for a, b, most in zip(digits(s, x), digits(s, source), bounds(s))]
+    return sum(gaps) + (0 if gaps[tree] else bounds(s)[tree])
+
+
+def hold(told, s, source):
+    if not told:
+        raise SystemExit(f'{s} source {source}: the trees are not as the rules say')
+
+
+def trees_from(s, source):
+    """All trees of a source are the rules', no directed hop is in two of them, and each has a way of the most steps."""
+    trees = [tree_of(s, source, tree) for tree in range(s.k + 1)]
+    for tree, parents in enumerate(trees):
+        steps = {x: len(way(parents, x)) for x in room(s)}
+        hold(all(way(parents, x)[-1] == source for x in parents), s, source)
+        hold(all(p == parent_by_rule(s, source, tree, x) for x, p in parents.items()), s, source)
+        hold(all(len(differing(s, p, x)) == 1 for x, p in parents.items()), s, source)
+        hold(steps == {x: steps_by_rule(s, source, tree, x) for x in room(s)}, s, source)
+        hold(max(steps.values()) == (s.k * (s.n - 1) + s.m if s.k else s.m - 1), s, source)
+    hops = [(p, x) for parents in trees for x, p in parents.items()]
+    hold(len(set(hops)) == len(hops), s, source)
+    return len(trees)
+
+
+def small_trees():
+    """All trees of every room of at most five ports and 81 servers, and of two larger switches; how many they are."""
+    shapes = [Shape(n, k, m) for n in range(2, 6) for k in range(4) for m in range(2, n + 1)]
+    shapes = [s for s in shapes if len(room(s)) <= 81] + [Shape(64, 0, 3), Shape(64, 0, 64)]
+    return sum(trees_from(s, source) for s in shapes for source in room(s))
+
+
 # ---- the rows
 
 def hexed(word):
@@ -507,6 +602,36 @@ def traced(s, a, d, path):
     except Refused as r:
         out.append(f'reversed {r}')
     return ' '.join(out)
+
+
+def test_child(s, source, tree, x):
+    test_server(s, source, x)
+    test_level(s, tree)
+    if source == x:
+        raise Refused(5)
+
+
+def written(s, source, tree, first, end):
+    """Some of the 4,096 numbers of a whole tree, and the zeros past the last server; refused, they are kept."""
+    try:
+        test_server(s, source)
+        test_level(s, tree)
+    except Refused as r:
+        return f'{r} kept 4096'
+    numbers = [tree_of(s, source, tree).get(x, 4294967295) for x in room(s)]
+    numbers += [0] * (4096 - len(numbers))
+    return f'{len(room(s))} numbers {" ".join(map(str, numbers[first:end]))} zeros {numbers[len(room(s)):].count(0)}'
+
+
+def climbed(s, source, tree, x):
+    up = way(tree_of(s, source, tree), x)
+    return ' '.join(map(str, up + ['steps', len(up)]))
+
+
+def most_steps(s, source):
+    """The most steps of any server, in each tree of a source."""
+    trees = [tree_of(s, source, tree) for tree in range(s.k + 1)]
+    return ' '.join(str(max(len(way(parents, x)) for x in room(s))) for parents in trees)
 
 
 def shown(s, routes):
@@ -624,6 +749,15 @@ def answer(name, s, words):
         return stepped(s, int(here), int(d), int(index), hexed(path), table[:int(count)])
     if name == 'trace':
         return traced(s, int(words[0]), int(words[1]), hexed(words[2]))
+    if name == 'parent':
+        test_child(s, *num)
+        return tree_of(s, num[0], num[1])[num[2]]
+    if name == 'tree':
+        return written(s, *num)
+    if name == 'way':
+        return climbed(s, *num)
+    if name == 'most':
+        return most_steps(s, num[0])
     raise SystemExit(f'no such question: {name}')
 
 
@@ -656,6 +790,7 @@ def recompute(file):
 def main():
     here = os.path.dirname(os.path.abspath(__file__))
     files = sys.argv[1:] or sorted(glob.glob(os.path.join(here, '../../crates/worked_*/stdout')))
+    print(f'{small_trees()} trees of small rooms grown, each as the rules say')
     counts = [recompute(file) for file in files]
     rows, differ = sum(c[0] for c in counts), sum(c[1] for c in counts)
     print(f'{rows} rows, {differ} differ')

@@ -127,7 +127,7 @@ unfolding joined
 joined-long [] a = refl
 joined-long (x ∷ xs) a = omega (arith, length-append x (joined xs), joined-long xs (a .1), a .0)
 
-joined-snoc : (xs : List (List ℕ)) (x : List ℕ) → joined (xs ++ (x ∷ [])) ≡ joined xs ++ x
+pub joined-snoc : (xs : List (List ℕ)) (x : List ℕ) → joined (xs ++ (x ∷ [])) ≡ joined xs ++ x
 unfolding joined
 joined-snoc [] x = append-nil x
 joined-snoc (y ∷ xs) x = ap (λ (r : List ℕ). y ++ r) (joined-snoc xs x) ∙ sym (append-assoc y (joined xs) x)

@@ -8,9 +8,11 @@ use lib.Dec.{lit<}
 use Rattle.refusals.specs.declared.Refusal.{Refusal}
 use Rattle.refusals.specs.Refusals.{earlierRoute, earlierHop, answer}
 use Rattle.refusals.proofs.NumberLaws.{one-le}
-use Rattle.room.specs.Refusals.{shapeRefusal}
+use Rattle.room.specs.Shapes.{serversOf}
+use Rattle.room.specs.Refusals.{shapeRefusal, linkRefusal}
 use Rattle.room.proofs.NumberLaws.{shape-numbers}
-use Rattle.room.specs.Answers.{betweenAnswer}
+use Rattle.room.specs.Answers.{noNumber, aNumber, betweenAnswer}
+use Rattle.trees.specs.Answers.{treeAnswer, treeLeft}
 use Rattle.links.specs.Answers.{failedAnswer}
 use Rattle.summary.specs.declared.DeadSwitch.{DeadSwitch}
 use Rattle.summary.specs.Answers.{linkAnswer, linkTable, linkSummary, changedServer, serverAnswer, serverTable, serverSummary, deadAnswer, freshAnswer, freshSummary}
@@ -25,6 +27,7 @@ use Rattle.step.specs.Steps.{stepAnswer}
 use Rattle.driver.specs.declared.Answer.{Answer}
 use Rattle.driver.specs.Words.{word, refusalIn, Small, left, betweenWord, askedWord, deadWord}
 use Rattle.driver.proofs.WordLaws.{refusal-back, value-back, plain-small, left-given, left-lent}
+use Rattle.driver.proofs.TreeSmall.{parent-small, tree-small}
 use Rattle.driver.proofs.RoomSmall.{servers-small, bound-small, switches-small, server-at-small, digit-small, address-small, neighbour-small, switch-small, between-level, between-fits, digits-fits, asked-fits}
 use Rattle.driver.proofs.PathSmall.{byte-small, parts-found, HopFit, hop-found, read-small, reverse-small, write-small, check-small}
 use Rattle.driver.proofs.RouteSmall.{build-small, find-small, select-small}
@@ -140,6 +143,8 @@ every-word =
       address = λ s d0 d1 d2 d3. tells (address-small s (d0 ∷ d1 ∷ d2 ∷ d3 ∷ []) refl);
       switch = λ s a l. tells (switch-small s a l);
       neighbour = λ s a l v. tells (neighbour-small s a l v);
+      parent = λ s a l x. tells (parent-small s a l x);
+      tree = λ s a l. tells (tree-small s a l);
       between = λ s a b. tells (between-fits s a b _ (level-small (betweenAnswer s a b .adjacent) (betweenAnswer s a b .level) (between-level s a b refl)) refl);
       failed-link = λ s t a l. tells (asked-fits s t a l _ (bit-small (failedAnswer s t a l .failed)) refl);
       mark-or-clear = λ s t c a l. tells (link-fits s t c a l refl);
@@ -176,8 +181,13 @@ changed : (q : ℕ) (t u : List ℕ) → Holds q t u (answer q (λ r. t) u)
 changed zero t u = record { written = λ e. refl; kept = λ n. absurd (n refl) }
 changed (suc q) t u = record { written = λ e. let z : ⊥ = omega arith in absurd z; kept = λ n. refl }
 
+-- the same of an answer that is a number
+numbers-changed : (q v : ℕ) (t u : List ℕ) → Holds (answer q noNumber (aNumber v) .refusal .number) t u (answer q (λ r. t) u)
+numbers-changed zero v t u = changed zero t u
+numbers-changed (suc q) v t u = changed (suc q) t u
+
 pub every-buffer : EveryBuffer
-unfolding linkAnswer linkTable linkSummary changedServer serverAnswer serverTable serverSummary freshAnswer freshSummary
+unfolding treeAnswer treeLeft linkAnswer linkTable linkSummary changedServer serverAnswer serverTable serverSummary freshAnswer freshSummary
 every-buffer =
     record {
       marked = λ s t c a l. changed _ t _;
@@ -189,6 +199,7 @@ every-buffer =
       cleared-server = λ s t c a. changed _ t _;
       cleared-server-summary = λ s t c a. changed _ c _;
       summarized = λ s t c. changed _ c _;
+      tree = λ s a l lent. numbers-changed (linkRefusal s a l) (serversOf s) lent _;
       laid = λ s t a d bs r u h. h .kept;
       digits = λ s a lent. held _ lent _;
       read = λ s a d bs lent. held _ lent _;

@@ -18,6 +18,7 @@ use Rattle.room.specs.Refusals.{shapeRefusal, levelRefusal, serverRefusal, pair
 use Rattle.room.specs.Addresses.{differing}
 use Rattle.room.specs.Answers.{onlyLevel, serversAnswer, boundAnswer, digitsAnswer, digitAnswer, addressAnswer, switchAnswer, neighbourAnswer, betweenAnswer}
 use Rattle.room.specs.Wiring.{portRefusal, switchesAnswer, serverAtAnswer}
+use Rattle.trees.specs.Answers.{parentRefusal, parentAnswer, treeAnswer}
 use Rattle.links.specs.Table.{tableLinkRefusal, roomRefusal}
 use Rattle.links.specs.Answers.{failedAnswer}
 use Rattle.summary.specs.Counts.{switchesIn}
@@ -47,7 +48,7 @@ use Rattle.step.specs.Steps.{stepRefusal, withPlace, noStep, delivery, forwarde
 use Rattle.demands.specs.Tests.{Refused, Exactly}
 use Rattle.demands.specs.Demand1.{ofAHop, at-hop, no-arrival, server-again, switch-again, meeting, PartsOf, WalkedOf, ReadingOf, WritingOf, FoundOf, SelectionOf, PlaceOf, StepOf, RefusalOf, HopOf, EveryCall}
 use Rattle.demands.specs.Meetings.{Earlier, server, switch, no-hop, Meet, at-switch, at-server}
-use Rattle.demands.specs.Refusals.{FailsWith, shapeTests, levelTests, serverTests, pairTests, linkTests, valueTests, portTests, madeTests, partsTests, placesTests, tableTests, tableLinkTests, tableServerTests, countedLinkTests, countedServerTests, summaryTests, entriesTests, endsTests, roomTests, arrayTests, layTests, checkTests, selectTests, pickTests, endOf, hopTests, readTests, writeTests, serversTests, givenTests, stepTests, Stops, hop-fails, never-arrives, goes-on, Reads, Writes, Checks, Steps}
+use Rattle.demands.specs.Refusals.{FailsWith, shapeTests, levelTests, serverTests, pairTests, linkTests, parentTests, valueTests, portTests, madeTests, partsTests, placesTests, tableTests, tableLinkTests, tableServerTests, countedLinkTests, countedServerTests, summaryTests, entriesTests, endsTests, roomTests, arrayTests, layTests, checkTests, selectTests, pickTests, endOf, hopTests, readTests, writeTests, serversTests, givenTests, stepTests, Stops, hop-fails, never-arrives, goes-on, Reads, Writes, Checks, Steps}
 use Rattle.demands.proofs.Chains.{back, all, one-listed, fails, fails-in}
 use Rattle.demands.proofs.Refusing.{all-at, apart-in, Of, none-of, some-of, hop-of, chain-of, whole-of, bare-none, bare-is, bare-answer, refuses, answer-refuses}
 use Rattle.demands.proofs.Numbers.{read-number, plain-numbers}
@@ -294,7 +295,7 @@ only-none (l ∷ []) = refl
 only-none (l ∷ m ∷ ls) = refl
 
 pub every-call : EveryCall
-unfolding serversAnswer boundAnswer digitsAnswer digitAnswer addressAnswer switchAnswer neighbourAnswer betweenAnswer switchesAnswer serverAtAnswer failedAnswer deadAnswer byteAnswer buildAnswer pickAnswer isIn
+unfolding serversAnswer boundAnswer digitsAnswer digitAnswer addressAnswer switchAnswer neighbourAnswer betweenAnswer switchesAnswer serverAtAnswer parentAnswer treeAnswer failedAnswer deadAnswer byteAnswer buildAnswer pickAnswer isIn
 every-call =
     record {
       shape-refusal = λ s. one-listed (shapeTests s) _ (meets (refused-exactly .shape-refusal s));
@@ -312,6 +313,8 @@ every-call =
       level-between = λ s a b. answer-refuses _ _ (λ r. refl) 0 _ (pairTests s a b) (pairRefusal s a b) _ refl refl (meets (refused-exactly .level-between s a b)) (only-none (differing s a b));
       switches-of = λ s l. answer-refuses _ _ (λ r. refl) 0 _ (levelTests s l) (levelRefusal s l) _ refl refl (meets (refused-exactly .switches-of s l)) refl;
       server-at = λ s l w v. answer-refuses _ _ (λ r. refl) 0 _ (portTests s l w v) (portRefusal s l w v) _ refl refl (meets (refused-exactly .server-at s l w v)) refl;
+      parent-of = λ s a l x. answer-refuses _ _ (λ r. refl) 0 _ (parentTests s a l x) (parentRefusal s a l x) _ refl refl (meets (refused-exactly .parent-of s a l x)) refl;
+      write-tree = λ s a l. answer-refuses _ _ (λ r. refl) 0 _ (linkTests s a l) (linkRefusal s a l) _ refl refl (meets (refused-exactly .write-tree s a l)) refl;
       table-refusal = λ s t. one-listed (tableTests s t) _ (meets (refused-exactly .table-refusal s t));
       room-refusal = λ s t a d. one-listed (roomTests s t a d) _ (meets (refused-exactly .room-refusal s t a d));
       failed-link = λ s t a l. answer-refuses _ _ (λ r. refl) 0 _ (tableLinkTests s t a l) (tableLinkRefusal s t a l) _ refl refl (meets (refused-exactly .failed-link s t a l)) refl;

@@ -22,6 +22,7 @@ use Rattle.room.specs.Refusals.{shapeRefusal, levelRefusal, serverRefusal, pair
 use Rattle.room.specs.Answers.{noNumber, noDigits, noSwitch, noBetween, onlyLevel, serversAnswer, boundAnswer, digitsAnswer, digitAnswer, addressAnswer, switchAnswer, neighbourAnswer, betweenAnswer}
 use Rattle.room.specs.Wiring.{portRefusal, switchesAnswer, serverAtAnswer}
 use Rattle.links.specs.declared.Asked.{Asked}
+use Rattle.trees.specs.Answers.{parentRefusal, parentAnswer, treeAnswer}
 use Rattle.links.specs.Table.{roomTableRefusal, tableLinkRefusal, tableServerRefusal, TableOf, roomRefusal, roomRefusal as layRoom}
 use Rattle.links.specs.Answers.{notAsked, failedAnswer}
 use Rattle.summary.specs.declared.DeadSwitch.{DeadSwitch}
@@ -54,9 +55,9 @@ use Rattle.pick.proofs.UsableLaws.{usable-walk, array-long, clash}
 use Rattle.pick.proofs.Promises.{source-chosen}
 use Rattle.step.specs.Steps.{givenRefusal, byteRefusal, awayRefusal, stepRefusal, atHop, withPlace, noStep, delivery, forwarded, stepAnswer}
 use Rattle.demands.specs.Tests.{Tests, Refused, Number, Whole, Exactly}
-use Rattle.demands.specs.Refusals.{shapeTests, levelTests, serverTests, pairTests, linkTests, valueTests, portTests, madeTests, partsTests, placesTests, tableTests, tableLinkTests, tableServerTests, countedLinkTests, countedServerTests, summaryTests, entriesTests, endsTests, roomTests, arrayTests, layTests, Joined, selectTests, Arrays, IsRead, SomeRead, pickTests, hopTests, Reads, givenTests, stepTests, Steps, RefusedExactly}
+use Rattle.demands.specs.Refusals.{shapeTests, levelTests, serverTests, pairTests, linkTests, parentTests, valueTests, portTests, madeTests, partsTests, placesTests, tableTests, tableLinkTests, tableServerTests, countedLinkTests, countedServerTests, summaryTests, entriesTests, endsTests, roomTests, arrayTests, layTests, Joined, selectTests, Arrays, IsRead, SomeRead, pickTests, hopTests, Reads, givenTests, stepTests, Steps, RefusedExactly}
 use Rattle.demands.proofs.Chains.{front, back, held, skip, same, join, split, exactly, made, carry, some, chain, zero-of, hold-of, answers, test, lt}
-use Rattle.demands.proofs.Numbers.{shape-number, level-number, server-number, pair-number, link-number, value-number, port-number, made-number, parts-number, places-number, table-number, table-link-number, table-server-number, counted-link-number, counted-server-number, summary-number, entries-number, ends-number, ends-hold, array-number, room-number, lists-number, hop-number, given-number, byte-number}
+use Rattle.demands.proofs.Numbers.{shape-number, level-number, server-number, pair-number, link-number, parent-number, value-number, port-number, made-number, parts-number, places-number, table-number, table-link-number, table-server-number, counted-link-number, counted-server-number, summary-number, entries-number, ends-number, ends-hold, array-number, room-number, lists-number, hop-number, given-number, byte-number}
 use Rattle.demands.proofs.Hops.{walk-reads, reads-walk}
 use Rattle.demands.proofs.Written.{write-path}
 use Rattle.demands.proofs.Places.{check-list}
@@ -287,7 +288,7 @@ module _ (s : Shape) (a d i : ℕ) (bs e : List ℕ) where
 -- ---- every call
 
 pub refused-exactly : RefusedExactly
-unfolding serversAnswer boundAnswer digitsAnswer digitAnswer addressAnswer switchAnswer neighbourAnswer betweenAnswer switchesAnswer serverAtAnswer failedAnswer linkAnswer serverAnswer deadAnswer freshAnswer byteAnswer buildAnswer
+unfolding serversAnswer boundAnswer digitsAnswer digitAnswer addressAnswer switchAnswer neighbourAnswer betweenAnswer switchesAnswer serverAtAnswer parentAnswer treeAnswer failedAnswer linkAnswer serverAnswer deadAnswer freshAnswer byteAnswer buildAnswer
 refused-exactly =
     record {
       shape-refusal = λ s. numbered (shapeTests s) (shapeRefusal s) (shape-number s);
@@ -305,6 +306,8 @@ refused-exactly =
       level-between = λ s a b. whole (λ (x : Between). x .refusal) noBetween (λ r. refl) (pairTests s a b) (pairRefusal s a b) _ refl (pair-number s a b) (only-none (differing s a b));
       switches-of = λ s l. whole (λ (x : Numbered). x .refusal) noNumber (λ r. refl) (levelTests s l) (levelRefusal s l) _ refl (level-number s l) refl;
       server-at = λ s l w v. whole (λ (x : Numbered). x .refusal) noNumber (λ r. refl) (portTests s l w v) (portRefusal s l w v) _ refl (port-number s l w v) refl;
+      parent-of = λ s a l x. whole (λ (y : Numbered). y .refusal) noNumber (λ r. refl) (parentTests s a l x) (parentRefusal s a l x) _ refl (parent-number s a l x) refl;
+      write-tree = λ s a l. whole (λ (y : Numbered). y .refusal) noNumber (λ r. refl) (linkTests s a l) (linkRefusal s a l) _ refl (link-number s a l) refl;
       table-refusal = λ s t. numbered (tableTests s t) (roomTableRefusal s t) (table-number s t);
       room-refusal = λ s t a d. numbered (roomTests s t a d) (roomRefusal s t a d) (room-number s t a d);
       failed-link = λ s t a l. whole (λ (x : Asked). x .refusal) notAsked (λ r. refl) (tableLinkTests s t a l) (tableLinkRefusal s t a l) _ refl (table-link-number s t a l) refl;

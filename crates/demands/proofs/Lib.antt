@@ -29,3 +29,4 @@ pub mod Uniqueness
 pub mod Calls
 pub mod Helpers
 pub mod Traces
+pub mod Trees

@@ -21,6 +21,7 @@ use Rattle.room.specs.Wiring.{portRefusal}
 use Rattle.room.specs.Refusals.{shapeRefusal, levelRefusal, serverRefusal, pairRefusal, linkRefusal, valueRefusal, placeBound, placesFit, placesRefusal, endsRefusal}
 use Rattle.room.proofs.RefusalLaws.{valid-none, Places, places-of, places-none, ends-of}
 use Rattle.room.proofs.RoomLaws.{neighbours-exactly}
+use Rattle.trees.specs.Answers.{parentRefusal}
 use Rattle.links.specs.Table.{failed, live, bitsFit, tableRefusal, roomTableRefusal, tableLinkRefusal, tableServerRefusal, TableOf, roomRefusal}
 use Rattle.links.proofs.TableLaws.{table-of, table-none, live-empty}
 use Rattle.summary.specs.Counts.{summaryOf}
@@ -32,8 +33,8 @@ use Rattle.path.specs.Answers.{arrayRefusal, serversRefusal, writeRefusal}
 use Rattle.verdict.specs.Checks.{listRefusal}
 use Rattle.pick.specs.Picks.{fits, listsRefusal}
 use Rattle.step.specs.Steps.{flagAt, givenRefusal, byteRefusal}
-use Rattle.demands.specs.Tests.{Tests, Number, Hold}
-use Rattle.demands.specs.Refusals.{shapeTests, levelTests, serverTests, pairTests, linkTests, valueTests, portTests, madeTests, partsTests, tableServerTests, Fits, placesTests, tableTests, tableLinkTests, countedLinkTests, countedServerTests, summaryTests, entriesTests, endsTests, roomTests, arrayTests, Arrays, checkTests, NotIn, endOf, hopTests, readTests, writeTests, serversTests, givenTests, stepTests}
+use Rattle.demands.specs.Tests.{Tests, _then_, Number, Hold}
+use Rattle.demands.specs.Refusals.{shapeTests, levelTests, serverTests, pairTests, linkTests, valueTests, portTests, madeTests, partsTests, tableServerTests, Fits, placesTests, tableTests, tableLinkTests, countedLinkTests, countedServerTests, summaryTests, entriesTests, endsTests, parentTests, roomTests, arrayTests, Arrays, checkTests, NotIn, endOf, hopTests, readTests, writeTests, serversTests, givenTests, stepTests}
 use Rattle.demands.specs.Summaries.{switchTotal, EntryCounts, Summarizes}
 use Rattle.demands.proofs.Entries.{entries-exactly, counted-exactly, all-counted-exactly}
 use Rattle.demands.proofs.Summaries.{summarizes-exactly}
@@ -104,6 +105,13 @@ module _ (s : Shape) where
   link-number a l =
       chain (serverTests s a) ((20, l ≤ s .k) ∷ []) _ _ refl (server-number a)
       (λ h. after (shapeTests s) ((20, l ≤ s .k) ∷ []) (levelRefusal s l) (front (shapeTests s) ((4, a < serversOf s) ∷ []) h) (level-number l))
+
+  pub parent-number : (a l x : ℕ) → Number (parentTests s a l x) (parentRefusal s a l x)
+  unfolding parentRefusal
+  parent-number a l x =
+      chain (pairTests s a x then (20, l ≤ s .k)) ((5, a ≢ x) ∷ []) _ _ refl
+      (chain (pairTests s a x) ((20, l ≤ s .k) ∷ []) _ _ refl (pair-number a x) (λ h. test 20 (leb l (s .k)) (le l (s .k))))
+      (λ h. test 5 (not (eqb a x)) (ne a x))
 
   pub value-number : (a l v : ℕ) → Number (valueTests s a l v) (valueRefusal s a l v)
   unfolding valueRefusal

@@ -15,16 +15,17 @@ use Rattle.room.specs.declared.Shape.{Shape}
 use Rattle.room.specs.Shapes.{serversOf, bound}
 use Rattle.room.specs.Refusals.{shapeRefusal}
 use Rattle.room.specs.Addresses.{digit}
+use Rattle.trees.specs.Answers.{parentAnswer}
 use Rattle.summary.specs.Answers.{linkAnswer, deadAnswer}
 use Rattle.path.specs.Routes.{levelOf, valueOf}
 use Rattle.path.specs.Walks.{walk}
 use Rattle.path.specs.Answers.{hopAnswer, walkAnswer}
 use Rattle.verdict.specs.Checks.{checkAnswer}
 use Rattle.step.specs.Steps.{flagAt, stepAnswer}
-use Rattle.demands.specs.Tests.{Tests, Refused, Hold}
+use Rattle.demands.specs.Tests.{Tests, _then_, Refused, Hold}
 use Rattle.demands.specs.Summaries.{switchTotal, EntryCounts, Summarizes}
-use Rattle.demands.specs.Refusals.{serverTests, hopTests, tableTests, tableLinkTests, roomTests, arrayTests, Arrays, FailsWith, readTests, FirstAfterArrival, Stops, hop-fails, never-arrives, goes-on, Reads, checkTests, FirstPair, Checks, givenTests, stepTests, Steps, SpelledOut}
-use Rattle.demands.proofs.Chains.{all, others, chain-means, fails-in, numbersOf}
+use Rattle.demands.specs.Refusals.{shapeTests, serverTests, pairTests, hopTests, tableTests, tableLinkTests, roomTests, arrayTests, Arrays, FailsWith, readTests, FirstAfterArrival, Stops, hop-fails, never-arrives, goes-on, Reads, checkTests, FirstPair, Checks, givenTests, stepTests, Steps, SpelledOut}
+use Rattle.demands.proofs.Chains.{front, all, others, chain-means, fails-in, numbersOf}
 use Rattle.demands.proofs.Refusing.{all-at, other-numbers}
 use Rattle.demands.proofs.ComesAgain.{twenty-eight, twenty-nine, write-twenty-eight, write-twenty-nine}
 use Rattle.demands.proofs.Places.{check-list}
@@ -34,6 +35,34 @@ twenty-six : (s : Shape) → (shapeRefusal s ≡ 26) ↔ (Hold ((1, (2 ≤ s .n)
 twenty-six s =
     chain-means .number (λ n. n) ((1, (2 ≤ s .n) × (s .n ≤ 64)) ∷ (2, s .k ≤ 3) ∷ []) ((3, serversOf s ≤ 4096) ∷ []) 26 ((2 ≤ s .m) × (s .m ≤ s .n)) (λ r. r ≡ 0) (shapeRefusal s) (refused-exactly .shape-refusal s)
     (λ e. omega arith, (λ e. omega arith, tt)) (λ e. omega arith, tt) (λ e. omega arith)
+
+module _ (s : Shape) (a l x : ℕ) where
+  parent-four : (parentAnswer s a l x .refusal ≡ plain 4) ↔ (Hold (shapeTests s) × ((a < serversOf s) × (x < serversOf s) → ⊥))
+  parent-four =
+      chain-means .number plain (shapeTests s) ((20, l ≤ s .k) ∷ (5, a ≢ x) ∷ []) 4 ((a < serversOf s) × (x < serversOf s)) (λ r. r ≡ none) (parentAnswer s a l x .refusal) (refused-exactly .parent-of s a l x)
+      (other-numbers plain (shapeTests s) (plain 4) (λ n. refl) refl) (other-numbers plain ((20, l ≤ s .k) ∷ (5, a ≢ x) ∷ []) (plain 4) (λ n. refl) refl) (λ h. let z = ap (λ (r : Refusal). r .number) h in omega arith)
+
+  twenty : (parentAnswer s a l x .refusal ≡ plain 20) ↔ (Hold (pairTests s a x) × (l ≤ s .k → ⊥))
+  twenty =
+      chain-means .number plain (pairTests s a x) ((5, a ≢ x) ∷ []) 20 (l ≤ s .k) (λ r. r ≡ none) (parentAnswer s a l x .refusal) (refused-exactly .parent-of s a l x)
+      (other-numbers plain (pairTests s a x) (plain 20) (λ n. refl) refl) (other-numbers plain ((5, a ≢ x) ∷ []) (plain 20) (λ n. refl) refl) (λ h. let z = ap (λ (r : Refusal). r .number) h in omega arith)
+
+  parent-twenty : (parentAnswer s a l x .refusal ≡ plain 20) ↔ (Hold (pairTests s a x) × (s .k < l))
+  parent-twenty = (λ e. let w = twenty .0 e in let n = w .1 in (w .0, omega (arith, n)), λ w. twenty .1 (w .0, λ p. omega (arith, w .1)))
+
+  five : (parentAnswer s a l x .refusal ≡ plain 5) ↔ (Hold (pairTests s a x then (20, l ≤ s .k)) × (a ≢ x → ⊥))
+  five =
+      chain-means .number plain (pairTests s a x then (20, l ≤ s .k)) [] 5 (a ≢ x) (λ r. r ≡ none) (parentAnswer s a l x .refusal) (refused-exactly .parent-of s a l x)
+      (other-numbers plain (pairTests s a x then (20, l ≤ s .k)) (plain 5) (λ n. refl) refl) tt (λ h. let z = ap (λ (r : Refusal). r .number) h in omega arith)
+
+  parent-five : (parentAnswer s a l x .refusal ≡ plain 5) ↔ (Hold (pairTests s a x) × (l ≤ s .k) × (a ≡ x))
+  parent-five = (
+    λ e. let w = five .0 e in
+        let h = w .0 in
+        let p = front (pairTests s a x) ((20, l ≤ s .k) ∷ []) h in
+        (p, h .1 .1 .1 .1 .1 .0, elim (ℕ-discrete a x) [ yes q ↦ q | no q ↦ absurd (w .1 q) ]),
+    λ w. let p = w .0 in five .1 ((p .0, (p .1 .0, (p .1 .1 .0, (p .1 .1 .1 .0, (p .1 .1 .1 .1 .0, (w .1, tt)))))), λ n. n (w .2)),
+  )
 
 thirty : (s : Shape) (t c : List ℕ) (a l : ℕ)
     → (linkAnswer s t c a l ≡ plain 30) ↔ (Hold (tableLinkTests s t a l) × ((length c ≡ switchTotal s) × EntryCounts s t c a l → ⊥))
@@ -173,4 +202,4 @@ fifteen s t a d bs i g j h = (λ q. let w = means .0 q in (w .0, go (w .1)), λ 
     go (inr (inr k)) = k
 
 pub spelled-out : SpelledOut
-spelled-out = record { twenty-six = twenty-six; thirty = thirty; asked-thirty = asked-thirty; seven = seven; eight = eight; hop-eight = hop-eight; no-byte = no-byte; hop-nine = hop-nine; hop-ten = hop-ten; fourteen = fourteen; twenty-eight = twenty-eight; twenty-nine = twenty-nine; write-twenty-eight = write-twenty-eight; write-twenty-nine = write-twenty-nine; fifteen = fifteen }
+spelled-out = record { twenty-six = twenty-six; parent-four = parent-four; parent-twenty = parent-twenty; parent-five = parent-five; thirty = thirty; asked-thirty = asked-thirty; seven = seven; eight = eight; hop-eight = hop-eight; no-byte = no-byte; hop-nine = hop-nine; hop-ten = hop-ten; fourteen = fourteen; twenty-eight = twenty-eight; twenty-nine = twenty-nine; write-twenty-eight = write-twenty-eight; write-twenty-nine = write-twenty-nine; fifteen = fifteen }

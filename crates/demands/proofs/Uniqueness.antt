@@ -1,6 +1,7 @@
 -- Every input is taken: no contract asks anything of the arguments. Uniqueness: each line by the law in its crate's proofs/Unique.antt.
 use Rattle.refusals.proofs.Unique as refusals
 use Rattle.room.proofs.Unique as room
+use Rattle.trees.proofs.Unique as trees
 use Rattle.links.proofs.Unique as links
 use Rattle.summary.proofs.Unique as summary
 use Rattle.path.proofs.Unique as path
@@ -42,6 +43,8 @@ every-input =
       side-at = λ κs a. tt;
       neighbour-of = λ κs a. tt;
       level-between = λ κs a. tt;
+      parent-of = λ κs a. tt;
+      write-tree = λ κs a. tt;
       failed-link = λ κs a. tt;
       mark = λ κs a. tt;
       clear = λ κs a. tt;
@@ -79,6 +82,8 @@ every-input =
       step-once = λ κs a. tt;
       question-of = λ κs a. tt;
       answer-line = λ κs a. tt;
+      tree-question-of = λ κs a. tt;
+      tree-line = λ κs a. tt;
       switches-of = λ κs a. tt;
       server-at = λ κs a. tt;
       byte-of = λ κs a. tt;
@@ -100,6 +105,8 @@ every-input =
       c-switch = λ κs a. tt;
       c-neighbour = λ κs a. tt;
       c-between = λ κs a. tt;
+      c-parent = λ κs a. tt;
+      c-tree = λ κs a. tt;
       c-failed-link = λ κs a. tt;
       c-mark = λ κs a. tt;
       c-clear = λ κs a. tt;
@@ -145,6 +152,9 @@ uniqueness =
       side-at = room.side-at-unique;
       neighbour-of = room.neighbour-of-unique;
       level-between = room.level-between-unique;
+      parent-of = trees.parent-of-unique;
+      write-tree = trees.write-tree-unique;
+      write-tree-leaves = trees.write-tree-leaves;
       failed-link = links.failed-link-unique;
       mark = links.mark-leaves;
       clear = links.clear-leaves;
@@ -192,6 +202,8 @@ uniqueness =
       step-once = step.step-once-unique;
       question-of = desk-line.question-of-unique;
       answer-line = desk-line.answer-line-unique;
+      tree-question-of = desk-line.tree-question-of-unique;
+      tree-line = desk-line.tree-line-unique;
       switches-of = room.switches-of-unique;
       server-at = room.server-at-unique;
       byte-of = path.byte-of-unique;
@@ -214,6 +226,9 @@ uniqueness =
       c-switch = driver.bcube-switch-unique;
       c-neighbour = driver.bcube-neighbour-unique;
       c-between = driver.bcube-between-unique;
+      c-parent = driver.bcube-parent-unique;
+      c-tree = driver.bcube-tree-unique;
+      c-tree-leaves = driver.bcube-tree-leaves;
       c-failed-link = driver.bcube-failed-link-unique;
       c-mark = driver.bcube-mark-unique;
       c-mark-leaves = driver.bcube-mark-leaves;

@@ -13,6 +13,7 @@ use Rattle.room.specs.declared.Shape.{Shape}
 use Rattle.room.specs.Refusals.{shapeRefusal}
 use Rattle.room.specs.Answers.{serversAnswer, boundAnswer, digitsAnswer, digitAnswer, addressAnswer, switchAnswer, neighbourAnswer, betweenAnswer}
 use Rattle.room.specs.Wiring.{switchesAnswer, serverAtAnswer}
+use Rattle.trees.specs.Answers.{parentAnswer, treeOf, treeAnswer, treeLeft}
 use Rattle.links.specs.Table.{changed}
 use Rattle.links.specs.Answers.{failedAnswer}
 use Rattle.summary.specs.declared.DeadSwitch.{DeadSwitch}
@@ -58,6 +59,8 @@ pub record EveryBuffer : Type 0 where
       → Holds (serverAnswer s t c a .number) c (recountedBelow s (set t a 0) a (suc (s .k)) c) (serverSummary false s t c a)
   -- the summary counted afresh
   pub summarized : (s : Shape) (t c : List ℕ) → Holds (freshAnswer s t c .number) c (summaryOf s t) (freshSummary s t c)
+  -- the numbers of a tree
+  pub tree : (s : Shape) (a l : ℕ) (lent : List ℕ) → Holds (treeAnswer s a l .refusal .number) lent (treeOf s a l) (treeLeft s a l lent)
   -- laying a route: on a refusal t, as it was lent, is u, which is left; what is left else is `LaysExactly` in Calls
   pub laid : (s : Shape) (t : List ℕ) (a d : ℕ) (bs : List ℕ) (r : Refusal) (u : List ℕ) → Lays s t a d bs r u → r .number ≢ 0 → u ≡ t
   -- the calls from C, by what their contracts say is left: four digits, nine servers, eight path bytes, four arrays
@@ -139,6 +142,8 @@ pub record EveryWord : Type 0 where
   pub switch : (s : Shape) (a l : ℕ) → Tells (switchWord (switchAnswer s a l)) (switchAnswer s a l .refusal) (switchAnswer s a l .number)
   pub neighbour : (s : Shape) (a l v : ℕ) → Tells (numberWord (neighbourAnswer s a l v)) (neighbourAnswer s a l v .refusal) (neighbourAnswer s a l v .value)
   pub between : (s : Shape) (a b : ℕ) → (let x = betweenAnswer s a b in Tells (betweenWord x) (x .refusal) (cond (x .adjacent) (suc (x .level)) 0))
+  pub parent : (s : Shape) (a l x : ℕ) → (let y = parentAnswer s a l x in Tells (numberWord y) (y .refusal) (y .value))
+  pub tree : (s : Shape) (a l : ℕ) → Tells (numberWord (treeAnswer s a l)) (treeAnswer s a l .refusal) (treeAnswer s a l .value)
   pub failed-link : (s : Shape) (t : List ℕ) (a l : ℕ) → (let x = failedAnswer s t a l in Tells (askedWord x) (x .refusal) (cond (x .failed) 1 0))
   pub mark-or-clear : (s : Shape) (t c : List ℕ) (a l : ℕ) → Tells (word (linkAnswer s t c a l) 0) (linkAnswer s t c a l) 0
   pub mark-or-clear-server : (s : Shape) (t c : List ℕ) (a : ℕ) → Tells (word (serverAnswer s t c a) 0) (serverAnswer s t c a) 0

@@ -18,6 +18,7 @@ use Rattle.room.specs.declared.Between.{Between}
 use Rattle.room.specs.Refusals.{shapeRefusal, serverRefusal, pairRefusal, endsRefusal, linkRefusal}
 use Rattle.room.specs.Answers.{serversAnswer, boundAnswer, digitsAnswer, digitAnswer, addressAnswer, switchAnswer, neighbourAnswer, betweenAnswer}
 use Rattle.room.specs.Wiring.{switchesAnswer, serverAtAnswer}
+use Rattle.trees.specs.Answers.{parentAnswer, treeAnswer}
 use Rattle.links.specs.declared.Asked.{Asked}
 use Rattle.links.specs.Table.{roomTableRefusal, roomRefusal, tableLinkRefusal, tableServerRefusal}
 use Rattle.links.specs.Answers.{failedAnswer}
@@ -147,6 +148,9 @@ pub record EveryCall : Type 0 where
   pub level-between : (s : Shape) (a b : ℕ) → BetweenOf (1 ∷ 2 ∷ 26 ∷ 3 ∷ 4 ∷ []) (betweenAnswer s a b)
   pub switches-of : (s : Shape) (l : ℕ) → NumberOf (1 ∷ 2 ∷ 26 ∷ 3 ∷ 20 ∷ []) (switchesAnswer s l)
   pub server-at : (s : Shape) (l w v : ℕ) → NumberOf (1 ∷ 2 ∷ 26 ∷ 3 ∷ 20 ∷ 21 ∷ []) (serverAtAnswer s l w v)
+  -- trees
+  pub parent-of : (s : Shape) (a l x : ℕ) → NumberOf (1 ∷ 2 ∷ 26 ∷ 3 ∷ 4 ∷ 20 ∷ 5 ∷ []) (parentAnswer s a l x)
+  pub write-tree : (s : Shape) (a l : ℕ) → NumberOf (1 ∷ 2 ∷ 26 ∷ 3 ∷ 4 ∷ 20 ∷ []) (treeAnswer s a l)
   -- links
   pub table-refusal : (s : Shape) (t : List ℕ) → OneOf (1 ∷ 2 ∷ 26 ∷ 3 ∷ 6 ∷ []) (roomTableRefusal s t)
   pub room-refusal : (s : Shape) (t : List ℕ) (a d : ℕ) → OneOf (1 ∷ 2 ∷ 26 ∷ 3 ∷ 4 ∷ 5 ∷ 6 ∷ []) (roomRefusal s t a d)

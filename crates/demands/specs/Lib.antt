@@ -14,3 +14,4 @@ pub mod Calls
 pub mod Summaries
 pub mod Helpers
 pub mod Traces
+pub mod Trees

@@ -15,6 +15,7 @@ use Rattle.room.specs.Addresses.{digit, switchesAt, Neighbours}
 use Rattle.room.specs.Refusals.{shapeRefusal, serverRefusal, pairRefusal, endsRefusal, linkRefusal}
 use Rattle.room.specs.Answers.{serversAnswer, boundAnswer, digitsAnswer, digitAnswer, addressAnswer, switchAnswer, neighbourAnswer, betweenAnswer}
 use Rattle.room.specs.Wiring.{switchesAnswer, serverAtAnswer}
+use Rattle.trees.specs.Answers.{parentAnswer, treeAnswer}
 use Rattle.links.specs.Table.{failed, roomTableRefusal, TableOf, roomRefusal, tableLinkRefusal, tableServerRefusal}
 use Rattle.links.specs.Answers.{failedAnswer}
 use Rattle.summary.specs.Answers.{linkAnswer, serverAnswer, deadAnswer, freshAnswer}
@@ -111,7 +112,11 @@ entriesTests s t c = tableTests s t then (30, length c ≡ switchTotal s)
 abbrev pub endsTests : Shape → ℕ → ℕ → Tests
 endsTests s a d = pairTests s a d then (5, a ≢ d)
 
--- and a table
+-- the source, a tree and the server whose parent is asked for: the tree is tested before the two servers are told apart
+abbrev pub parentTests : Shape → ℕ → ℕ → ℕ → Tests
+parentTests s a l x = pairTests s a x then (20, l ≤ s .k) then (5, a ≢ x)
+
+-- source and destination, and a table
 abbrev pub roomTests : Shape → List ℕ → ℕ → ℕ → Tests
 roomTests s t a d = endsTests s a d then (6, TableOf s t)
 
@@ -358,6 +363,9 @@ pub record RefusedExactly : Type 0 where
   pub level-between : (s : Shape) (a b : ℕ) → Exactly (betweenAnswer s a b .refusal) (Whole (pairTests s a b))
   pub switches-of : (s : Shape) (l : ℕ) → Exactly (switchesAnswer s l .refusal) (Whole (levelTests s l))
   pub server-at : (s : Shape) (l w v : ℕ) → Exactly (serverAtAnswer s l w v .refusal) (Whole (portTests s l w v))
+  -- trees
+  pub parent-of : (s : Shape) (a l x : ℕ) → Exactly (parentAnswer s a l x .refusal) (Whole (parentTests s a l x))
+  pub write-tree : (s : Shape) (a l : ℕ) → Exactly (treeAnswer s a l .refusal) (Whole (linkTests s a l))
   -- links
   pub table-refusal : (s : Shape) (t : List ℕ) → Exactly (roomTableRefusal s t) (Number (tableTests s t))
   pub room-refusal : (s : Shape) (t : List ℕ) (a d : ℕ) → Exactly (roomRefusal s t a d) (Number (roomTests s t a d))
@@ -397,6 +405,11 @@ pub record SpelledOut : Type 0 where
   -- a shape is refused with 26 exactly when n and k are as they must be, and m is not, however many servers it would give
   pub twenty-six : (s : Shape)
       → (shapeRefusal s ≡ 26) ↔ (Hold ((1, (2 ≤ s .n) × (s .n ≤ 64)) ∷ (2, s .k ≤ 3) ∷ []) × ((2 ≤ s .m) × (s .m ≤ s .n) → ⊥))
+  -- asked for a parent, 4 is said exactly when the shape is right and the source or the server is not the room's; 20 exactly when both are and the
+  -- room has no such tree; 5 exactly when it has, and the server is the source
+  pub parent-four : (s : Shape) (a l x : ℕ) → (parentAnswer s a l x .refusal ≡ plain 4) ↔ (Hold (shapeTests s) × ((a < serversOf s) × (x < serversOf s) → ⊥))
+  pub parent-twenty : (s : Shape) (a l x : ℕ) → (parentAnswer s a l x .refusal ≡ plain 20) ↔ (Hold (pairTests s a x) × (s .k < l))
+  pub parent-five : (s : Shape) (a l x : ℕ) → (parentAnswer s a l x .refusal ≡ plain 5) ↔ (Hold (pairTests s a x) × (l ≤ s .k) × (a ≡ x))
   -- marking or clearing a link says 30 exactly when the link and the table are right, and the summary has not an entry for each switch or that of
   -- the link's switch is not the count
   pub thirty : (s : Shape) (t c : List ℕ) (a l : ℕ)

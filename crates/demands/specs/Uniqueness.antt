@@ -62,6 +62,10 @@ use Rattle.room.proofs.side_at.Reads as side-at-reads
 use Rattle.room.proofs.side_at.Kinds as side-at-kinds
 use Rattle.room.proofs.server_at.Reads as server-at-reads
 use Rattle.room.proofs.server_at.Kinds as server-at-kinds
+use Rattle.trees.proofs.parent_of.Reads as parent-of-reads
+use Rattle.trees.proofs.parent_of.Kinds as parent-of-kinds
+use Rattle.trees.proofs.write_tree.Reads as write-tree-reads
+use Rattle.trees.proofs.write_tree.Kinds as write-tree-kinds
 use Rattle.links.proofs.failed_link.Reads as failed-link-reads
 use Rattle.links.proofs.failed_link.Kinds as failed-link-kinds
 use Rattle.links.proofs.mark.Reads as mark-reads
@@ -136,6 +140,10 @@ use Rattle.step.proofs.step_once.Reads as step-once-reads
 use Rattle.step.proofs.step_once.Kinds as step-once-kinds
 use Rattle.desk_line.proofs.question_of.Reads as question-of-reads
 use Rattle.desk_line.proofs.question_of.Kinds as question-of-kinds
+use Rattle.desk_line.proofs.tree_question_of.Reads as tree-question-of-reads
+use Rattle.desk_line.proofs.tree_question_of.Kinds as tree-question-of-kinds
+use Rattle.desk_line.proofs.tree_line.Reads as tree-line-reads
+use Rattle.desk_line.proofs.tree_line.Kinds as tree-line-kinds
 use Rattle.desk_line.proofs.answer_line.Reads as answer-line-reads
 use Rattle.desk_line.proofs.answer_line.Kinds as answer-line-kinds
 use Rattle.driver.proofs.bcube_version.Reads as c-version-reads
@@ -184,6 +192,10 @@ use Rattle.driver.proofs.bcube_dead_switch.Reads as c-dead-switch-reads
 use Rattle.driver.proofs.bcube_dead_switch.Kinds as c-dead-switch-kinds
 use Rattle.driver.proofs.bcube_summarize.Reads as c-summarize-reads
 use Rattle.driver.proofs.bcube_summarize.Kinds as c-summarize-kinds
+use Rattle.driver.proofs.bcube_parent.Reads as c-parent-reads
+use Rattle.driver.proofs.bcube_parent.Kinds as c-parent-kinds
+use Rattle.driver.proofs.bcube_tree.Reads as c-tree-reads
+use Rattle.driver.proofs.bcube_tree.Kinds as c-tree-kinds
 use Rattle.driver.proofs.bcube_failed_link.Reads as c-failed-link-reads
 use Rattle.driver.proofs.bcube_failed_link.Kinds as c-failed-link-kinds
 use Rattle.driver.proofs.bcube_read.Reads as c-read-reads
@@ -238,6 +250,9 @@ pub record EveryInput : Type 0 where
   pub level-between : Takes 0 level-between-kinds.ps level-between-reads.Pre
   pub switches-of : Takes 0 switches-of-kinds.ps switches-of-reads.Pre
   pub server-at : Takes 0 server-at-kinds.ps server-at-reads.Pre
+  -- trees
+  pub parent-of : Takes 0 parent-of-kinds.ps parent-of-reads.Pre
+  pub write-tree : Takes 1 write-tree-kinds.ps write-tree-reads.Pre
   -- links
   pub failed-link : Takes 1 failed-link-kinds.ps failed-link-reads.Pre
   pub mark : Takes 1 mark-kinds.ps mark-reads.Pre
@@ -288,6 +303,8 @@ pub record EveryInput : Type 0 where
   -- desk_line
   pub question-of : Takes 1 question-of-kinds.ps question-of-reads.Pre
   pub answer-line : Takes 1 answer-line-kinds.ps answer-line-reads.Pre
+  pub tree-question-of : Takes 1 tree-question-of-kinds.ps tree-question-of-reads.Pre
+  pub tree-line : Takes 0 tree-line-kinds.ps tree-line-reads.Pre
   -- driver: what C calls as bcube_room_of, and so on
   pub c-version : Takes 0 c-version-kinds.ps c-version-reads.Pre
   pub c-switches : Takes 0 c-switches-kinds.ps c-switches-reads.Pre
@@ -306,6 +323,8 @@ pub record EveryInput : Type 0 where
   pub c-switch : Takes 0 c-switch-kinds.ps c-switch-reads.Pre
   pub c-neighbour : Takes 0 c-neighbour-kinds.ps c-neighbour-reads.Pre
   pub c-between : Takes 0 c-between-kinds.ps c-between-reads.Pre
+  pub c-parent : Takes 0 c-parent-kinds.ps c-parent-reads.Pre
+  pub c-tree : Takes 1 c-tree-kinds.ps c-tree-reads.Pre
   pub c-failed-link : Takes 1 c-failed-link-kinds.ps c-failed-link-reads.Pre
   pub c-mark : Takes 2 c-mark-kinds.ps c-mark-reads.Pre
   pub c-clear : Takes 2 c-clear-kinds.ps c-clear-reads.Pre
@@ -353,6 +372,11 @@ pub record Uniqueness : Type 0 where
   pub level-between : Determined 0 level-between-kinds.ps level-between-kinds.r level-between-reads.Post
   pub switches-of : Determined 0 switches-of-kinds.ps switches-of-kinds.r switches-of-reads.Post
   pub server-at : Determined 0 server-at-kinds.ps server-at-kinds.r server-at-reads.Post
+  -- trees
+  pub parent-of : Determined 0 parent-of-kinds.ps parent-of-kinds.r parent-of-reads.Post
+  pub write-tree : Determined 1 write-tree-kinds.ps write-tree-kinds.r write-tree-reads.Post
+  -- and the numbers that it leaves behind
+  pub write-tree-leaves : Leaves 1 write-tree-kinds.ps write-tree-kinds.r write-tree-reads.Post (λ κs s. now (s .1 .1 .1 .0))
   -- links
   pub failed-link : Determined 1 failed-link-kinds.ps failed-link-kinds.r failed-link-reads.Post
   pub mark : Leaves 1 mark-kinds.ps mark-kinds.r mark-reads.Post (λ κs s. now (s .0))
@@ -420,6 +444,8 @@ pub record Uniqueness : Type 0 where
   -- desk_line
   pub question-of : Determined 1 question-of-kinds.ps question-of-kinds.r question-of-reads.Post
   pub answer-line : Determined 1 answer-line-kinds.ps answer-line-kinds.r answer-line-reads.Post
+  pub tree-question-of : Determined 1 tree-question-of-kinds.ps tree-question-of-kinds.r tree-question-of-reads.Post
+  pub tree-line : Determined 0 tree-line-kinds.ps tree-line-kinds.r tree-line-reads.Post
   -- driver: what C calls as bcube_room_of, and so on
   pub c-version : Determined 0 c-version-kinds.ps c-version-kinds.r c-version-reads.Post
   pub c-switches : Determined 0 c-switches-kinds.ps c-switches-kinds.r c-switches-reads.Post
@@ -440,6 +466,10 @@ pub record Uniqueness : Type 0 where
   pub c-switch : Determined 0 c-switch-kinds.ps c-switch-kinds.r c-switch-reads.Post
   pub c-neighbour : Determined 0 c-neighbour-kinds.ps c-neighbour-kinds.r c-neighbour-reads.Post
   pub c-between : Determined 0 c-between-kinds.ps c-between-kinds.r c-between-reads.Post
+  pub c-parent : Determined 0 c-parent-kinds.ps c-parent-kinds.r c-parent-reads.Post
+  pub c-tree : Determined 1 c-tree-kinds.ps c-tree-kinds.r c-tree-reads.Post
+  -- and the numbers that it leaves behind
+  pub c-tree-leaves : Leaves 1 c-tree-kinds.ps c-tree-kinds.r c-tree-reads.Post (λ κs s. now (s .1 .1 .1 .0))
   pub c-failed-link : Determined 1 c-failed-link-kinds.ps c-failed-link-kinds.r c-failed-link-reads.Post
   pub c-mark : Determined 2 c-mark-kinds.ps c-mark-kinds.r c-mark-reads.Post
   -- and the two buffers that it leaves behind

@@ -14,7 +14,7 @@ use Rattle.room.specs.declared.Shape.{Shape}
 use Rattle.room.specs.Shapes.{fullRoom, Ends}
 use Rattle.room.specs.Refusals.{endsRefusal}
 use Rattle.room.proofs.RefusalLaws.{ends-of}
-use Rattle.room.proofs.NumberLaws.{full-numbers}
+use Rattle.room.proofs.NumberLaws.{ends-numbers}
 use Rattle.path.specs.declared.Reading.{Reading}
 use Rattle.path.specs.Answers.{readAnswer}
 use Rattle.path.proofs.CodecLaws.{read-given}
@@ -155,9 +155,6 @@ print-end {s} {a} {d} {t} {j} p h =
 
 -- ---- refusals
 
-pub ends-le : (s : Shape) (a d : ℕ) → s .m ≡ s .n → endsRefusal s a d ≤ 9
-ends-le s a d full = one-le 9 refl (full-numbers s full a d)
-
 number-of : (r : ℕ) (x : RouteSet) → answer r noBuilding (aBuilding x) .refusal .number ≡ r
 number-of zero x = refl
 number-of (suc r) x = refl
@@ -168,8 +165,8 @@ module _ (s : Shape) (a d : ℕ) (x : Building) (e : x ≡ buildAnswer s a d) wh
   unfolding buildAnswer
   built-number = ap (λ (y : Building). y .refusal .number) e ∙ number-of (endsRefusal s a d) (setOf (builtArrays s a d))
 
-  pub built-few : s .m ≡ s .n → x .refusal .number < 10
-  built-few full = omega (arith, built-number, ends-le s a d full)
+  pub built-few : x .refusal .number < 100
+  built-few = omega (arith, built-number, one-le 99 refl (ends-numbers s a d))
 
   pub text-refused : {t : Text} → x .refusal .number ≢ 0 → t ≡ textOf (refusedLine (x .refusal .number)) → t ≡ textOf (builtText s a d)
   unfolding builtText

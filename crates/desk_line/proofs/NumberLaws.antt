@@ -1,19 +1,21 @@
--- Laws of words and numbers: a word read on from a place, and the question of four words.
+-- Laws of words and numbers: a word read on from a place, and the words of a line.
 use Prim.Native.Nat.{ℕ, suc, _+_, _-_, _*_, _≤_, _<_}
-use mathlib.Core.Path.{_≡_, refl, sym, ap, _∙_}
+use mathlib.Core.Path.{_≡_, refl, sym, ap, ap₂, _∙_}
 use mathlib.Core.Logic.{_≢_}
 use mathlib.Core.Bool.{Bool, true, false, cond, _&&_}
-use mathlib.Core.List.{List, [], _∷_}
+use mathlib.Core.List.{List, [], _∷_, _++_, map, append-assoc, append-nil}
 use native.Mathlib.Numerals.{add-one}
 use native.Mathlib.Omega.{arith}
 use lib.Dec.{leb}
-use lib.ListN.{length, getD, drop, drop-of-length-le}
+use lib.ListN.{length, getD, set, take, drop, replicate, length-set, drop-of-length-le}
 use lib.Seq.{drop-cons}
 use borrow.Author.Tests.{lt-ltb, le-ltb, le-leb, lt-leb}
+use Rattle.lists.specs.Lists.{filled}
+use Rattle.lists.proofs.ListLaws.{taken-on, filled-is, rest-on}
 use Rattle.desk_line.specs.declared.Word.{Word}
-use Rattle.desk_line.specs.declared.Question.{Question}
+use Rattle.desk_line.specs.declared.Words.{Words}
 use Rattle.desk_line.specs.Lines.{newline, space, before, after, lineSize}
-use Rattle.desk_line.specs.Numbers.{digitsOnly, valueFrom, noWord, aWord, wordOf, noQuestion, asked, parse, questionOf}
+use Rattle.desk_line.specs.Numbers.{digitsOnly, valueFrom, noWord, aWord, wordOf, wordsOf, allNumbers, noNumbers, numbersBy, numbersOf, numbersIn, questionBy, questionOf, treeQuestionBy, treeQuestionOf}
 
 -- the word that is left, after digits that wrote v
 unfoldable pub readOn : ℕ → List ℕ → Word
@@ -80,67 +82,108 @@ pub word-some : (w : List ℕ) → length w ≢ 0 → readOn 0 w ≡ wordOf w
 unfolding wordOf readOn
 word-some w h = let k : 0 < length w = omega arith in rw (lt-ltb 0 (length w) k)
 
--- ---- the question of four words
+-- ---- the words of a line
 
-off : (t : Bool) (x q : Question) → t ≡ false → q ≡ noQuestion → q ≡ cond t x noQuestion
-off t x q e h = rw e h
+-- the numbers of a line of which words were read already, with the values xs: those and the words that are left
+unfoldable pub numbersAfter : List ℕ → List Word → Words
+numbersAfter xs ws = cond (allNumbers ws) (record { numbers = true; values = filled 5 (xs ++ map (λ w. w .value) ws) }) noNumbers
 
-two-off : (t u v w : Bool) → u ≡ false → t && u && v && w ≡ false
-two-off true u v w e = rw e
-two-off false u v w e = refl
+word-missing : (xs : List ℕ) (w : Word) (ws : List Word) → w .number ≡ false → numbersAfter xs (w ∷ ws) ≡ noNumbers
+unfolding numbersAfter allNumbers
+word-missing xs w ws e = rw e
 
-three-off : (t u v w : Bool) → v ≡ false → t && u && v && w ≡ false
-three-off true true v w e = rw e
-three-off true false v w e = refl
-three-off false u v w e = refl
+word-there : (xs : List ℕ) (w : Word) (ws : List Word) → w .number ≡ true → numbersAfter xs (w ∷ ws) ≡ numbersAfter (xs ++ (w .value ∷ [])) ws
+unfolding numbersAfter allNumbers
+word-there xs w ws e = rw (e, append-assoc xs (w .value ∷ []) (map (λ w. w .value) ws))
 
-four-off : (t u v w : Bool) → w ≡ false → t && u && v && w ≡ false
-four-off true true true w e = e
-four-off true true false w e = refl
-four-off true false v w e = refl
-four-off false u v w e = refl
+words-end : (xs : List ℕ) → numbersAfter xs [] ≡ record { numbers = true; values = filled 5 xs }
+unfolding numbersAfter allNumbers
+words-end xs = rw (append-nil xs)
 
-all-on : (t u v w : Bool) → t ≡ true → u ≡ true → v ≡ true → w ≡ true → t && u && v && w ≡ true
-all-on t u v w e f g h = rw (e, f, g, h)
+words-more : (m : ℕ) (line : List ℕ) → wordsOf (suc m) line ≡ wordOf (before space line) ∷ wordsOf m (after space line)
+unfolding wordsOf
+words-more m line = refl
 
-module _ (n k a d : Word) (q : Question) where
-  pub asked-one : n .number ≡ false → q ≡ noQuestion → q ≡ asked n k a d
-  asked-one e h = off (n .number && k .number && a .number && d .number) _ q (ap (λ (t : Bool). t && k .number && a .number && d .number) e) h
+words-last : (line : List ℕ) → wordsOf 0 line ≡ wordOf line ∷ []
+unfolding wordsOf
+words-last line = refl
 
-  pub asked-two : k .number ≡ false → q ≡ noQuestion → q ≡ asked n k a d
-  asked-two e h = off (n .number && k .number && a .number && d .number) _ q (two-off (n .number) (k .number) (a .number) (d .number) e) h
+-- the first i words of a line with m spaces are read: their values stand in vs, and the rest of the line is left
+pub record WordsRead (line : List ℕ) (m : ℕ) (vs rest : List ℕ) (i : ℕ) : Type 0 where
+  pub within : i ≤ m
+  pub long : length vs ≡ 5
+  pub unread : drop i vs ≡ replicate (5 - i) 0
+  pub same : numbersAfter (take i vs) (wordsOf (m - i) rest) ≡ numbersOf m line
 
-  pub asked-three : a .number ≡ false → q ≡ noQuestion → q ≡ asked n k a d
-  asked-three e h = off (n .number && k .number && a .number && d .number) _ q (three-off (n .number) (k .number) (a .number) (d .number) e) h
+pub words-start : (line : List ℕ) (m : ℕ) → WordsRead line m (replicate 5 0) line 0
+unfolding numbersOf numbersBy numbersAfter
+words-start line m =
+    let e : m - 0 ≡ m = omega arith in
+    record { within = omega arith; long = refl; unread = refl; same = ap (λ (x : ℕ). numbersAfter [] (wordsOf x line)) e }
 
-  pub asked-four : d .number ≡ false → q ≡ noQuestion → q ≡ asked n k a d
-  asked-four e h = off (n .number && k .number && a .number && d .number) _ q (four-off (n .number) (k .number) (a .number) (d .number) e) h
+module _ {line : List ℕ} {m : ℕ} {vs rest : List ℕ} {i : ℕ} (p : WordsRead line m vs rest i) (few : m < 5) where
+  -- one value more
+  value-put : (v : ℕ) → take (i + 1) (set vs i v) ≡ take i vs ++ (v ∷ [])
+  value-put v = taken-on vs i v (omega (arith, p .within, p .long))
 
-on : (t : Bool) (x : Question) → t ≡ true → x ≡ cond t x noQuestion
-on t x e = rw e
+  module _ (h : i < m) {word : List ℕ} {w : Word} (e : word ≡ before space rest) (f : w ≡ wordOf word) where
+    next : numbersAfter (take i vs) (w ∷ wordsOf (m - (i + 1)) (after space rest)) ≡ numbersOf m line
+    next =
+        let q : m - i ≡ suc (m - (i + 1)) = omega arith in
+        ap (λ (x : Word). numbersAfter (take i vs) (x ∷ wordsOf (m - (i + 1)) (after space rest))) (f ∙ ap wordOf e)
+        ∙ ap (numbersAfter (take i vs)) (sym (words-more (m - (i + 1)) rest) ∙ ap (λ (x : ℕ). wordsOf x rest) (sym q))
+        ∙ p .same
 
-pub asked-all : (n k a d : Word) → n .number ≡ true → k .number ≡ true → a .number ≡ true → d .number ≡ true → record { taken = true; n = n .value; k = k .value; source = a .value; destination = d .value } ≡ asked n k a d
-asked-all n k a d e f g h =
-    on (n .number && k .number && a .number && d .number) _ (all-on (n .number) (k .number) (a .number) (d .number) e f g h)
+    pub words-stop : {r : Words} → w .number ≡ false → r ≡ noNumbers → r ≡ numbersOf m line
+    words-stop n g = g ∙ sym (word-missing (take i vs) w (wordsOf (m - (i + 1)) (after space rest)) n) ∙ next
+
+    pub words-next : {left : List ℕ} → w .number ≡ true → left ≡ after space rest → WordsRead line m (set vs i (w .value)) left (i + 1)
+    words-next {left} y g =
+        record {
+          within = omega arith;
+          long = length-set vs i (w .value) ∙ p .long;
+          unread = rest-on 5 vs i (w .value) (p .unread);
+          same = ap₂ (λ (xs l : List ℕ). numbersAfter xs (wordsOf (m - (i + 1)) l)) (value-put (w .value)) g
+              ∙ sym (word-there (take i vs) w (wordsOf (m - (i + 1)) (after space rest)) y)
+              ∙ next;
+        }
+
+  module _ (h : m ≤ i) {w : Word} (f : w ≡ wordOf rest) where
+    last : numbersAfter (take i vs) (w ∷ []) ≡ numbersOf m line
+    last =
+        let q : m - i ≡ 0 = omega arith in
+        ap (λ (x : Word). numbersAfter (take i vs) (x ∷ [])) f
+        ∙ ap (numbersAfter (take i vs)) (sym (words-last rest) ∙ ap (λ (x : ℕ). wordsOf x rest) (sym q))
+        ∙ p .same
+
+    pub last-stop : {r : Words} → w .number ≡ false → r ≡ noNumbers → r ≡ numbersOf m line
+    last-stop n g = g ∙ sym (word-missing (take i vs) w [] n) ∙ last
+
+    pub last-read : w .number ≡ true → record { numbers = true; values = set vs i (w .value) } ≡ numbersOf m line
+    last-read y =
+        ap (λ (xs : List ℕ). record { numbers = true; values = xs })
+        (sym (filled-is 5 (set vs i (w .value)) (i + 1) (omega (arith, p .within)) (length-set vs i (w .value) ∙ p .long) (rest-on 5 vs i (w .value) (p .unread)))
+        ∙ ap (filled 5) (value-put (w .value)))
+        ∙ sym (words-end (take i vs ++ (w .value ∷ [])))
+        ∙ sym (word-there (take i vs) w [] y)
+        ∙ last
 
 -- ---- the whole line
 
-pub parsed : (line : List ℕ) {second third last wn wk wa : List ℕ} {n k a d : Word} {q : Question} → second ≡ after space line → third ≡ after space second → last ≡ after space third → wn ≡ before space line → n ≡ wordOf wn → wk ≡ before space second → k ≡ wordOf wk → wa ≡ before space third → a ≡ wordOf wa → d ≡ wordOf last → q ≡ asked n k a d → q ≡ parse line
-unfolding parse
-parsed line {second} {third} {last} {wn} {wk} {wa} {n} {k} {a} {d} {q} e2 e3 e4 f1 g1 f2 g2 f3 g3 g4 h =
-    let s2 = ap (after space) e2 in
-    let t3 : third ≡ after space (after space line) = e3 ∙ s2 in
-    let l4 : last ≡ after space (after space (after space line)) = e4 ∙ ap (after space) t3 in
-    let n1 : n ≡ wordOf (before space line) = g1 ∙ ap wordOf f1 in
-    let k1 : k ≡ wordOf (before space (after space line)) = g2 ∙ ap wordOf (f2 ∙ ap (before space) e2) in
-    let a1 : a ≡ wordOf (before space (after space (after space line))) = g3 ∙ ap wordOf (f3 ∙ ap (before space) t3) in
-    let d1 : d ≡ wordOf (after space (after space (after space line))) = g4 ∙ ap wordOf l4 in
-    h ∙ rw (n1, k1, a1, d1)
+pub numbers-fit : (input line : List ℕ) (m : ℕ) (t : Bool) (r : Words) → t ≡ leb (lineSize input) 64 → t ≡ true → line ≡ before newline input → r ≡ numbersOf m line → r ≡ numbersIn m input
+unfolding numbersIn
+numbers-fit input line m t r e h l f = rw (← e, h) (f ∙ ap (numbersOf m) l)
 
-pub question-fits : (input line : List ℕ) (t : Bool) (q : Question) → t ≡ leb (lineSize input) 64 → t ≡ true → line ≡ before newline input → q ≡ parse line → q ≡ questionOf input
-unfolding questionOf
-question-fits input line t q e h l f = rw (← e, h) (f ∙ ap parse l)
+pub numbers-long : (input : List ℕ) (m : ℕ) (t : Bool) (r : Words) → t ≡ leb (lineSize input) 64 → t ≡ false → r ≡ noNumbers → r ≡ numbersIn m input
+unfolding numbersIn
+numbers-long input m t r e h f = rw (← e, h) f
 
-pub question-long : (input : List ℕ) (t : Bool) (q : Question) → t ≡ leb (lineSize input) 64 → t ≡ false → q ≡ noQuestion → q ≡ questionOf input
+-- ---- what is asked
+
+pub question-made : (input : List ℕ) (r : Words) → r ≡ numbersIn 3 input → questionBy r ≡ questionOf input
 unfolding questionOf
-question-long input t q e h f = rw (← e, h) f
+question-made input r e = ap questionBy e
+
+pub tree-question-made : (input : List ℕ) (r : Words) → r ≡ numbersIn 4 input → treeQuestionBy r ≡ treeQuestionOf input
+unfolding treeQuestionOf
+tree-question-made input r e = ap treeQuestionBy e

@@ -1,9 +1,10 @@
--- Laws of texts: what one byte more, a word more and bytes in hex more make of an answer.
-use Prim.Native.Nat.{ℕ, suc, _+_, _-_, _*_, _/_, _%_, _≤_, _<_}
+-- Laws of texts: what one byte more, a word more, bytes in hex more and a number more make of an answer.
+use Prim.Native.Nat.{ℕ, zero, suc, _+_, _-_, _*_, _/_, _%_, _≤_, _<_}
 use mathlib.Core.Path.{_≡_, refl, sym, ap, ap₂, _∙_}
 use mathlib.Core.List.{List, [], _∷_, _++_, append-assoc, append-nil}
 use native.Mathlib.Numerals.{add-one}
 use native.Mathlib.Omega.{arith}
+use native.Mathlib.Decide.{decLt}
 use lib.ListN.{length, getD, set, take, replicate, length-append}
 use lib.Seq.{take-append-seam, take-all, take-suc, length-take-le, set-at}
 use borrow.Author.Tests.{lt-ltb, le-ltb}
@@ -52,6 +53,14 @@ none-yet = refl
 pub text-more : {t u : Text} (xs ys : List ℕ) → t ≡ textOf xs → u ≡ textOf (shown t ++ ys) → u ≡ textOf (xs ++ ys)
 text-more xs ys e f = f ∙ ap (λ (l : List ℕ). textOf (l ++ ys)) (shown-of xs e)
 
+-- a text made longer twice
+pub text-then : (s : Text) {t u : Text} (xs ys : List ℕ) → t ≡ textOf (shown s ++ xs) → u ≡ textOf (shown t ++ ys) → u ≡ textOf (shown s ++ (xs ++ ys))
+text-then s xs ys e f = text-more (shown s ++ xs) ys e f ∙ ap textOf (append-assoc (shown s) xs ys)
+
+-- and the room that is left after the first
+pub room-then : {s t : Text} {m : ℕ} (xs : List ℕ) (p : ℕ) → Room s m → t ≡ textOf (shown s ++ xs) → length xs + p ≤ m → Room t p
+room-then {s} xs p r e h = room-of (shown s ++ xs) p e (omega (arith, length-append (shown s) xs, r .room))
+
 put-filled : (xs : List ℕ) (b : ℕ) → length xs + 1 ≤ 128 → set (filled 128 xs) (length xs) b ≡ filled 128 (xs ++ (b ∷ []))
 unfolding filled
 put-filled xs b h =
@@ -85,9 +94,7 @@ pub word-end : {t : Text} (xs w : List ℕ) (i : ℕ) → length w ≤ i → t �
 word-end xs w i h e = e ∙ ap (λ (l : List ℕ). textOf (xs ++ l)) (take-all i w h)
 
 pub word-room : {t s : Text} (w : List ℕ) (i : ℕ) → i < length w → Room s (length w) → t ≡ textOf (shown s ++ take i w) → Room t 1
-word-room {t} {s} w i h r e =
-    room-of (shown s ++ take i w) 1 e
-    (omega (arith, length-append (shown s) (take i w), length-take-le i w (omega arith), r .room))
+word-room w i h r e = room-then (take i w) 1 r e (omega (arith, length-take-le i w (omega arith)))
 
 -- ---- hex
 
@@ -114,32 +121,24 @@ unfolding hexOf
 hex-one b = refl
 
 module _ {s t : Text} (bs : List ℕ) (i : ℕ) (h : i < length bs) (r : Room s (2 * length bs)) (e : t ≡ textOf (shown s ++ hexOf (take i bs))) where
-  so-far : length (shown s ++ hexOf (take i bs)) + 2 ≤ 128
-  so-far = omega (arith, length-append (shown s) (hexOf (take i bs)), hex-long (take i bs), length-take-le i bs (omega arith), r .room)
+  two-more : Room t 2
+  two-more = room-then (hexOf (take i bs)) 2 r e (omega (arith, hex-long (take i bs), length-take-le i bs (omega arith)))
 
   pub hex-room : Room t 1
-  hex-room = room-of (shown s ++ hexOf (take i bs)) 1 e (omega (arith, so-far))
+  hex-room = room-less 1 two-more (omega arith)
 
   module _ {u : Text} (x : ℕ) (f : u ≡ textOf (shown t ++ (x ∷ []))) where
-    half : u ≡ textOf ((shown s ++ hexOf (take i bs)) ++ (x ∷ []))
-    half = text-more (shown s ++ hexOf (take i bs)) (x ∷ []) e f
-
     pub half-room : Room u 1
-    half-room =
-        room-of ((shown s ++ hexOf (take i bs)) ++ (x ∷ [])) 1 half
-        (omega (arith, so-far, length-append (shown s ++ hexOf (take i bs)) (x ∷ [])))
+    half-room = room-then (x ∷ []) 1 two-more f (omega arith)
 
     pub hex-step : {v : Text} (y : ℕ) → x ≡ hexDigit (getD bs i 0 / 16) → y ≡ hexDigit (getD bs i 0 % 16) → v ≡ textOf (shown u ++ (y ∷ [])) → v ≡ textOf (shown s ++ hexOf (take (i + 1) bs))
     hex-step y p q g =
         let d : x ∷ y ∷ [] ≡ hexOf (getD bs i 0 ∷ []) = ap₂ (λ (m n : ℕ). m ∷ n ∷ []) p q ∙ sym (hex-one (getD bs i 0)) in
-        text-more ((shown s ++ hexOf (take i bs)) ++ (x ∷ [])) (y ∷ []) half g
-        ∙ ap textOf
-        (append-assoc (shown s ++ hexOf (take i bs)) (x ∷ []) (y ∷ [])
-        ∙ append-assoc (shown s) (hexOf (take i bs)) (x ∷ y ∷ [])
-        ∙ ap (λ (l : List ℕ). shown s ++ l)
+        text-then s (hexOf (take i bs)) (x ∷ y ∷ []) e (text-then t (x ∷ []) (y ∷ []) f g)
+        ∙ ap (λ (l : List ℕ). textOf (shown s ++ l))
         (ap (λ (l : List ℕ). hexOf (take i bs) ++ l) d
         ∙ sym (hex-append (take i bs) (getD bs i 0 ∷ []))
-        ∙ ap hexOf (sym (take-suc bs i 0 h) ∙ ap (λ (m : ℕ). take m bs) (sym (add-one i)))))
+        ∙ ap hexOf (sym (take-suc bs i 0 h) ∙ ap (λ (m : ℕ). take m bs) (sym (add-one i))))
 
 pub hex-start : {t : Text} {m : ℕ} → Room t m → t ≡ textOf (shown t ++ hexOf [])
 unfolding hexOf
@@ -148,41 +147,89 @@ hex-start {t} r = r .whole ∙ ap textOf (sym (append-nil (shown t)))
 pub hex-end : {t : Text} (xs bs : List ℕ) (i : ℕ) → length bs ≤ i → t ≡ textOf (xs ++ hexOf (take i bs)) → t ≡ textOf (xs ++ hexOf bs)
 hex-end xs bs i h e = e ∙ ap (λ (l : List ℕ). textOf (xs ++ hexOf l)) (take-all i bs h)
 
--- ---- counts and lines
+-- ---- numbers in decimal
 
 pub decimal-small : (x : ℕ) → x < 10 → decimal x ≡ (48 + x) ∷ []
 unfolding decimal decimalIn
 decimal-small x h = rw (lt-ltb x 10 h)
 
-pub count-room : {s t : Text} (d : ℕ) → Room s 2 → t ≡ textOf (shown s ++ (d ∷ [])) → Room t 1
-count-room {s} d r e = room-of (shown s ++ (d ∷ [])) 1 e (omega (arith, length-append (shown s) (d ∷ []), r .room))
+-- every bound above the number gives the same digits
+decimal-enough : (m p x : ℕ) → x < m → x < p → decimalIn m x ≡ decimalIn p x
+unfolding decimalIn
+decimal-enough zero p x h k = let z : ⊥ = omega arith in absurd z
+decimal-enough (suc m) zero x h k = let z : ⊥ = omega arith in absurd z
+decimal-enough (suc m) (suc p) x h k =
+    elim (decLt x 10) [
+      | yes q ↦ rw (lt-ltb x 10 q)
+      | no q ↦ let l : 10 ≤ x = omega arith in
+          rw (le-ltb x 10 l) (ap (λ (ds : List ℕ). ds ++ ((48 + x % 10) ∷ [])) (decimal-enough m p (x / 10) (omega arith) (omega arith)))
+    ]
 
-pub counted : (s : Text) {t u : Text} (x : ℕ) → x < 10 → t ≡ textOf (shown s ++ ((48 + x) ∷ [])) → u ≡ textOf (shown t ++ (newline ∷ [])) → u ≡ textOf (shown s ++ (decimal x ++ (newline ∷ [])))
-counted s x h e f =
-    text-more (shown s ++ ((48 + x) ∷ [])) (newline ∷ []) e f
-    ∙ ap textOf
-    (append-assoc (shown s) ((48 + x) ∷ []) (newline ∷ [])
-    ∙ ap (λ (l : List ℕ). shown s ++ (l ++ (newline ∷ []))) (sym (decimal-small x h)))
+decimal-more : (x : ℕ) → 10 ≤ x → decimal x ≡ decimal (x / 10) ++ ((48 + x % 10) ∷ [])
+unfolding decimal decimalIn
+decimal-more x h =
+    rw (le-ltb x 10 h)
+    (ap (λ (ds : List ℕ). ds ++ ((48 + x % 10) ∷ [])) (decimal-enough x (suc (x / 10)) (x / 10) (omega arith) (omega arith)))
 
-pub route-hex : {s t : Text} (bs : List ℕ) → Room s 19 → length bs ≡ 8 → t ≡ textOf (shown s ++ hexOf bs) → Room t 1
-route-hex {s} bs r h e = room-of (shown s ++ hexOf bs) 1 e (omega (arith, length-append (shown s) (hexOf bs), hex-long bs, r .room))
+-- how many digits there are
+decimal-long : (x : ℕ) → 10 ≤ x → length (decimal x) ≡ suc (length (decimal (x / 10)))
+decimal-long x h = omega (arith, ap length (decimal-more x h), length-append (decimal (x / 10)) ((48 + x % 10) ∷ []))
 
-module _ {s t u : Text} (bs : List ℕ) (r : Room s 19) (h : length bs ≡ 8) (e : t ≡ textOf (shown s ++ hexOf bs)) (f : u ≡ textOf (shown t ++ (space ∷ []))) where
-  gap : u ≡ textOf ((shown s ++ hexOf bs) ++ (space ∷ []))
-  gap = text-more (shown s ++ hexOf bs) (space ∷ []) e f
+decimal-next : (x y m : ℕ) → x < 10 * y → (x / 10 < y → length (decimal (x / 10)) ≤ suc m) → length (decimal x) ≤ suc (suc m)
+decimal-next x y m h f =
+    elim (decLt x 10) [
+      | yes q ↦ omega (arith, ap length (decimal-small x q))
+      | no q ↦ omega (arith, decimal-long x (omega arith), f (omega arith))
+    ]
 
-  pub route-room : Room u 2
-  route-room =
-      room-of ((shown s ++ hexOf bs) ++ (space ∷ [])) 2 gap
-      (omega (arith, length-append (shown s ++ hexOf bs) (space ∷ []), length-append (shown s) (hexOf bs), hex-long bs, r .room))
+pub decimal-two : (x : ℕ) → x < 100 → length (decimal x) ≤ 2
+decimal-two x h = decimal-next x 10 0 h (λ k. omega (arith, ap length (decimal-small (x / 10) k)))
 
-  pub routed : {v : Text} (x : ℕ) → v ≡ textOf (shown u ++ (decimal x ++ (newline ∷ []))) → v ≡ textOf (shown s ++ routeLine bs x)
-  unfolding routeLine
-  routed x g =
-      text-more ((shown s ++ hexOf bs) ++ (space ∷ [])) (decimal x ++ (newline ∷ [])) gap g
-      ∙ ap textOf
-      (append-assoc (shown s ++ hexOf bs) (space ∷ []) (decimal x ++ (newline ∷ []))
-      ∙ append-assoc (shown s) (hexOf bs) (space ∷ decimal x ++ (newline ∷ [])))
+pub decimal-four : (x : ℕ) → x < 10000 → length (decimal x) ≤ 4
+decimal-four x h =
+    decimal-next x 1000 2 h (λ k. decimal-next (x / 10) 100 1 k (λ l. decimal-two (x / 10 / 10) l))
+
+-- as the program writes them: the last digit behind the others
+module _ {s : Text} (x : ℕ) (r : Room s (length (decimal x))) where
+  module _ (h : x < 10) where
+    pub digit-room : Room s 1
+    digit-room = room-less 1 r (omega (arith, ap length (decimal-small x h)))
+
+    pub digit-made : {u : Text} → u ≡ textOf (shown s ++ ((48 + x) ∷ [])) → u ≡ textOf (shown s ++ decimal x)
+    digit-made e = e ∙ ap (λ (ds : List ℕ). textOf (shown s ++ ds)) (sym (decimal-small x h))
+
+  module _ (h : 10 ≤ x) where
+    pub high-room : Room s (length (decimal (x / 10)))
+    high-room = room-less (length (decimal (x / 10))) r (omega (arith, decimal-long x h))
+
+    module _ {t : Text} (e : t ≡ textOf (shown s ++ decimal (x / 10))) where
+      pub last-room : Room t 1
+      last-room = room-then (decimal (x / 10)) 1 r e (omega (arith, decimal-long x h))
+
+      pub last-made : {u : Text} → u ≡ textOf (shown t ++ ((48 + x % 10) ∷ [])) → u ≡ textOf (shown s ++ decimal x)
+      last-made f =
+          text-then s (decimal (x / 10)) ((48 + x % 10) ∷ []) e f
+          ∙ ap (λ (ds : List ℕ). textOf (shown s ++ ds)) (sym (decimal-more x h))
+
+-- ---- counts and lines
+
+pub count-room : {s t : Text} (x : ℕ) → Room s (suc (length (decimal x))) → t ≡ textOf (shown s ++ decimal x) → Room t 1
+count-room x r e = room-then (decimal x) 1 r e (omega arith)
+
+module _ {s : Text} (bs : List ℕ) (r : Room s 19) (h : length bs ≡ 8) {t : Text} (e : t ≡ textOf (shown s ++ hexOf bs)) where
+  three-more : Room t 3
+  three-more = room-then (hexOf bs) 3 r e (omega (arith, hex-long bs))
+
+  pub route-hex : Room t 1
+  route-hex = room-less 1 three-more (omega arith)
+
+  module _ {u : Text} (f : u ≡ textOf (shown t ++ (space ∷ []))) where
+    pub route-room : (x : ℕ) → x < 10 → Room u (suc (length (decimal x)))
+    route-room x l = room-then (space ∷ []) (suc (length (decimal x))) three-more f (omega (arith, ap length (decimal-small x l)))
+
+    pub routed : {v : Text} (x : ℕ) → v ≡ textOf (shown u ++ (decimal x ++ (newline ∷ []))) → v ≡ textOf (shown s ++ routeLine bs x)
+    unfolding routeLine
+    routed x g = text-then s (hexOf bs) (space ∷ decimal x ++ (newline ∷ [])) e (text-then t (space ∷ []) (decimal x ++ (newline ∷ [])) f g)
 
 -- ---- whole lines
 
@@ -196,8 +243,8 @@ first-word w e f = text-more [] w e f
 abbrev pub refusedWord : List ℕ
 refusedWord = 114 ∷ 101 ∷ 102 ∷ 117 ∷ 115 ∷ 101 ∷ 100 ∷ space ∷ []
 
-pub refused-room : {t : Text} → t ≡ textOf refusedWord → Room t 2
-refused-room e = room-of refusedWord 2 e (omega arith)
+pub refused-room : {t : Text} (r : ℕ) → r < 100 → t ≡ textOf refusedWord → Room t (suc (length (decimal r)))
+refused-room r h e = room-of refusedWord (suc (length (decimal r))) e (omega (arith, decimal-two r h))
 
 pub refused-made : {t u : Text} (r : ℕ) → t ≡ textOf refusedWord → u ≡ textOf (shown t ++ (decimal r ++ (newline ∷ []))) → u ≡ textOf (refusedLine r)
 unfolding refusedLine

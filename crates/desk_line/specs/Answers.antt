@@ -1,4 +1,4 @@
--- The whole answer to an input.
+-- What the desk prints for an input (rule 9.2).
 use Prim.Native.Nat.{ℕ, suc}
 use mathlib.Core.List.{List, map}
 use mathlib.Core.Bool.{cond}

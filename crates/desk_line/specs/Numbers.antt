@@ -1,11 +1,14 @@
--- The four numbers of a line.
-use Prim.Native.Nat.{ℕ, _+_, _-_, _*_}
-use mathlib.Core.List.{List, [], _∷_}
+-- The numbers of a line.
+use Prim.Native.Nat.{ℕ, zero, suc, _+_, _-_, _*_}
+use mathlib.Core.List.{List, [], _∷_, map}
 use mathlib.Core.Bool.{Bool, true, false, cond, _&&_}
 use lib.Dec.{ltb, leb}
-use lib.ListN.{length}
+use lib.ListN.{length, getD, replicate}
+use Rattle.lists.specs.Lists.{filled}
 use Rattle.desk_line.specs.declared.Word.{Word}
+use Rattle.desk_line.specs.declared.Words.{Words}
 use Rattle.desk_line.specs.declared.Question.{Question}
+use Rattle.desk_line.specs.declared.TreeQuestion.{TreeQuestion}
 use Rattle.desk_line.specs.Lines.{newline, space, before, after, lineSize}
 
 -- whether every byte is a decimal digit
@@ -30,26 +33,51 @@ unfoldable pub wordOf : List ℕ → Word
 wordOf w =
     cond (ltb 0 (length w) && digitsOnly w && leb (valueFrom 0 w) 65535) (aWord (valueFrom 0 w)) noWord
 
--- ---- a line: four numbers with single spaces, and nothing else
+-- ---- a line: numbers with single spaces, and nothing else
 
-abbrev pub noQuestion : Question
-noQuestion = record { taken = false; n = 0; k = 0; source = 0; destination = 0 }
+-- the words of a line that has m spaces: those before each, and all that follows the last
+unfoldable pub wordsOf : ℕ → List ℕ → List Word
+wordsOf zero line = wordOf line ∷ []
+wordsOf (suc m) line = wordOf (before space line) ∷ wordsOf m (after space line)
 
--- the question of four words, where each is a number
-abbrev pub asked : Word → Word → Word → Word → Question
-asked n k a d =
-    cond (n .number && k .number && a .number && d .number)
-    (record { taken = true; n = n .value; k = k .value; source = a .value; destination = d .value })
-    noQuestion
+-- whether each word is a number
+unfoldable pub allNumbers : List Word → Bool
+allNumbers [] = true
+allNumbers (w ∷ ws) = w .number && allNumbers ws
 
--- the words before the first, second and third space, and all that follows the third
-unfoldable pub parse : List ℕ → Question
-parse line =
-    let second = after space line in
-    let third = after space second in
-    let last = after space third in
-    asked (wordOf (before space line)) (wordOf (before space second)) (wordOf (before space third)) (wordOf last)
+-- words that are not all numbers
+abbrev pub noNumbers : Words
+noNumbers = record { numbers = false; values = replicate 5 0 }
 
--- what an input asks: its first line, of at most 64 bytes, read without its newline; what follows is ignored
+-- the numbers of these words, where each is one
+unfoldable pub numbersBy : List Word → Words
+numbersBy ws = cond (allNumbers ws) (record { numbers = true; values = filled 5 (map (λ w. w .value) ws) }) noNumbers
+
+-- the numbers of a line that has m spaces
+unfoldable pub numbersOf : ℕ → List ℕ → Words
+numbersOf m line = numbersBy (wordsOf m line)
+
+-- those of the first line of an input, of at most 64 bytes, read without its newline; what follows is ignored
+unfoldable pub numbersIn : ℕ → List ℕ → Words
+numbersIn m input = cond (leb (lineSize input) 64) (numbersOf m (before newline input)) noNumbers
+
+-- ---- what an input asks
+
+-- number i of a line
+abbrev pub valueAt : Words → ℕ → ℕ
+valueAt r i = getD (r .values) i 0
+
+-- of the desk: n, k, source and destination
+abbrev pub questionBy : Words → Question
+questionBy r = record { taken = r .numbers; n = valueAt r 0; k = valueAt r 1; source = valueAt r 2; destination = valueAt r 3 }
+
 unfoldable pub questionOf : List ℕ → Question
-questionOf input = cond (leb (lineSize input) 64) (parse (before newline input)) noQuestion
+questionOf input = questionBy (numbersIn 3 input)
+
+-- of `tree`: n, k, m, source and tree
+abbrev pub treeQuestionBy : Words → TreeQuestion
+treeQuestionBy r =
+    record { taken = r .numbers; n = valueAt r 0; k = valueAt r 1; m = valueAt r 2; source = valueAt r 3; tree = valueAt r 4 }
+
+unfoldable pub treeQuestionOf : List ℕ → TreeQuestion
+treeQuestionOf input = treeQuestionBy (numbersIn 4 input)

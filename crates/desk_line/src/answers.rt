@@ -54,9 +54,8 @@ fn routes_text(shape: Shape, source: usize, destination: usize, routes: RouteSet
     text
 }
 
-// The built routes of two servers of a full room, or why there are none.
+// The built routes of two servers, or why there are none.
 fn built_text(shape: Shape, source: usize, destination: usize) -> Text
-    requires { ⌜ shape .m ≡ shape .n ⌝ }
     ensures { λ r. ⌜ r ≡ textOf (builtText shape source destination) ⌝ }
 {
     let built = build_routes(shape, source, destination);

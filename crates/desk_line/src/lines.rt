@@ -3,7 +3,7 @@ ghost use mathlib.Core.Path.{_≡_};
 ghost use lib.Dec.{leb};
 ghost use lib.ListN.{length};
 ghost use Rattle.desk_line.specs.Lines.{before, after, lineSize};
-use crate::Question;
+use crate::Words;
 
 // How many bytes stand before the first that is `stop`; all of them where none is.
 fn length_before(text: &[u8], stop: u8) -> usize
@@ -45,7 +45,7 @@ pub(crate) fn line_fits(input: &[u8]) -> bool
 {
     let end = length_before(input, b'\n');
     if end < input.len() {
-        return end + 1 <= Question::MOST_LINE;
+        return end + 1 <= Words::MOST_LINE;
     }
-    end <= Question::MOST_LINE
+    end <= Words::MOST_LINE
 }

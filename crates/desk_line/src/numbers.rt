@@ -1,12 +1,16 @@
-// The four numbers of a line.
+// The numbers of a line.
 ghost use mathlib.Core.Path.{_≡_};
-ghost use Rattle.desk_line.specs.Numbers.{noWord, wordOf, noQuestion, asked, parse, questionOf};
+ghost use Prim.Native.Nat.{_<_};
+ghost use Rattle.desk_line.specs.Numbers.{noWord, wordOf, noNumbers, numbersOf, numbersIn, questionOf, treeQuestionOf};
 use crate::Question;
+use crate::TreeQuestion;
 use crate::Word;
+use crate::Words;
 use crate::lines::line_fits;
 use crate::lines::part_after;
 use crate::lines::part_before;
 
+// A word that is no number.
 fn no_word() -> Word
     ensures { λ r. ⌜ r ≡ noWord ⌝ }
 {
@@ -34,7 +38,7 @@ fn number_of(word: &[u8]) -> Word
             return no_word();
         }
         value = 10 * value + (byte - b'0') as usize;
-        if Question::MOST_NUMBER < value {
+        if Words::MOST_NUMBER < value {
             return no_word();
         }
         i += 1;
@@ -45,63 +49,81 @@ fn number_of(word: &[u8]) -> Word
     }
 }
 
-fn no_question() -> Question
-    ensures { λ r. ⌜ r ≡ noQuestion ⌝ }
+// Words that are not all numbers.
+fn no_numbers() -> Words
+    ensures { λ r. ⌜ r ≡ noNumbers ⌝ }
 {
-    Question {
-        taken: false,
-        n: 0,
-        k: 0,
-        source: 0,
-        destination: 0,
+    Words {
+        numbers: false,
+        values: [0; 5],
     }
 }
 
-// Four words that are all numbers.
-fn question(n: Word, k: Word, source: Word, destination: Word) -> Question
-    ensures { λ r. ⌜ r ≡ asked n k source destination ⌝ }
+// The numbers of a line without its newline that has so many spaces: one before each, and one behind the last.
+fn numbers_of(line: &[u8], spaces: usize) -> Words
+    requires { ⌜ spaces < 5 ⌝ }
+    ensures { λ r. ⌜ r ≡ numbersOf spaces (now (line .entry)) ⌝ }
 {
-    if !n.number {
-        return no_question();
+    let mut values: [usize; 5] = [0; 5];
+    let mut rest = line;
+    let mut place: usize = 0;
+    while place < spaces {
+        let word = number_of(part_before(rest, b' '));
+        if !word.number {
+            return no_numbers();
+        }
+        values[place] = word.value;
+        let next = part_after(rest, b' ');
+        rest = next;
+        place += 1;
     }
-    if !k.number {
-        return no_question();
+    let last = number_of(rest);
+    if !last.number {
+        return no_numbers();
     }
-    if !source.number {
-        return no_question();
-    }
-    if !destination.number {
-        return no_question();
-    }
-    Question {
-        taken: true,
-        n: n.value,
-        k: k.value,
-        source: source.value,
-        destination: destination.value,
+    values[place] = last.value;
+    Words {
+        numbers: true,
+        values,
     }
 }
 
-// The four numbers of a line without its newline.
-fn numbers_of(line: &[u8]) -> Question
-    ensures { λ r. ⌜ r ≡ parse (now (line .entry)) ⌝ }
+// The numbers of the first line of an input, where it has so many spaces.
+fn numbers_in(input: &[u8], spaces: usize) -> Words
+    requires { ⌜ spaces < 5 ⌝ }
+    ensures { λ r. ⌜ r ≡ numbersIn spaces (now (input .entry)) ⌝ }
 {
-    let second = part_after(line, b' ');
-    let third = part_after(second, b' ');
-    let last = part_after(third, b' ');
-    let n = number_of(part_before(line, b' '));
-    let k = number_of(part_before(second, b' '));
-    let source = number_of(part_before(third, b' '));
-    let destination = number_of(last);
-    question(n, k, source, destination)
+    if line_fits(input) {
+        return numbers_of(part_before(input, b'\n'), spaces);
+    }
+    no_numbers()
 }
 
-// The four numbers of the first line of an input.
+// The four numbers of the desk's line: n, k, source and destination.
 pub fn question_of(input: &[u8]) -> Question
     ensures { λ r. ⌜ r ≡ questionOf (now (input .entry)) ⌝ }
 {
-    if line_fits(input) {
-        return numbers_of(part_before(input, b'\n'));
+    let read = numbers_in(input, 3);
+    Question {
+        taken: read.numbers,
+        n: read.values[0],
+        k: read.values[1],
+        source: read.values[2],
+        destination: read.values[3],
     }
-    no_question()
+}
+
+// The five numbers of the line of `tree`: n, k, m, source and tree.
+pub fn tree_question_of(input: &[u8]) -> TreeQuestion
+    ensures { λ r. ⌜ r ≡ treeQuestionOf (now (input .entry)) ⌝ }
+{
+    let read = numbers_in(input, 4);
+    TreeQuestion {
+        taken: read.numbers,
+        n: read.values[0],
+        k: read.values[1],
+        m: read.values[2],
+        source: read.values[3],
+        tree: read.values[4],
+    }
 }

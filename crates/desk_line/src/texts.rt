@@ -1,7 +1,7 @@
 // A text made longer, byte after byte.
 ghost use mathlib.Core.Path.{_≡_};
 ghost use mathlib.Core.List.{[], _∷_, _++_};
-ghost use Prim.Native.Nat.{_*_, _<_};
+ghost use Prim.Native.Nat.{suc, _*_, _<_};
 ghost use lib.ListN.{length};
 ghost use Rattle.desk_line.specs.Texts.{hexDigit, hexOf, decimal, inputLine, refusedLine, routeLine, textOf, shown, Room};
 use crate::Text;
@@ -16,7 +16,8 @@ pub(crate) fn no_text() -> Text
     }
 }
 
-fn with_byte(text: Text, byte: u8) -> Text
+// The text with a byte after it.
+pub(crate) fn with_byte(text: Text, byte: u8) -> Text
     requires { ⌜ Room text 1 ⌝ }
     ensures { λ r. ⌜ r ≡ textOf (shown text ++ (byte ∷ [])) ⌝ }
 {
@@ -30,7 +31,7 @@ fn with_byte(text: Text, byte: u8) -> Text
 }
 
 // The text with all bytes of a word after it.
-fn with_word(text: Text, word: &[u8]) -> Text
+pub(crate) fn with_word(text: Text, word: &[u8]) -> Text
     requires { ⌜ Room text (length (now word)) ⌝ }
     ensures { λ r. ⌜ r ≡ textOf (shown text ++ now (word .entry)) ⌝ }
 {
@@ -72,13 +73,25 @@ fn with_hex(text: Text, bytes: &[u8]) -> Text
     longer
 }
 
-// The text with a number below 10 and a newline after it.
+// The text with a number in decimal after it.
+pub(crate) fn with_decimal(text: Text, number: usize) -> Text
+    requires { ⌜ Room text (length (decimal number)) ⌝ }
+    ensures { λ r. ⌜ r ≡ textOf (shown text ++ decimal number) ⌝ }
+{
+    if number < 10 {
+        return with_byte(text, b'0' + number as u8);
+    }
+    let high = with_decimal(text, number / 10);
+    with_byte(high, b'0' + (number % 10) as u8)
+}
+
+// The text with a number in decimal and a newline after it.
 fn with_count(text: Text, count: usize) -> Text
-    requires { ⌜ Room text 2 × (count < 10) ⌝ }
+    requires { ⌜ Room text (suc (length (decimal count))) ⌝ }
     ensures { λ r. ⌜ r ≡ textOf (shown text ++ (decimal count ++ (10 ∷ []))) ⌝ }
 {
-    let digit = with_byte(text, b'0' + count as u8);
-    with_byte(digit, b'\n')
+    let number = with_decimal(text, count);
+    with_byte(number, b'\n')
 }
 
 // "input" and a newline.
@@ -88,9 +101,9 @@ pub(crate) fn input_text() -> Text
     with_word(no_text(), b"input\n")
 }
 
-// "refused ", a number below 10 and a newline.
+// "refused ", a number below 100 and a newline.
 pub(crate) fn refused_text(number: usize) -> Text
-    requires { ⌜ number < 10 ⌝ }
+    requires { ⌜ number < 100 ⌝ }
     ensures { λ r. ⌜ r ≡ textOf (refusedLine number) ⌝ }
 {
     let word = with_word(no_text(), b"refused ");

@@ -2,6 +2,7 @@ pub mod WordLaws
 pub mod CallLaws
 pub mod ShapeLaws
 pub mod RoomSmall
+pub mod TreeSmall
 pub mod SummarySmall
 pub mod PathSmall
 pub mod RouteSmall

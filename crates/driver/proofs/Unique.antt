@@ -78,6 +78,10 @@ use Rattle.driver.proofs.picks.bcube_pick.Reads as bcube-pick
 use Rattle.driver.proofs.picks.bcube_pick.Kinds as bcube-pick-kinds
 use Rattle.driver.proofs.steps.bcube_step.Reads as bcube-step
 use Rattle.driver.proofs.steps.bcube_step.Kinds as bcube-step-kinds
+use Rattle.driver.proofs.parents.bcube_parent.Reads as bcube-parent
+use Rattle.driver.proofs.parents.bcube_parent.Kinds as bcube-parent-kinds
+use Rattle.driver.proofs.parents.bcube_tree.Reads as bcube-tree
+use Rattle.driver.proofs.parents.bcube_tree.Kinds as bcube-tree-kinds
 use Rattle.driver.proofs.shapes.bcube_room_of.Reads as bcube-room-of
 use Rattle.driver.proofs.shapes.bcube_room_of.Kinds as bcube-room-of-kinds
 use Rattle.driver.proofs.shapes.bcube_filled_room.Reads as bcube-filled-room
@@ -264,3 +268,15 @@ bcube-pick-unique κs a x y s t e f = e ∙ sym f
 
 pub bcube-step-unique : Determined 2 bcube-step-kinds.ps bcube-step-kinds.r bcube-step.Post
 bcube-step-unique κs a x y s t e f = e ∙ sym f
+
+-- ---- spanning trees
+
+pub bcube-parent-unique : Determined 0 bcube-parent-kinds.ps bcube-parent-kinds.r bcube-parent.Post
+bcube-parent-unique κs a x y s t e f = e ∙ sym f
+
+pub bcube-tree-unique : Determined 1 bcube-tree-kinds.ps bcube-tree-kinds.r bcube-tree.Post
+bcube-tree-unique κs a x y s t e f = e .0 ∙ sym (f .0)
+
+-- the numbers of `parents` at exit, its fourth parameter
+pub bcube-tree-leaves : Leaves 1 bcube-tree-kinds.ps bcube-tree-kinds.r bcube-tree.Post (λ κs s. now (s .1 .1 .1 .0))
+bcube-tree-leaves κs a x y s t e f = e .1 ∙ sym (f .1)

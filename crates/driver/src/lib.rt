@@ -4,6 +4,8 @@
 // it was lent.
 // marks.rt: the failed-link table, marked and cleared with its summary
 mod marks;
+// parents.rt: the parent of a server in a spanning tree, and a tree whole
+mod parents;
 // paths.rt: one hop; path bytes read, written and reversed; lists checked
 mod paths;
 // picks.rt: picking a usable route
@@ -26,6 +28,8 @@ pub use marks::bcube_clear_all;
 pub use marks::bcube_failed_link;
 pub use marks::bcube_mark;
 pub use marks::bcube_mark_all;
+pub use parents::bcube_parent;
+pub use parents::bcube_tree;
 pub use paths::bcube_check;
 pub use paths::bcube_hop_of;
 pub use paths::bcube_path_byte;

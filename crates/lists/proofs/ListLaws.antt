@@ -1,4 +1,4 @@
--- Laws of lists: one place at a time, what is in them, what stands in them once or in two of them, elements in turn, the middle, and lists in a
+-- Laws of lists: one place at a time, elements in order, what is in them, what stands in them once or in two of them, elements in turn, the middle, and lists in a
 -- fixed number of places.
 use Prim.Native.Nat.{ℕ, zero, suc, _+_, _-_, _≤_, _<_, zero-le, suc-le-suc}
 use mathlib.Core.Path.{_≡_, refl, sym, ap, ap₂, _∙_}
@@ -13,7 +13,7 @@ use lib.ListN.{length, getD, set, take, drop, replicate, length-append, length-d
 use lib.Seq.{ext-getD, getD-append-seam, getD-append-add, getD-take, getD-drop, take-append-seam, length-take-le, take-suc-set, drop-cons, drop-drop, drop-set-lt}
 use lib.Dec.{eqb}
 use borrow.Author.Tests.{eq-eqb, ne-eqb, eqb-true}
-use Rattle.lists.specs.Lists.{isIn, same, Once, Apart, inTurn, middle, filled, downFrom}
+use Rattle.lists.specs.Lists.{isIn, same, Once, Apart, inTurn, middle, filled, downFrom, inOrder}
 
 -- ---- one place at a time
 
@@ -45,6 +45,29 @@ pub map-at : {A B : Type 0} (f : A → B) (x : A) (y : B) (xs : List A) (i : ℕ
 map-at f x y [] i h = let z : ⊥ = omega arith in absurd z
 map-at f x y (z ∷ zs) zero h = refl
 map-at f x y (z ∷ zs) (suc i) h = map-at f x y zs i (le-of-suc-le-suc h)
+
+-- ---- in order
+
+module _ {A : Type 0} where
+  pub order-long : (f : ℕ → A) (m : ℕ) → length (inOrder f m) ≡ m
+  unfolding inOrder
+  order-long f zero = refl
+  order-long f (suc m) = length-snoc (inOrder f m) (f m) ∙ ap suc (order-long f m)
+
+  pub order-at : (f : ℕ → A) (z : A) (m i : ℕ) → i < m → getD (inOrder f m) i z ≡ f i
+  unfolding inOrder
+  order-at f z zero i h = let n : ⊥ = omega arith in absurd n
+  order-at f z (suc m) i h =
+      elim (ℕ-discrete i m) [
+        | yes e ↦ rw e (ap (λ (j : ℕ). getD (inOrder f m ++ (f m ∷ [])) j z) (sym (order-long f m)) ∙ getD-append-seam (inOrder f m) (f m) [] z)
+        | no e ↦ List·getD-append (inOrder f m) (f m ∷ []) z i (omega (arith, order-long f m)) ∙ order-at f z m i (omega arith)
+      ]
+
+  pub order-same : (f g : ℕ → A) (m : ℕ) → ((i : ℕ) → i < m → f i ≡ g i) → inOrder f m ≡ inOrder g m
+  unfolding inOrder
+  order-same f g zero h = refl
+  order-same f g (suc m) h =
+      ap₂ (λ (xs : List A) (x : A). xs ++ (x ∷ [])) (order-same f g m (λ i p. h i (omega arith))) (h m (omega arith))
 
 -- ---- downwards
 

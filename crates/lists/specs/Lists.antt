@@ -53,3 +53,8 @@ filled m xs = xs ++ replicate (m - length xs) 0
 abbrev pub downFrom : ℕ → List ℕ
 downFrom zero = []
 downFrom (suc m) = m ∷ downFrom m
+
+-- f 0, .. , f (m-1)
+unfoldable pub inOrder : {A : Type 0} → (ℕ → A) → ℕ → List A
+inOrder f zero = []
+inOrder f (suc m) = inOrder f m ++ (f m ∷ [])

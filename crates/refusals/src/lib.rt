@@ -27,7 +27,7 @@ impl Refusal {
     // An address is not below the number of servers.
     pub const ADDRESS: usize = 4;
 
-    // Source and destination are the same server.
+    // Source and destination are the same server, or the source is the server whose parent is asked for.
     pub const SAME_ENDS: usize = 5;
 
     // The failed-link table has not a byte for each server, or a bit above k is set.
@@ -71,7 +71,7 @@ impl Refusal {
     // The next neighbour is not available.
     pub const UNAVAILABLE: usize = 19;
 
-    // A level is above k.
+    // A level is above k, or a tree is.
     pub const LEVEL: usize = 20;
 
     // A digit is not below its bound, or a place above k is not zero.

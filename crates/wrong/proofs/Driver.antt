@@ -22,6 +22,8 @@ use Rattle.links.specs.Table as links
 use Rattle.links.specs.Table.{roomRefusal}
 use Rattle.links.specs.Answers.{failedAnswer}
 use Rattle.links.proofs.TableLaws.{dead-to}
+use Rattle.trees.specs.Trees.{levelAt, lastApart, loweredAt, hangsAt, lowered, parentOf}
+use Rattle.trees.specs.Answers.{parentRefusal, parentAnswer, treeAnswer}
 use Rattle.summary.specs.Counts.{numbered, switchesBelow, switchesIn as switchesInRoom, placeOf, countBelow, countAt, summaryOf, isDead, recounted, recountedBelow}
 use Rattle.summary.specs.Refusals.{hasEntries, isCounted, areCounted, countedLinkRefusal, countedServerRefusal, summaryRefusal, entriesRefusal}
 use Rattle.summary.specs.Answers.{linkAnswer, linkTable, linkSummary, allBits, changedServer, serverAnswer, serverTable, serverSummary, firstDead, deadAnswer, freshAnswer, freshSummary}
@@ -61,6 +63,7 @@ use Rattle.wrong.proofs.Routes.{Walks, walks}
 use Rattle.wrong.proofs.Finder.{no-route, beaten, fewest, no-refusal, some-hops}
 use Rattle.wrong.proofs.Select.{straight, first-walks, one-route, slot-1-first}
 use Rattle.wrong.proofs.Step.{nothing-left}
+use Rattle.wrong.proofs.Trees.{rows, held-number}
 
 -- the whole word of an answer
 abbrev said : Answer → ℕ
@@ -188,7 +191,7 @@ no-back c a d i bs es {y} h p o f =
 -- ---- all of them
 
 pub wrong-driver : (o q b : Loan) → Driver o q b
-unfolding serversOf bound digitsOf addressOf filled differFrom digits digit withDigit switchOf differing _or-else_ shapeRefusal levelRefusal serverRefusal pairRefusal linkRefusal valueRefusal placeBound placesFit placesRefusal serversAnswer boundAnswer digitsAnswer digitAnswer addressAnswer switchAnswer neighbourAnswer betweenAnswer links.bit links.failed links.live links.withBit links.changed links.bitsFit links.fitsLevels links.tableRefusal links.roomTableRefusal links.tableLinkRefusal links.tableServerRefusal failedAnswer numbered switchesBelow switchesInRoom placeOf countBelow countAt summaryOf isDead recounted recountedBelow hasEntries isCounted areCounted countedLinkRefusal countedServerRefusal summaryRefusal entriesRefusal linkAnswer linkTable linkSummary allBits changedServer serverAnswer serverTable serverSummary firstDead deadAnswer freshAnswer freshSummary same isIn firstWhere placeIn inTurn middle byteOf switchAt levelTo switchTo byteTo encode hopTo hopRefusal again earlierOf fault ended walkFrom walk writeFault writeFrom endsRefusal hopFrom hopAnswer arrayRefusal walkAnswer readAnswer reverseAnswer serversRefusal writeRefusal onTheWay writeAnswer arrays disjoint switchesIn between parallel sameAt meets metAt meetsFirst meeting firstStop firstMeeting firstOf firstPair roomRefusal listRefusal walksOf checkAnswer plusOne builtHops builtBytesOf builtBytes builtArrays joined setOf arrayIn buildAnswer hopBytes usable firstUsable firstUsableIn found fits listsRefusal pickSource pickRefusal placeAnswer entry macAt portAt flagAt givenRefusal byteRefusal awayRefusal stepRefusal atHop withPlace stepAnswer switchesAt serverAt portRefusal switchesAnswer serverAtAnswer madeRefusal byteAnswer partsRefusal partsAnswer held roomOf shapeIn word refusalIn valueIn betweenWord askedWord deadWord bytesNumber macNumber stepWord packed
+unfolding serversOf bound digitsOf addressOf filled differFrom digits digit withDigit switchOf differing _or-else_ shapeRefusal levelRefusal serverRefusal pairRefusal linkRefusal valueRefusal placeBound placesFit placesRefusal serversAnswer boundAnswer digitsAnswer digitAnswer addressAnswer switchAnswer neighbourAnswer betweenAnswer links.bit links.failed links.live links.withBit links.changed links.bitsFit links.fitsLevels links.tableRefusal links.roomTableRefusal links.tableLinkRefusal links.tableServerRefusal failedAnswer numbered switchesBelow switchesInRoom placeOf countBelow countAt summaryOf isDead recounted recountedBelow hasEntries isCounted areCounted countedLinkRefusal countedServerRefusal summaryRefusal entriesRefusal linkAnswer linkTable linkSummary allBits changedServer serverAnswer serverTable serverSummary firstDead deadAnswer freshAnswer freshSummary same isIn firstWhere placeIn inTurn middle byteOf switchAt levelTo switchTo byteTo encode hopTo hopRefusal again earlierOf fault ended walkFrom walk writeFault writeFrom endsRefusal hopFrom hopAnswer arrayRefusal walkAnswer readAnswer reverseAnswer serversRefusal writeRefusal onTheWay writeAnswer arrays disjoint switchesIn between parallel sameAt meets metAt meetsFirst meeting firstStop firstMeeting firstOf firstPair roomRefusal listRefusal walksOf checkAnswer plusOne builtHops builtBytesOf builtBytes builtArrays joined setOf arrayIn buildAnswer hopBytes usable firstUsable firstUsableIn found fits listsRefusal pickSource pickRefusal placeAnswer entry macAt portAt flagAt givenRefusal byteRefusal awayRefusal stepRefusal atHop withPlace stepAnswer switchesAt serverAt portRefusal switchesAnswer serverAtAnswer madeRefusal byteAnswer partsRefusal partsAnswer levelAt lastApart loweredAt hangsAt lowered parentOf parentRefusal parentAnswer treeAnswer held roomOf shapeIn word refusalIn valueIn betweenWord askedWord deadWord bytesNumber macNumber stepWord packed
 wrong-driver o q b =
     record {
       version-in-bytes = clash (λ y. y) refl;
@@ -562,4 +565,17 @@ wrong-driver o q b =
       step-back-with-10 = clash (λ (y : Stepped). y .word) refl;
       step-any-back-at-delivery = λ c a d i bs es y h t f κ x p. no-back c a d i bs es h p (inl t) f;
       step-any-back-on-refusal = λ c a d i bs es y h n f κ x p. no-back c a d i bs es h p (inr n) f;
+      parent-value-low = clash said refl;
+      parent-source-cut = clash said refl;
+      parent-tree-cut = clash said refl;
+      parent-server-cut = clash said refl;
+      parent-number-as-value = clash said refl;
+      parent-with-level = clash said refl;
+      parent-tree-as-route = clash said refl;
+      tree-value-low = λ κ x p. differ said refl (p .0);
+      tree-source-cut = λ κ x p. differ said refl (p .0);
+      tree-tree-cut = λ κ x p. differ said refl (p .0);
+      tree-number-as-value = λ κ x p. differ said refl (p .0);
+      tree-in-bytes = λ κ r x p. tells (λ y. y) refl (held-number (rows .root) (stale 4096) (p .1));
+      tree-bytes-turned-round = λ κ r x p. tells (λ y. y) refl (held-number (rows .both) (stale 4096) (p .1));
     }

@@ -25,6 +25,8 @@ use Rattle.links.specs.declared.Asked.{Asked}
 use Rattle.links.specs.Table as links
 use Rattle.links.specs.Table.{roomRefusal}
 use Rattle.links.specs.Answers.{failedAnswer}
+use Rattle.trees.specs.Trees.{levelAt, lastApart, loweredAt, hangsAt, lowered, parentOf}
+use Rattle.trees.specs.Answers.{parentRefusal, parentAnswer, treeAnswer}
 use Rattle.summary.specs.declared.DeadSwitch.{DeadSwitch}
 use Rattle.summary.specs.Refusals.{countedLinkRefusal, countedServerRefusal, summaryRefusal, entriesRefusal}
 use Rattle.summary.specs.Answers.{linkAnswer, serverAnswer, deadAnswer, freshAnswer}
@@ -100,7 +102,7 @@ abbrev said : Answer → ℕ
 said y = refusalIn y .number
 
 pub wrong-fill : (o q b : Loan) → Fill o q b
-unfolding serversOf bound digitsOf addressOf filled differFrom digits digit withDigit switchOf differing _or-else_ shapeRefusal levelRefusal serverRefusal pairRefusal linkRefusal valueRefusal placeBound placesFit placesRefusal serversAnswer boundAnswer digitsAnswer digitAnswer addressAnswer switchAnswer neighbourAnswer betweenAnswer links.bit links.failed links.live links.tableRefusal links.tableLinkRefusal links.tableServerRefusal links.roomTableRefusal failedAnswer countedLinkRefusal countedServerRefusal summaryRefusal entriesRefusal linkAnswer serverAnswer deadAnswer freshAnswer isIn byteOf hopTo hopRefusal again fault ended walkFrom walk writeFault writeFrom endsRefusal hopFrom hopAnswer arrayRefusal walkAnswer readAnswer reverseAnswer serversRefusal writeRefusal onTheWay writeAnswer roomRefusal listRefusal checkAnswer builtArrays setOf buildAnswer listsRefusal pickSource pickRefusal placeAnswer givenRefusal stepRefusal atHop withPlace stepAnswer switchesAt serverAt portRefusal switchesAnswer serverAtAnswer madeRefusal byteAnswer partsRefusal partsAnswer held roomOf shapeIn word refusalIn betweenWord askedWord deadWord stepWord packed layRefusal pickAnswer stepIn unpacked
+unfolding serversOf bound digitsOf addressOf filled differFrom digits digit withDigit switchOf differing _or-else_ shapeRefusal levelRefusal serverRefusal pairRefusal linkRefusal valueRefusal placeBound placesFit placesRefusal serversAnswer boundAnswer digitsAnswer digitAnswer addressAnswer switchAnswer neighbourAnswer betweenAnswer links.bit links.failed links.live links.tableRefusal links.tableLinkRefusal links.tableServerRefusal links.roomTableRefusal failedAnswer countedLinkRefusal countedServerRefusal summaryRefusal entriesRefusal linkAnswer serverAnswer deadAnswer freshAnswer isIn byteOf hopTo hopRefusal again fault ended walkFrom walk writeFault writeFrom endsRefusal hopFrom hopAnswer arrayRefusal walkAnswer readAnswer reverseAnswer serversRefusal writeRefusal onTheWay writeAnswer roomRefusal listRefusal checkAnswer builtArrays setOf buildAnswer listsRefusal pickSource pickRefusal placeAnswer givenRefusal stepRefusal atHop withPlace stepAnswer switchesAt serverAt portRefusal switchesAnswer serverAtAnswer madeRefusal byteAnswer partsRefusal partsAnswer levelAt lastApart loweredAt hangsAt lowered parentOf parentRefusal parentAnswer treeAnswer held roomOf shapeIn word refusalIn betweenWord askedWord deadWord stepWord packed layRefusal pickAnswer stepIn unpacked
 wrong-fill o q b =
     record {
       shape-refusal = λ s v m κ y x. never (λ y. y) shapeRefusal refl s v m;
@@ -123,6 +125,8 @@ wrong-fill o q b =
       failed-link = λ s v m κ y x. never (λ (y : Asked). y .refusal .number) (λ s. failedAnswer s [] 0 0) refl s v m;
       table-link-refusal = λ s v m κ y x. never (λ y. y) (λ s. links.tableLinkRefusal s [] 0 0) refl s v m;
       table-server-refusal = λ s v m κ y x. never (λ y. y) (λ s. links.tableServerRefusal s [] 0) refl s v m;
+      parent-of = λ s v m κ y x. never (λ (y : Number). y .refusal .number) (λ s. parentAnswer s 0 0 1) refl s v m;
+      write-tree = λ s v m κ y x p. never (λ (y : Number). y .refusal .number) (λ s. treeAnswer s 0 0) refl s v m (p .0);
       mark-link = λ s v m κ y x p. never number (λ s. linkAnswer s [] [] 0 0) refl s v m (p .0);
       clear-link = λ s v m κ y x p. never number (λ s. linkAnswer s [] [] 0 0) refl s v m (p .0);
       mark-server = λ s v m κ y x p. never number (λ s. serverAnswer s [] [] 0) refl s v m (p .0);
@@ -174,4 +178,6 @@ wrong-fill o q b =
       bcube-select = λ c v m κ y x p. never said (λ c. word (plain (roomRefusal (shapeIn c) [] 0 1)) 0) refl c v m (select-refused (refused shapeIn refl c v m) p);
       bcube-pick = λ c v m κ y x. never said (λ c. placeWord (placeAnswer (shapeIn c) [] 0 1 (array (0x01 ∷ [])) [])) refl c v m;
       bcube-step = λ c v m κ y x. never (λ (y : Stepped). unpacked y .refusal .number) (λ c. packed (stepAnswer (shapeIn c) 0 1 0 (array (0x01 ∷ [])) [])) refl c v m;
+      bcube-parent = λ c v m κ y x. never said (λ c. numberWord (parentAnswer (shapeIn c) 0 0 1)) refl c v m;
+      bcube-tree = λ c v m κ y x p. never said (λ c. numberWord (treeAnswer (shapeIn c) 0 0)) refl c v m (p .0);
     }

@@ -18,3 +18,4 @@ pub mod Fill
 pub mod Earlier
 pub mod Again
 pub mod Meetings
+pub mod Trees

@@ -49,7 +49,9 @@ use Rattle.driver.proofs.bcube_find.Reads as bcube-find
 use Rattle.driver.proofs.bcube_select.Reads as bcube-select
 use Rattle.driver.proofs.bcube_pick.Reads as bcube-pick
 use Rattle.driver.proofs.bcube_step.Reads as bcube-step
-use Rattle.wrong.specs.Never.{Never, NeverLeaves, NeverTells, Loan, third, fourth, fifth, _&_, _lends_}
+use Rattle.driver.proofs.bcube_parent.Reads as bcube-parent
+use Rattle.driver.proofs.bcube_tree.Reads as bcube-tree
+use Rattle.wrong.specs.Never.{Never, NeverLeaves, NeverLeavesAt, NeverTells, Loan, third, fourth, fifth, _&_, _lends_}
 use Rattle.wrong.specs.Examples.{array, healthy, failing, eightHops, switchTwice, roundToServer, unmarked, counting, halfHealthy, halfFailing, halfUnmarked, halfCounting, direct, other, tied, cutOff, mac, neighbour, stale}
 use Rattle.wrong.specs.Step.{around, left-with, stood-with}
 
@@ -60,9 +62,9 @@ went = record { refusal = none; delivered = false; next = 4; index = 1; mac = ma
 pub record Driver (o q b : Loan) : Type 0 where
   -- ---- bcube_version
   -- the numbers packed in bytes
-  pub version-in-bytes : Never bcube-version.Post tt 0x050000
+  pub version-in-bytes : Never bcube-version.Post tt 0x050100
   -- the version before
-  pub version-before : Never bcube-version.Post tt 40100
+  pub version-before : Never bcube-version.Post tt 50000
   -- the first number alone
   pub version-first-alone : Never bcube-version.Post tt 5
   -- ---- bcube_room_of
@@ -847,3 +849,28 @@ pub record Driver (o q b : Loan) : Type 0 where
   -- any way back told at a delivery, or on a refusal
   pub step-any-back-at-delivery : (c : Room) (a d i : ℕ) (bs es : List ℕ) (y : Stepped) → Bytes es → unpacked y .delivered ≡ true → 72057594037927936 ≤ y .word → Never bcube-step.Post (c & a & d & i & q lends bs & o lends es & tt) y
   pub step-any-back-on-refusal : (c : Room) (a d i : ℕ) (bs es : List ℕ) (y : Stepped) → Bytes es → unpacked y .refusal .number ≢ 0 → 72057594037927936 ≤ y .word → Never bcube-step.Post (c & a & d & i & q lends bs & o lends es & tt) y
+  -- ---- bcube_parent, where of 10 in tree 0 of 00 in (4,1) the parent is 13
+  -- the value in the low bytes of the word
+  pub parent-value-low : Never bcube-parent.Post (roomOf 4 1 4 & 0 & 0 & 4 & tt) (record { word = 7 })
+  -- source, tree or server cut to 32 bits
+  pub parent-source-cut : Never bcube-parent.Post (roomOf 4 1 4 & 4294967296 & 0 & 4 & tt) (word none 7)
+  pub parent-tree-cut : Never bcube-parent.Post (roomOf 4 1 4 & 0 & 4294967296 & 4 & tt) (word none 7)
+  pub parent-server-cut : Never bcube-parent.Post (roomOf 4 1 4 & 0 & 0 & 4294967300 & tt) (word none 7)
+  -- the refusal's number told as a value: 5
+  pub parent-number-as-value : Never bcube-parent.Post (roomOf 4 1 4 & 0 & 0 & 0 & tt) (word none 5)
+  -- the level told with the parent: of 1010 in tree 3 of 0000 in (2,3), which hangs at level 1 from 1000
+  pub parent-with-level : Never bcube-parent.Post (roomOf 2 3 2 & 0 & 3 & 10 & tt) (word none (8 + 65536 * 1))
+  -- the tree told as a route
+  pub parent-tree-as-route : Never bcube-parent.Post (roomOf 2 3 2 & 0 & 3 & 10 & tt) (word (refusedAt 0 3 0) 8)
+  -- ---- bcube_tree
+  -- the value in the low bytes of the word: the 16 servers of (4,1)
+  pub tree-value-low : Never bcube-tree.Post (roomOf 4 1 4 & 0 & 0 & b lends stale 4096 & tt) (record { word = 16 })
+  -- source or tree cut to 32 bits
+  pub tree-source-cut : Never bcube-tree.Post (roomOf 4 1 4 & 4294967296 & 0 & b lends stale 4096 & tt) (word none 16)
+  pub tree-tree-cut : Never bcube-tree.Post (roomOf 4 1 4 & 0 & 4294967296 & b lends stale 4096 & tt) (word none 16)
+  -- the refusal's number told as a value: 20
+  pub tree-number-as-value : Never bcube-tree.Post (roomOf 4 1 4 & 0 & 2 & b lends stale 4096 & tt) (word none 20)
+  -- each byte of a number in a place of its own: the second of 4,294,967,295, at server 1, which hangs from 0
+  pub tree-in-bytes : NeverLeavesAt bcube-tree.Post (roomOf 4 1 4 & 0 & 0 & b lends stale 4096 & tt) fourth 1 255
+  -- the bytes of a number the other way round: at 11, which hangs from 01
+  pub tree-bytes-turned-round : NeverLeavesAt bcube-tree.Post (roomOf 4 1 4 & 0 & 0 & b lends stale 4096 & tt) fourth 5 16777216

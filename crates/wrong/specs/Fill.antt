@@ -24,6 +24,8 @@ use Rattle.links.proofs.room_refusal.Reads as room-refusal-reads
 use Rattle.links.proofs.failed_link.Reads as failed-link-reads
 use Rattle.links.proofs.table_link_refusal.Reads as table-link-refusal-reads
 use Rattle.links.proofs.table_server_refusal.Reads as table-server-refusal-reads
+use Rattle.trees.proofs.parent_of.Reads as parent-of-reads
+use Rattle.trees.proofs.write_tree.Reads as write-tree-reads
 use Rattle.summary.proofs.mark_link.Reads as mark-link-reads
 use Rattle.summary.proofs.clear_link.Reads as clear-link-reads
 use Rattle.summary.proofs.mark_server.Reads as mark-server-reads
@@ -79,6 +81,8 @@ use Rattle.driver.proofs.bcube_find.Reads as bcube-find-reads
 use Rattle.driver.proofs.bcube_select.Reads as bcube-select-reads
 use Rattle.driver.proofs.bcube_pick.Reads as bcube-pick-reads
 use Rattle.driver.proofs.bcube_step.Reads as bcube-step-reads
+use Rattle.driver.proofs.bcube_parent.Reads as bcube-parent-reads
+use Rattle.driver.proofs.bcube_tree.Reads as bcube-tree-reads
 use Rattle.wrong.specs.Never.{NeverTells, Loan, _&_, _lends_}
 use Rattle.wrong.specs.Examples.{array, stale}
 
@@ -124,6 +128,8 @@ pub record Fill (o q b : Loan) : Type 0 where
   pub failed-link : OfEach shapes (λ s. NeverTells failed-link-reads.Post (s & o lends [] & 0 & 0 & tt) (λ y. y .refusal .number))
   pub table-link-refusal : OfEach shapes (λ s. NeverTells table-link-refusal-reads.Post (s & o lends [] & 0 & 0 & tt) (λ y. y))
   pub table-server-refusal : OfEach shapes (λ s. NeverTells table-server-refusal-reads.Post (s & o lends [] & 0 & tt) (λ y. y))
+  pub parent-of : OfEach shapes (λ s. NeverTells parent-of-reads.Post (s & 0 & 0 & 1 & tt) (λ y. y .refusal .number))
+  pub write-tree : OfEach shapes (λ s. NeverTells write-tree-reads.Post (s & 0 & 0 & b lends stale 4096 & tt) (λ y. y .refusal .number))
   pub mark-link : OfEach shapes (λ s. NeverTells mark-link-reads.Post (s & o lends [] & q lends [] & 0 & 0 & tt) (λ y. y .number))
   pub clear-link : OfEach shapes (λ s. NeverTells clear-link-reads.Post (s & o lends [] & q lends [] & 0 & 0 & tt) (λ y. y .number))
   pub mark-server : OfEach shapes (λ s. NeverTells mark-server-reads.Post (s & o lends [] & q lends [] & 0 & tt) (λ y. y .number))
@@ -176,3 +182,5 @@ pub record Fill (o q b : Loan) : Type 0 where
   pub bcube-select : OfEach rooms (λ c. NeverTells bcube-select-reads.Post (c & 0 & 1 & o lends [] & b lends stale 32 & tt) (λ y. refusalIn y .number))
   pub bcube-pick : OfEach rooms (λ c. NeverTells bcube-pick-reads.Post (c & 0 & 1 & o lends [] & q lends array (0x01 ∷ []) & b lends [] & tt) (λ y. refusalIn y .number))
   pub bcube-step : OfEach rooms (λ c. NeverTells bcube-step-reads.Post (c & 0 & 1 & 0 & q lends array (0x01 ∷ []) & o lends [] & tt) (λ y. unpacked y .refusal .number))
+  pub bcube-parent : OfEach rooms (λ c. NeverTells bcube-parent-reads.Post (c & 0 & 0 & 1 & tt) (λ y. refusalIn y .number))
+  pub bcube-tree : OfEach rooms (λ c. NeverTells bcube-tree-reads.Post (c & 0 & 0 & b lends stale 4096 & tt) (λ y. refusalIn y .number))

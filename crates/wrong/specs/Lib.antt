@@ -17,3 +17,4 @@ pub mod Driver
 pub mod Fill
 pub mod Again
 pub mod Meetings
+pub mod Trees

@@ -2,6 +2,7 @@
 use Prim.Native.Nat.{ℕ}
 use mathlib.Core.Path.{_≡_}
 use mathlib.Core.List.{List}
+use lib.ListN.{getD}
 use base.Fml.{GName}
 use denote.Ref.{RefT, now}
 
@@ -14,6 +15,10 @@ Never {K} {A} {R} {X} post a r = (κ : K) (x : X) → post κ a r x → ⊥
 -- the contract never allows that a buffer holds these bytes at exit, whatever the result; `buffer` is which parameter it is
 abbrev pub NeverLeaves : {K A R X : Type 0} → (K → A → R → X → Type 0) → A → (X → List ℕ) → List ℕ → Type 0
 NeverLeaves {K} {A} {R} {X} post a buffer bs = (κ : K) (r : R) (x : X) → post κ a r x → buffer x ≡ bs → ⊥
+
+-- the contract never allows that a buffer holds this number at place i at exit, whatever the result and the other places
+abbrev pub NeverLeavesAt : {K A R X : Type 0} → (K → A → R → X → Type 0) → A → (X → List ℕ) → ℕ → ℕ → Type 0
+NeverLeavesAt {K} {A} {R} {X} post a buffer i v = (κ : K) (r : R) (x : X) → post κ a r x → getD (buffer x) i 0 ≡ v → ⊥
 
 -- the contract never allows a result of which `told` is this, a number or a refusal, whatever else it holds
 abbrev pub NeverTells : {K A R X Y : Type 0} → (K → A → R → X → Type 0) → A → (R → Y) → Y → Type 0

@@ -1,6 +1,6 @@
 -- `desk_line::texts::with_count` meets its contract. Assumes nothing.
-use native.Mathlib.Omega.{arith}
-use Rattle.desk_line.proofs.TextLaws.{room-less, count-room, counted}
+use borrow.Author.Needs.{needs}
+use Rattle.desk_line.proofs.TextLaws.{count-room, text-then}
 use Rattle.desk_line.proofs.texts.with_count.Statement.{statement}
 use Rattle.desk_line.proofs.texts.with_count.Tie as tie
 
@@ -8,10 +8,7 @@ pub with-count-spec : {M : Type 1} → statement M
 with-count-spec =
     tie.close
     (tie.spec
-    -- cast-with-byte, add-with-byte, with-byte-requires: the digit
-    (λ c. omega arith)
-    (λ c. omega arith)
-    (λ c κs. search (room-less, arith))
-    -- with-byte-requires-2, returns: the newline
+    -- with-decimal-requires, with-byte-requires, returns: the number, and the newline
+    (λ c κs. search needs)
     (λ c κs. search count-room)
-    (λ c. search (counted, arith)))
+    (λ c. search text-then))

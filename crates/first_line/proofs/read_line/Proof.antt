@@ -1,12 +1,12 @@
--- `desk::read_line` meets its contract. Assumes nothing.
+-- `first_line::read_line` meets its contract. Assumes nothing.
 use native.Mathlib.Omega.{arith}
 use borrow.Author.Needs.{needs}
 use mathlib.Core.Path.{_≡_}
 use Prim.Native.Nat.{_≤_, _-_}
 use lib.ListN.{length, length-set}
 use Rattle.io.proofs.Counting.{counts}
-use Rattle.desk.proofs.read_line.Statement.{statement}
-use Rattle.desk.proofs.read_line.Tie as tie
+use Rattle.first_line.proofs.read_line.Statement.{statement}
+use Rattle.first_line.proofs.read_line.Tie as tie
 
 abbrev Inv-loop : tie.InvT-loop
 Inv-loop bytes₀ count₀ bytes count = (count ≤ 65) × (length bytes ≡ 65)

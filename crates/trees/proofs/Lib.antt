@@ -1,0 +1,11 @@
+pub mod RingLaws
+pub mod LevelLaws
+pub mod ParentLaws
+pub mod NumberLaws
+pub mod HopLaws
+pub mod WholeLaws
+pub mod ReachLaws
+pub mod RaisedLaws
+pub mod FigureLaws
+pub mod BoundLaws
+pub mod Unique

@@ -1,0 +1,5 @@
+pub mod Trees
+pub mod Answers
+pub mod Inside
+pub mod Reach
+pub mod Figure
