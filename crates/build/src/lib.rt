@@ -16,7 +16,7 @@ mod slots;
 pub use routes::build_routes;
 
 // Room for four arrays of path bytes, one after another, and how many it holds.
-#[derive(Drop)]
+#[derive(Clone, Copy)]
 pub struct RouteSet {
     pub bytes: [u8; 32],
     pub count: usize,
@@ -53,7 +53,7 @@ impl RouteSet {
 }
 
 // The built routes, slots k down to 0, with zeros past them; or a refusal and zeros.
-#[derive(Drop)]
+#[derive(Clone, Copy)]
 pub struct Building {
     pub refusal: Refusal,
     pub routes: RouteSet,

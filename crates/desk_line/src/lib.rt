@@ -17,14 +17,14 @@ pub use numbers::{question_of, tree_question_of};
 pub use tree_lines::tree_line;
 
 // A word of a line read as a number; or false and 0.
-#[derive(Drop)]
+#[derive(Clone, Copy)]
 pub struct Word {
     pub number: bool,
     pub value: usize,
 }
 
 // The words of a line read as numbers, at most five, with zeros past the last; or false and zeros.
-#[derive(Drop)]
+#[derive(Clone, Copy)]
 pub struct Words {
     pub numbers: bool,
     pub values: [usize; 5],
@@ -39,7 +39,7 @@ impl Words {
 }
 
 // The four numbers of the desk's line; or false and zeros.
-#[derive(Drop)]
+#[derive(Clone, Copy)]
 pub struct Question {
     pub taken: bool,
     pub n: usize,
@@ -49,7 +49,7 @@ pub struct Question {
 }
 
 // The five numbers of the line of `tree`; or false and zeros.
-#[derive(Drop)]
+#[derive(Clone, Copy)]
 pub struct TreeQuestion {
     pub taken: bool,
     pub n: usize,
@@ -60,7 +60,7 @@ pub struct TreeQuestion {
 }
 
 // A text of at most 128 bytes: zeros stand past its length.
-#[derive(Drop)]
+#[derive(Clone, Copy)]
 pub struct Text {
     pub bytes: [u8; 128],
     pub length: usize,

@@ -42,21 +42,21 @@ pub use switches::{bcube_dead_switch, bcube_summarize};
 // A room, as the driver holds it: n plus 256 times k plus 65,536 times m. Whatever the number, a call
 // takes it.
 #[repr(C)]
-#[derive(Drop)]
+#[derive(Clone, Copy)]
 pub struct Room {
     pub number: u64,
 }
 
 // The answer of a call: the refusal, which is its number, route, hop, and earlier route and hop, and a value, in one word.
 #[repr(C)]
-#[derive(Drop)]
+#[derive(Clone, Copy)]
 pub struct Answer {
     pub word: u64,
 }
 
 // The answer of a step: one word, and the MAC as one number, its first byte highest.
 #[repr(C)]
-#[derive(Drop)]
+#[derive(Clone, Copy)]
 pub struct Stepped {
     pub word: u64,
     pub mac: u64,

@@ -14,7 +14,7 @@ pub use finding::find_route;
 
 // A route by its eight path bytes and its count of hops; or zeros where there is none, with the
 // refusal if there is one.
-#[derive(Drop)]
+#[derive(Clone, Copy)]
 pub struct Found {
     pub refusal: Refusal,
     pub hops: usize,

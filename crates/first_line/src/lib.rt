@@ -5,7 +5,7 @@ use libc::STDIN_FILENO;
 
 // The first bytes of the input, and how many: one more than a line may have, so that a longer line
 // is seen.
-#[derive(Drop)]
+#[derive(Clone, Copy)]
 pub struct Input {
     pub bytes: [u8; 65],
     pub count: usize,

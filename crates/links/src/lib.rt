@@ -18,7 +18,7 @@ pub use tables::{
 };
 
 // Whether a link is failed; or a refusal and false.
-#[derive(Drop)]
+#[derive(Clone, Copy)]
 pub struct Asked {
     pub refusal: Refusal,
     pub failed: bool,

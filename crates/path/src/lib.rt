@@ -24,7 +24,7 @@ pub use walks::walk;
 pub use writings::write_path;
 
 // The level and the value of a path byte; or a refusal and zeros.
-#[derive(Drop)]
+#[derive(Clone, Copy)]
 pub struct Parts {
     pub refusal: Refusal,
     pub level: usize,
@@ -32,7 +32,7 @@ pub struct Parts {
 }
 
 // Where a hop leads, its level, and the value that it replaces there; or a refusal and zeros.
-#[derive(Drop)]
+#[derive(Clone, Copy)]
 pub struct Hop {
     pub refusal: Refusal,
     pub next: usize,
@@ -41,7 +41,7 @@ pub struct Hop {
 }
 
 // The switch that a hop adds to a route; or the number of its refusal and the earlier hop that it names.
-#[derive(Drop)]
+#[derive(Clone, Copy)]
 pub(crate) struct Tried {
     pub(crate) number: usize,
     pub(crate) earlier: usize,
@@ -50,7 +50,7 @@ pub(crate) struct Tried {
 
 // The number of hops that an array makes, and the path bytes of its way back as one number, the first
 // byte lowest; or a refusal and zeros.
-#[derive(Drop)]
+#[derive(Clone, Copy)]
 pub(crate) struct Way {
     pub(crate) refusal: Refusal,
     pub(crate) hops: usize,
@@ -59,7 +59,7 @@ pub(crate) struct Way {
 
 // The servers that an array meets, source first, and the switches that it uses; or a refusal and
 // zeros. A switch is one number, 4096 times its level plus its number there.
-#[derive(Drop)]
+#[derive(Clone, Copy)]
 pub struct Walked {
     pub refusal: Refusal,
     pub count: usize,
@@ -68,7 +68,7 @@ pub struct Walked {
 }
 
 // The servers that an array meets, source first, with their count; or a refusal and zeros.
-#[derive(Drop)]
+#[derive(Clone, Copy)]
 pub struct Reading {
     pub refusal: Refusal,
     pub count: usize,
@@ -76,7 +76,7 @@ pub struct Reading {
 }
 
 // The eight bytes of a route; or a refusal and zeros.
-#[derive(Drop)]
+#[derive(Clone, Copy)]
 pub struct Writing {
     pub refusal: Refusal,
     pub bytes: [u8; 8],

@@ -9,7 +9,7 @@ pub use picks::{pick_place, pick_refusal, pick_route};
 
 // Where the picked route stands: in which list, and at which place there, counted from 1; or a refusal
 // and zeros.
-#[derive(Drop)]
+#[derive(Clone, Copy)]
 pub struct Place {
     pub refusal: Refusal,
     pub list: usize,

@@ -6,7 +6,7 @@ ghost use Rattle.refusals.specs.Refusals.{none, plain, refused_at, of_route, wit
 // Why a call did not answer: the refusal's number, the route and hop where it arose, counted from 1, and the
 // earlier route and hop that it names beside them. 28 and 29 name an earlier hop of the same route, hop 0 being
 // its source; 15 a hop of an earlier route. All five are zero where there is no refusal.
-#[derive(Drop)]
+#[derive(Clone, Copy)]
 pub struct Refusal {
     pub number: usize,
     pub route: usize,

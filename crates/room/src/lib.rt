@@ -33,7 +33,7 @@ pub use tests::{ends_refusal, link_refusal, pair_refusal, server_refusal, shape_
 pub use wiring::{server_at, switches_of};
 
 // The shape of a room: n ports a switch, levels 0 to k, and m values of digit k.
-#[derive(Drop)]
+#[derive(Clone, Copy)]
 pub struct Shape {
     pub n: usize,
     pub k: usize,
@@ -76,21 +76,21 @@ impl Shape {
 }
 
 // A number, or a refusal and 0.
-#[derive(Drop)]
+#[derive(Clone, Copy)]
 pub struct Number {
     pub refusal: Refusal,
     pub value: usize,
 }
 
 // The digits of an address, digit 0 at place 0 and zeros above k; or a refusal and zeros.
-#[derive(Drop)]
+#[derive(Clone, Copy)]
 pub struct Digits {
     pub refusal: Refusal,
     pub places: [usize; 4],
 }
 
 // A switch, or a refusal and zeros.
-#[derive(Drop)]
+#[derive(Clone, Copy)]
 pub struct Switch {
     pub refusal: Refusal,
     pub level: usize,
@@ -98,7 +98,7 @@ pub struct Switch {
 }
 
 // Whether two servers are neighbours, and at which level; or a refusal, false and 0.
-#[derive(Drop)]
+#[derive(Clone, Copy)]
 pub struct Between {
     pub refusal: Refusal,
     pub adjacent: bool,
@@ -106,7 +106,7 @@ pub struct Between {
 }
 
 // The servers at a switch: the first, the way from one to the next, and how many they are.
-#[derive(Drop)]
+#[derive(Clone, Copy)]
 pub struct Side {
     pub first: usize,
     pub stride: usize,

@@ -13,7 +13,7 @@ mod slots;
 pub use selecting::select_routes;
 
 // The routes selected, in slot order; or a refusal and zeros.
-#[derive(Drop)]
+#[derive(Clone, Copy)]
 pub struct Selection {
     pub refusal: Refusal,
     pub routes: RouteSet,

@@ -11,7 +11,7 @@ pub use steps::step_once;
 
 // Where a packet goes next: the next server, the next hop index, the MAC and OutPort as stored, and the
 // level of the hop with the value that it replaces there; or delivered, and zeros; or a refusal, false and zeros.
-#[derive(Drop)]
+#[derive(Clone, Copy)]
 pub struct Step {
     pub refusal: Refusal,
     pub delivered: bool,

@@ -21,7 +21,7 @@ pub use marks::{clear_link, clear_server, mark_link, mark_server};
 
 // The first dead switch, by its level and its number there, or that none is found; or a refusal, false and
 // zeros.
-#[derive(Drop)]
+#[derive(Clone, Copy)]
 pub struct DeadSwitch {
     pub refusal: Refusal,
     pub found: bool,
@@ -30,14 +30,14 @@ pub struct DeadSwitch {
 }
 
 // A switch, by its level and its number there.
-#[derive(Drop)]
+#[derive(Clone, Copy)]
 pub(crate) struct Placed {
     pub level: usize,
     pub number: usize,
 }
 
 // How the entries lie: how many switches each level below k has, and how many stand before those of level k.
-#[derive(Drop)]
+#[derive(Clone, Copy)]
 pub(crate) struct Order {
     pub each: usize,
     pub top: usize,

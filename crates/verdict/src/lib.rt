@@ -7,7 +7,7 @@ mod pairs;
 pub use checks::check_list;
 
 // The hops where two walked arrays first meet, counted from 1; zeros where they are parallel.
-#[derive(Drop)]
+#[derive(Clone, Copy)]
 pub(crate) struct Meeting {
     pub(crate) first: usize,
     pub(crate) later: usize,
