@@ -16,6 +16,6 @@ address_of_spec =
     (λ c κs. search rules)
     (λ c κs. search rules)
     (λ c. search number-refused)
-    (λ c κs. let p = places_of _ _ (sym c.before.places_refusal.ensures ∙ c.if1.false) in (p.valid.ports, places_below p))
+    (λ c κs. let p = places_of _ _ (sym c.before.places_refusal-refusal.ensures ∙ c.if-refusal-ne0.false) in (p.valid.ports, places_below p))
     (λ c κs. search rules)
     (λ c. search number-given))

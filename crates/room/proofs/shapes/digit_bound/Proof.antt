@@ -9,5 +9,5 @@ unfolding bound
 digit_bound_spec =
     tie.close
     (tie.spec
-    (λ c. simp (eq-eqb _ _ c.if1.true))
-    (λ c. simp (ne_eqb _ _ c.if1.false)))
+    (λ c. simp (eq-eqb _ _ c.if-level-shape.true))
+    (λ c. simp (ne_eqb _ _ c.if-level-shape.false)))

@@ -15,7 +15,7 @@ side_of_spec =
     (λ c. search rules)
     (λ c. search side_ports)
     -- what is taken off: it fits, and it is there
-    (λ c. let a = c.before.before.before.args in omega (arith, own_le a.server c.before.before.power.result a.shape.n))
-    (λ c. let a = c.before.before.before.args in omega (arith, own_le a.server c.before.before.power.result a.shape.n))
+    (λ c. let a = c.before.before.before.args in omega (arith, own_le a.server c.before.before.power-stride.result a.shape.n))
+    (λ c. let a = c.before.before.before.args in omega (arith, own_le a.server c.before.before.power-stride.result a.shape.n))
     (λ c κs. search rules)
     (λ c. search side_made))

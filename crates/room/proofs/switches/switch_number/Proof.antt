@@ -17,9 +17,9 @@ switch_number_spec =
     (λ c κs. let h = link_of _ _ _ c.before.requires in omega arith)
     (λ c κs.
     let h = link_of _ _ _ c.before.before.requires in
-    let e = c.struck.ensures ∙ ap (λ (x : List ℕ). strike c.before.before.args.level x ++ (0 ∷ [])) c.before.digit_places.ensures in
+    let e = c.struck.ensures ∙ ap (λ (x : List ℕ). strike c.before.before.args.level x ++ (0 ∷ [])) c.before.digit_places-places.ensures in
     (omega arith, rw e (strike-four-below h)))
     (λ c.
     let s = c.before.before.before.args.shape in
-    let e = c.before.struck.ensures ∙ ap (λ (x : List ℕ). strike c.before.before.before.args.level x ++ (0 ∷ [])) c.before.before.digit_places.ensures in
+    let e = c.before.struck.ensures ∙ ap (λ (x : List ℕ). strike c.before.before.before.args.level x ++ (0 ∷ [])) c.before.before.digit_places-places.ensures in
     c.number_of.ensures ∙ ap (address_of s.n) e ∙ strike-four (link_of _ _ _ c.before.before.before.requires)))

@@ -6,7 +6,7 @@ use Rattle.room.proofs.RefusalLaws.{shape-stops, ends_there, ends_same}
 use Rattle.room.proofs.tests.ends_refusal.Statement.{statement}
 use Rattle.room.proofs.tests.ends_refusal.Tie as tie
 
-pair_stops : tie.Need-returns-3
+pair_stops : tie.Need-returns-then-q-ne0
 unfolding ends_refusal
 pair_stops c = search chain_stops
 

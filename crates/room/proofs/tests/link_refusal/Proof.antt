@@ -6,7 +6,7 @@ use Rattle.room.proofs.RefusalLaws.{link-passed, link-failed}
 use Rattle.room.proofs.tests.link_refusal.Statement.{statement}
 use Rattle.room.proofs.tests.link_refusal.Tie as tie
 
-stops : tie.Need-returns
+stops : tie.Need-returns-then-r-ne0
 unfolding link_refusal
 stops c = search chain_stops
 

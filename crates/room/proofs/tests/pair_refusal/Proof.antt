@@ -6,7 +6,7 @@ use Rattle.room.proofs.RefusalLaws.{second-passed, second-failed}
 use Rattle.room.proofs.tests.pair_refusal.Statement.{statement}
 use Rattle.room.proofs.tests.pair_refusal.Tie as tie
 
-stops : tie.Need-returns
+stops : tie.Need-returns-then-r-ne0
 unfolding pair_refusal
 stops c = search chain_stops
 

@@ -11,5 +11,5 @@ place_bound_spec =
     tie.close
     (tie.spec
     (λ c κs. search rules)
-    (λ c. simp (le-leb _ _ c.before.if1.true) c.digit_bound.ensures)
-    (λ c. simp (lt-leb _ _ c.if1.false)))
+    (λ c. simp (le-leb _ _ c.before.if-place-shape.true) c.digit_bound.ensures)
+    (λ c. simp (lt-leb _ _ c.if-place-shape.false)))

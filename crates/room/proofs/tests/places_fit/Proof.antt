@@ -5,18 +5,18 @@ use Rattle.room.proofs.RefusalLaws.{Fitting, fitting_start, fitting_stop, fittin
 use Rattle.room.proofs.tests.places_fit.Statement.{statement}
 use Rattle.room.proofs.tests.places_fit.Tie as tie
 
-abbrev invariant_loop : tie.invariant_loop
-invariant_loop shape places i₀ i = Fitting shape places i
+abbrev invariant-loop-i : tie.invariant-loop-i
+invariant-loop-i shape places i₀ i = Fitting shape places i
 
-abbrev decreases_loop : tie.decreases_loop
-decreases_loop shape places i₀ i = 4 - i
+abbrev decreases-loop-i : tie.decreases-loop-i
+decreases-loop-i shape places i₀ i = 4 - i
 
 pub places_fit_spec : {M : Type 1} → statement M
 places_fit_spec =
     tie.close
     (tie.spec
-    invariant_loop
-    decreases_loop
+    invariant-loop-i
+    decreases-loop-i
     (λ c. fitting_start _ _ (search rules))
     (λ c κs. search rules)
     (λ c. search rules)

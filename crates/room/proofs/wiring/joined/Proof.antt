@@ -13,13 +13,13 @@ joined_spec =
     -- power-requires
     (λ c κs. search rules)
     -- div-above
-    (λ c. let h = port_of _ _ _ _ c.before.requires in weight_pos h.valid _ _ (port-power h _ c.power.ensures))
+    (λ c. let h = port_of _ _ _ _ c.before.requires in weight_pos h.valid _ _ (port-power h _ c.power-weight.ensures))
     -- mul-upper, add-upper
-    (λ c. let q = port_of _ _ _ _ c.before.before.requires in let h = port_sums q _ (port-power q _ c.before.power.ensures) in omega (arith, h.above))
-    (λ c. let q = port_of _ _ _ _ c.before.before.requires in let h = port_sums q _ (port-power q _ c.before.power.ensures) in omega (arith, h.upper))
+    (λ c. let q = port_of _ _ _ _ c.before.before.requires in let h = port_sums q _ (port-power q _ c.before.power-weight.ensures) in omega (arith, h.above))
+    (λ c. let q = port_of _ _ _ _ c.before.before.requires in let h = port_sums q _ (port-power q _ c.before.power-weight.ensures) in omega (arith, h.upper))
     -- rem-result, mul-result, add-result
-    (λ c. let h = port_of _ _ _ _ c.before.before.requires in weight_pos h.valid _ _ (port-power h _ c.before.power.ensures))
-    (λ c. let q = port_of _ _ _ _ c.before.before.requires in let h = port_sums q _ (port-power q _ c.before.power.ensures) in omega (arith, h.weighed))
-    (λ c. let q = port_of _ _ _ _ c.before.before.requires in let h = port_sums q _ (port-power q _ c.before.power.ensures) in omega (arith, h.whole))
+    (λ c. let h = port_of _ _ _ _ c.before.before.requires in weight_pos h.valid _ _ (port-power h _ c.before.power-weight.ensures))
+    (λ c. let q = port_of _ _ _ _ c.before.before.requires in let h = port_sums q _ (port-power q _ c.before.power-weight.ensures) in omega (arith, h.weighed))
+    (λ c. let q = port_of _ _ _ _ c.before.before.requires in let h = port_sums q _ (port-power q _ c.before.power-weight.ensures) in omega (arith, h.whole))
     -- returns
-    (λ c. let q = port_of _ _ _ _ c.before.before.requires in port_closed q _ (port-power q _ c.before.power.ensures)))
+    (λ c. let q = port_of _ _ _ _ c.before.before.requires in port_closed q _ (port-power q _ c.before.power-weight.ensures)))

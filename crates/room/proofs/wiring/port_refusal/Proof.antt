@@ -6,11 +6,11 @@ use Rattle.room.proofs.WiringLaws.{bound-few, port-there, port-not}
 use Rattle.room.proofs.wiring.port_refusal.Statement.{statement}
 use Rattle.room.proofs.wiring.port_refusal.Tie as tie
 
-no_shape : tie.Need-returns
+no_shape : tie.Need-returns-then-r-ne0
 unfolding port_refusal
 no_shape c = search level-shape
 
-no_level : tie.Need-returns-3
+no_level : tie.Need-returns-then-shape-level
 unfolding port_refusal
 no_level c = search level-above
 

@@ -15,8 +15,8 @@ server_at_spec =
     -- port-refusal-requires, no-number-requires, returns
     (λ c κs. search rules)
     (λ c κs. search rules)
-    (λ c. answer-refused _ _ no_number _ _ c.no_number.ensures c.before.before.port_refusal.ensures c.before.if1.true)
+    (λ c. answer-refused _ _ no_number _ _ c.no_number.ensures c.before.before.port_refusal-refusal.ensures c.before.if-refusal-ne0.true)
     -- joined-requires, a-number-requires, returns-2
     (λ c κs. search rules)
     (λ c κs. search rules)
-    (λ c. answer-given _ _ no_number _ _ c.before.before.before.port_refusal.ensures c.before.before.if1.false (c.a_number.ensures ∙ ap a_number c.before.joined.ensures)))
+    (λ c. answer-given _ _ no_number _ _ c.before.before.before.port_refusal-refusal.ensures c.before.before.if-refusal-ne0.false (c.a_number.ensures ∙ ap a_number c.before.joined.ensures)))

@@ -16,8 +16,8 @@ switches_of_spec =
     -- level-refusal-requires, no-number-requires, returns
     (λ c κs. search rules)
     (λ c κs. search rules)
-    (λ c. answer-refused _ _ no_number _ _ c.no_number.ensures c.before.before.level_refusal.ensures c.before.if1.true)
+    (λ c. answer-refused _ _ no_number _ _ c.no_number.ensures c.before.before.level_refusal-refusal.ensures c.before.if-refusal-ne0.true)
     -- switch-count-requires, a-number-requires, returns-2
-    (λ c κs. sym (valid-none (level-of _ _ (sym c.before.level_refusal.ensures ∙ c.if1.false)).0))
+    (λ c κs. sym (valid-none (level-of _ _ (sym c.before.level_refusal-refusal.ensures ∙ c.if-refusal-ne0.false)).0))
     (λ c κs. search rules)
-    (λ c. answer-given _ _ no_number _ _ c.before.before.before.level_refusal.ensures c.before.before.if1.false (c.a_number.ensures ∙ ap a_number c.before.switch_count.ensures)))
+    (λ c. answer-given _ _ no_number _ _ c.before.before.before.level_refusal-refusal.ensures c.before.before.if-refusal-ne0.false (c.a_number.ensures ∙ ap a_number c.before.switch_count.ensures)))
