@@ -7,11 +7,11 @@ pub weight_spec : {M : Type 1} → statement M
 weight_spec =
     tie.close
     (tie.spec
-    (λ c. rw c.if1.true)
-    (λ c. rw c.if2.true)
-    (λ c. rw c.if3.true)
-    (λ c. rw c.if4.true)
-    (λ c. rw c.if5.true)
-    (λ c. rw c.if6.true)
-    (λ c. rw c.if7.true)
+    (λ c. rw c.if-level-eq0.true)
+    (λ c. rw c.if-level-eq1.true)
+    (λ c. rw c.if-level-eq2.true)
+    (λ c. rw c.if-level-eq3.true)
+    (λ c. rw c.if-level-eq4.true)
+    (λ c. rw c.if-level-eq5.true)
+    (λ c. rw c.if-level-eq6.true)
     (λ c. search weight_last))

@@ -12,5 +12,5 @@ with_bit_spec =
     (λ c κs. search rules)
     (λ c. search put-kept)
     (λ c κs. search rules)
-    (λ c. let a = c.before.before.before.args in omega (arith, raise_fits a.level a.byte c.weight.result c.before.before.has_bit.result c.before.before.has_bit.ensures c.before.if1.false c.weight.ensures (omega arith) (omega arith)))
+    (λ c. let a = c.before.before.before.args in omega (arith, raise_fits a.level a.byte c.weight.result c.before.before.has_bit.result c.before.before.has_bit.ensures c.before.if-has_bit.false c.weight.ensures (omega arith) (omega arith)))
     (λ c. search raise_made))

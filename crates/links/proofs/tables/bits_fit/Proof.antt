@@ -10,18 +10,18 @@ use Rattle.links.proofs.tables.bits_fit.Statement.{statement}
 use Rattle.links.proofs.tables.bits_fit.Tie as tie
 
 -- the greatest so far and of the rest is the greatest of all
-abbrev invariant_loop : tie.invariant_loop
-invariant_loop k table most₀ i₀ most i = (i ≤ length table) × (max most (greatest (drop i table)) ≡ greatest table)
+abbrev invariant-loop-i : tie.invariant-loop-i
+invariant-loop-i k table most₀ i₀ most i = (i ≤ length table) × (max most (greatest (drop i table)) ≡ greatest table)
 
-abbrev decreases_loop : tie.decreases_loop
-decreases_loop k table most₀ i₀ most i = length table - i
+abbrev decreases-loop-i : tie.decreases-loop-i
+decreases-loop-i k table most₀ i₀ most i = length table - i
 
 pub bits_fit_spec : {M : Type 1} → statement M
 bits_fit_spec =
     tie.close
     (tie.spec
-    invariant_loop
-    decreases_loop
+    invariant-loop-i
+    decreases-loop-i
     -- none so far
     (λ c. (omega arith, omega arith))
     (λ c. search rules)
@@ -29,9 +29,9 @@ bits_fit_spec =
     (λ c. search rules)
     -- one byte more: the greater of it and of those before
     (λ c.
-    let g = c.before.before.before.loop in
+    let g = c.before.before.before.loop-i in
     let n = greatest-next c.before.before.before.before.before.args.table.now g.i (omega arith) in
-    ⊎_elim (λ w. (omega arith, omega arith)) (λ w. (omega arith, omega arith)) c.if1.branch)
+    ⊎_elim (λ w. (omega arith, omega arith)) (λ w. (omega arith, omega arith)) c.if-most-byte.branch-raw)
     -- the weight of the level above k, which is at most 7; the greatest against it
     (λ c. search rules)
     (λ c κs. search rules)
