@@ -1,6 +1,6 @@
 -- The rule is the figure: a hop that the passes make is one from a parent to its child, and every such hop is made.
 use Prim.Native.Nat.{ℕ, zero, suc, ◌+◌, ◌-◌, ◌%◌, ◌≤◌, ◌<◌}
-use mathlib.Core.Path.{◌≡◌, refl, sym, ap, ◌∙◌}
+use mathlib.Core.Path.{◌≡◌, refl, sym, ap, ◌∙◌, subst}
 use mathlib.Core.Logic.{◌≢◌, ◌↔◌}
 use native.Mathlib.Omega.{arith}
 use native.Mathlib.Decide.{ℕ_discrete}
@@ -201,7 +201,7 @@ module _ {s : Shape} {a l : ℕ} (ha : Server s a) (hl : l ≤ s.k) where
   unfolding raised_by longest
   hop-own x zero g q e = hop-first x e (hangs_pass 0 x (omega arith) g ∙ at_zero s.k l hl)
   hop-own x (suc t) g q e =
-      hop-grown 0 t (raised s l a) x (omega arith) (omega (arith, gap_le ha.valid a x l)) root (rw (at_zero s.k l hl) e) (hangs_pass 0 x (omega arith) g)
+      hop-grown 0 t (raised s l a) x (omega arith) (omega (arith, gap_le ha.valid a x l)) root (subst (λ (j : ℕ). raised_by s j (suc t) (raised s l a) ≡ x) (sym (at_zero s.k l hl)) e) (hangs_pass 0 x (omega arith) g)
 
   hop-added : (i x : ℕ) → i ≤ s.k → Added s a l i x → Hop s a l (parent_of s a l x) x
   unfolding longest

@@ -6,11 +6,11 @@ use Rattle.path.proofs.ByteLaws.{made-fits, made_high}
 use Rattle.path.proofs.bytes.made_refusal.Statement.{statement}
 use Rattle.path.proofs.bytes.made_refusal.Tie as tie
 
-no_shape : tie.Need-returns
+no_shape : tie.Need-returns-then-r-ne0
 unfolding made_refusal
 no_shape c = search level-shape
 
-no_level : tie.Need-returns-3
+no_level : tie.Need-returns-then-shape-level
 unfolding made_refusal
 no_level c = search level-above
 

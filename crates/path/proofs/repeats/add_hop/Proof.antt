@@ -18,4 +18,4 @@ add_hop_spec =
     (λ c κs. search rules)
     (λ c. search switch_again)
     -- neither
-    (λ c. both_new _ _ _ _ _ c.before.before.before.place_in.ensures c.before.before.if1.false _ c.before.place_in2.ensures c.if2.false))
+    (λ c. both_new _ _ _ _ _ c.before.before.before.place_in-reached.ensures c.before.before.if-reached-met.false _ c.before.place_in-user.ensures c.if-user-used.false))

@@ -6,18 +6,18 @@ use Rattle.lists.proofs.FirstPlaces.{Passed, passed_none, passed_on, passed_here
 use Rattle.path.proofs.repeats.place_in.Statement.{statement}
 use Rattle.path.proofs.repeats.place_in.Tie as tie
 
-abbrev invariant_loop : tie.invariant_loop
-invariant_loop list x i₀ i = Passed x list i
+abbrev invariant-loop-i : tie.invariant-loop-i
+invariant-loop-i list x i₀ i = Passed x list i
 
-abbrev decreases_loop : tie.decreases_loop
-decreases_loop list x i₀ i = length list - i
+abbrev decreases-loop-i : tie.decreases-loop-i
+decreases-loop-i list x i₀ i = length list - i
 
 pub place_in_spec : {M : Type 1} → statement M
 place_in_spec =
     tie.close
     (tie.spec
-    invariant_loop
-    decreases_loop
+    invariant-loop-i
+    decreases-loop-i
     (λ c. search passed_none)
     (λ c. search rules)
     (λ c. search rules)

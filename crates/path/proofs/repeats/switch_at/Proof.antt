@@ -16,16 +16,16 @@ switch_at_spec =
     (λ c κs. search rules)
     (λ c.
     let h = link_of _ _ _ c.before.requires in
-    let e = switch-found h _ c.switch_of.ensures in
+    let e = switch-found h _ c.switch_of-switch.ensures in
     let k = h.server.valid.levels in
     omega (arith, switch-small h))
     (λ c.
     let h = link_of _ _ _ c.before.before.requires in
-    let e = switch-found h _ c.before.switch_of.ensures in
+    let e = switch-found h _ c.before.switch_of-switch.ensures in
     let k = h.server.valid.levels in
     omega (arith, switch-small h))
     (λ c.
     let h = link_of _ _ _ c.before.before.requires in
-    let e = switch-found h _ c.before.switch_of.ensures in
+    let e = switch-found h _ c.before.switch_of-switch.ensures in
     let k = h.server.valid.levels in
     omega (arith, switch-small h)))

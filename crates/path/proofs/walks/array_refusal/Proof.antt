@@ -12,5 +12,5 @@ array_refusal_spec =
     (tie.spec
     (λ c κs. search rules)
     (λ c. search chain_stops)
-    (λ c. chain_goes _ _ _ _ c.before.before.ends_refusal.ensures c.before.if1.false (same-passed _ _ _ c.if2.true))
-    (λ c. chain_goes _ _ _ _ c.before.before.ends_refusal.ensures c.before.if1.false (apart-refused _ _ _ c.if2.false)))
+    (λ c. chain_goes _ _ _ _ c.before.before.ends_refusal-r.ensures c.before.if-r-ne0.false (same-passed _ _ _ c.if-path-eq-MOST_HOPS.true))
+    (λ c. chain_goes _ _ _ _ c.before.before.ends_refusal-r.ensures c.before.if-r-ne0.false (apart-refused _ _ _ c.if-path-eq-MOST_HOPS.false)))

@@ -5,18 +5,18 @@ use Rattle.path.proofs.WalkLaws.{Ending, ending_start, ending_stop, ending_next,
 use Rattle.path.proofs.walks.arrived.Statement.{statement}
 use Rattle.path.proofs.walks.arrived.Tie as tie
 
-abbrev invariant_loop : tie.invariant_loop
-invariant_loop path hops back i₀ i = Ending path hops back i
+abbrev invariant-loop-i : tie.invariant-loop-i
+invariant-loop-i path hops back i₀ i = Ending path hops back i
 
-abbrev decreases_loop : tie.decreases_loop
-decreases_loop path hops back i₀ i = 8 - i
+abbrev decreases-loop-i : tie.decreases-loop-i
+decreases-loop-i path hops back i₀ i = 8 - i
 
 pub arrived_spec : {M : Type 1} → statement M
 arrived_spec =
     tie.close
     (tie.spec
-    invariant_loop
-    decreases_loop
+    invariant-loop-i
+    decreases-loop-i
     (λ c. search ending_start)
     (λ c. search rules)
     (λ c. search rules)

@@ -6,18 +6,18 @@ use Rattle.path.proofs.WriteLaws.{Way, way-start, way-met, way_used, way_pair, w
 use Rattle.path.proofs.writings.on_the_way.Statement.{statement}
 use Rattle.path.proofs.writings.on_the_way.Tie as tie
 
-abbrev invariant_loop : tie.invariant_loop
-invariant_loop shape servers used₀ i₀ used i = Way shape servers used i
+abbrev invariant-loop-i : tie.invariant-loop-i
+invariant-loop-i shape servers used₀ i₀ used i = Way shape servers used i
 
-abbrev decreases_loop : tie.decreases_loop
-decreases_loop shape servers used₀ i₀ used i = length servers - i
+abbrev decreases-loop-i : tie.decreases-loop-i
+decreases-loop-i shape servers used₀ i₀ used i = length servers - i
 
 pub on_the_way_spec : {M : Type 1} → statement M
 on_the_way_spec =
     tie.close
     (tie.spec
-    invariant_loop
-    decreases_loop
+    invariant-loop-i
+    decreases-loop-i
     -- before the loop
     (λ c. search way-start)
     -- the servers met, the switches used, and the two servers of the hop

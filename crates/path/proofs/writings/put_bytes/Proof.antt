@@ -6,18 +6,18 @@ use Rattle.path.proofs.WriteLaws.{Putting, route-next, put-start, put_next, put-
 use Rattle.path.proofs.writings.put_bytes.Statement.{statement}
 use Rattle.path.proofs.writings.put_bytes.Tie as tie
 
-abbrev invariant_loop : tie.invariant_loop
-invariant_loop shape servers bytes₀ i₀ bytes i = Putting shape servers bytes i
+abbrev invariant-loop-i : tie.invariant-loop-i
+invariant-loop-i shape servers bytes₀ i₀ bytes i = Putting shape servers bytes i
 
-abbrev decreases_loop : tie.decreases_loop
-decreases_loop shape servers bytes₀ i₀ bytes i = length servers - i
+abbrev decreases-loop-i : tie.decreases-loop-i
+decreases-loop-i shape servers bytes₀ i₀ bytes i = length servers - i
 
 pub put_bytes_spec : {M : Type 1} → statement M
 put_bytes_spec =
     tie.close
     (tie.spec
-    invariant_loop
-    decreases_loop
+    invariant-loop-i
+    decreases-loop-i
     (λ c. search put-start)
     (λ c. search rules)
     (λ c. search rules)

@@ -6,18 +6,18 @@ use Rattle.path.proofs.WriteLaws.{FineTo, fine_start, fine_stop, fine_next, fine
 use Rattle.path.proofs.writings.servers_refusal.Statement.{statement}
 use Rattle.path.proofs.writings.servers_refusal.Tie as tie
 
-abbrev invariant_loop : tie.invariant_loop
-invariant_loop shape servers i₀ i = FineTo shape servers i
+abbrev invariant-loop-i : tie.invariant-loop-i
+invariant-loop-i shape servers i₀ i = FineTo shape servers i
 
-abbrev decreases_loop : tie.decreases_loop
-decreases_loop shape servers i₀ i = length servers - i
+abbrev decreases-loop-i : tie.decreases-loop-i
+decreases-loop-i shape servers i₀ i = length servers - i
 
 pub servers_refusal_spec : {M : Type 1} → statement M
 servers_refusal_spec =
     tie.close
     (tie.spec
-    invariant_loop
-    decreases_loop
+    invariant-loop-i
+    decreases-loop-i
     (λ c. search fine_start)
     (λ c. search rules)
     (λ c. search rules)

@@ -6,18 +6,18 @@ use Rattle.summary.proofs.ChangeLaws.{Changing, changing_start, changing_counted
 use Rattle.summary.proofs.changes.change_all.Statement.{statement}
 use Rattle.summary.proofs.changes.change_all.Tie as tie
 
-abbrev invariant_loop : tie.invariant_loop
-invariant_loop shape table₀ summary₀ server failed level₀ table summary level = Changing failed shape server table₀ summary₀ level table summary
+abbrev invariant-loop-level : tie.invariant-loop-level
+invariant-loop-level shape table₀ summary₀ server failed level₀ table summary level = Changing failed shape server table₀ summary₀ level table summary
 
-abbrev decreases_loop : tie.decreases_loop
-decreases_loop shape table₀ summary₀ server failed level₀ table summary level = suc shape.k - level
+abbrev decreases-loop-level : tie.decreases-loop-level
+decreases-loop-level shape table₀ summary₀ server failed level₀ table summary level = suc shape.k - level
 
 pub change_all_spec : {M : Type 1} → statement M
 change_all_spec =
     tie.close
     (tie.spec
-    invariant_loop
-    decreases_loop
+    invariant-loop-level
+    decreases-loop-level
     (λ c. search changing_start)
     (λ c κs. search changing_counted)
     (λ c. omega arith)

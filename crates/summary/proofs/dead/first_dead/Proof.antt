@@ -10,23 +10,23 @@ use Rattle.summary.proofs.EntryLaws.{entry-inside, dead-here, dead_on, dead-none
 use Rattle.summary.proofs.dead.first_dead.Statement.{statement}
 use Rattle.summary.proofs.dead.first_dead.Tie as tie
 
-abbrev invariant_loop : tie.invariant_loop
-invariant_loop shape summary order place₀ place = first_dead shape summary (drop place (switches_in shape)) ≡ first_dead shape summary (switches_in shape)
+abbrev invariant-loop-place : tie.invariant-loop-place
+invariant-loop-place shape summary order place₀ place = first_dead shape summary (drop place (switches_in shape)) ≡ first_dead shape summary (switches_in shape)
 
-abbrev decreases_loop : tie.decreases_loop
-decreases_loop shape summary order place₀ place = length summary - place
+abbrev decreases-loop-place : tie.decreases-loop-place
+decreases-loop-place shape summary order place₀ place = length summary - place
 
 pub first_dead_spec : {M : Type 1} → statement M
 first_dead_spec =
     tie.close
     (tie.spec
-    invariant_loop
-    decreases_loop
+    invariant-loop-place
+    decreases-loop-place
     (λ c κs. search rules)
     (λ c. search rules)
     (λ c κs. search entry-inside)
     (λ c. omega arith)
-    (λ c. omega (arith, c.shared-slice-known2.given c.before.before.before.loop.place))
+    (λ c. omega (arith, c.shared_slice_known-in-loop-place-1.given c.before.before.before.loop-place.place))
     (λ c κs. search rules)
     (λ c κs. search rules)
     (λ c. search dead-here)

@@ -7,18 +7,18 @@ use Rattle.summary.proofs.EntryLaws.{Written, written_start, written-inside, wri
 use Rattle.summary.proofs.fresh.count_all.Statement.{statement}
 use Rattle.summary.proofs.fresh.count_all.Tie as tie
 
-abbrev invariant_loop : tie.invariant_loop
-invariant_loop shape table summary₀ order place₀ summary place = Written shape table summary₀ place summary
+abbrev invariant-loop-place : tie.invariant-loop-place
+invariant-loop-place shape table summary₀ order place₀ summary place = Written shape table summary₀ place summary
 
-abbrev decreases_loop : tie.decreases_loop
-decreases_loop shape table summary₀ order place₀ summary place = length summary₀ - place
+abbrev decreases-loop-place : tie.decreases-loop-place
+decreases-loop-place shape table summary₀ order place₀ summary place = length summary₀ - place
 
 pub count_all_spec : {M : Type 1} → statement M
 count_all_spec =
     tie.close
     (tie.spec
-    invariant_loop
-    decreases_loop
+    invariant-loop-place
+    decreases-loop-place
     (λ c κs. search rules)
     (λ c. search written_start)
     (λ c κs. search written-inside)

@@ -10,18 +10,18 @@ use Rattle.summary.proofs.EntryLaws.{entry-inside, compared_on, compared_not, co
 use Rattle.summary.proofs.tests.all_counted.Statement.{statement}
 use Rattle.summary.proofs.tests.all_counted.Tie as tie
 
-abbrev invariant_loop : tie.invariant_loop
-invariant_loop shape table summary order place₀ place = same (drop place summary) (drop place (summary_of shape table)) ≡ same summary (summary_of shape table)
+abbrev invariant-loop-place : tie.invariant-loop-place
+invariant-loop-place shape table summary order place₀ place = same (drop place summary) (drop place (summary_of shape table)) ≡ same summary (summary_of shape table)
 
-abbrev decreases_loop : tie.decreases_loop
-decreases_loop shape table summary order place₀ place = length summary - place
+abbrev decreases-loop-place : tie.decreases-loop-place
+decreases-loop-place shape table summary order place₀ place = length summary - place
 
 pub all_counted_spec : {M : Type 1} → statement M
 all_counted_spec =
     tie.close
     (tie.spec
-    invariant_loop
-    decreases_loop
+    invariant-loop-place
+    decreases-loop-place
     (λ c κs. search rules)
     (λ c. search rules)
     (λ c. omega arith)

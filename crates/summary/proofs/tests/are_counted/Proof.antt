@@ -6,18 +6,18 @@ use Rattle.summary.proofs.EntryLaws.{CountedTo, level-asked, counted_start, coun
 use Rattle.summary.proofs.tests.are_counted.Statement.{statement}
 use Rattle.summary.proofs.tests.are_counted.Tie as tie
 
-abbrev invariant_loop : tie.invariant_loop
-invariant_loop shape table summary server level₀ level = CountedTo shape table summary server level
+abbrev invariant-loop-level : tie.invariant-loop-level
+invariant-loop-level shape table summary server level₀ level = CountedTo shape table summary server level
 
-abbrev decreases_loop : tie.decreases_loop
-decreases_loop shape table summary server level₀ level = suc shape.k - level
+abbrev decreases-loop-level : tie.decreases-loop-level
+decreases-loop-level shape table summary server level₀ level = suc shape.k - level
 
 pub are_counted_spec : {M : Type 1} → statement M
 are_counted_spec =
     tie.close
     (tie.spec
-    invariant_loop
-    decreases_loop
+    invariant-loop-level
+    decreases-loop-level
     (λ c. search counted_start)
     (λ c κs. search level-asked)
     (λ c. search (counted-not, not-true))

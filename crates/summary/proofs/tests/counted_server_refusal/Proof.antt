@@ -15,7 +15,7 @@ counted_server_refusal_spec =
     (λ c κs. search rules)
     (λ c. search chain_stops)
     (λ c κs. search server-room)
-    (λ c κs. server-asked _ _ _ _ _ c.before.before.before.table_server_refusal.ensures (omega arith) _ c.before.has_entries.ensures c.if2.true)
+    (λ c κs. server-asked _ _ _ _ _ c.before.before.before.table_server_refusal-r.ensures (omega arith) _ c.before.has_entries.ensures c.if-has_entries.true)
     (λ c. search (chain_goes, both_passed))
     (λ c. search (chain_goes, second-failed))
     (λ c. search (chain_goes, first-failed)))

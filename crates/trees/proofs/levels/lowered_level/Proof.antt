@@ -10,38 +10,38 @@ use Rattle.trees.proofs.LevelLaws.{at_small, lowered-own, going_start, going_on,
 use Rattle.trees.proofs.levels.lowered_level.Statement.{statement}
 use Rattle.trees.proofs.levels.lowered_level.Tie as tie
 
-abbrev invariant_loop : tie.invariant_loop
-invariant_loop k tree from own place₀ place =
+abbrev invariant-loop-place : tie.invariant-loop-place
+invariant-loop-place k tree from own place₀ place =
     (place ≤ k) × (last_apart (alike_in from own) k tree place ≡ lowered_at (alike_in from own) k tree)
 
-abbrev decreases_loop : tie.decreases_loop
-decreases_loop k tree from own place₀ place = place
+abbrev decreases-loop-place : tie.decreases-loop-place
+decreases-loop-place k tree from own place₀ place = place
 
 pub lowered_level_spec : {M : Type 1} → statement M
 lowered_level_spec =
     tie.close
     (tie.spec
-    invariant_loop
-    decreases_loop
+    invariant-loop-place
+    decreases-loop-place
     (λ c. search rules)
     (λ c. search rules)
     (λ c. search rules)
     (λ c. search rules)
     (λ c.
     let a = c.before.before.before.args in
-    lowered-own (alike_in a.from.now a.own.now) a.k a.tree (eq-eqb _ _ c.if1.true))
-    (λ c. (omega arith, going_start _ _ _ (ne_eqb _ _ c.if1.false)))
+    lowered-own (alike_in a.from.now a.own.now) a.k a.tree (eq-eqb _ _ c.if-from-tree.true))
+    (λ c. (omega arith, going_start _ _ _ (ne_eqb _ _ c.if-from-tree.false)))
     (λ c κs. search rules)
-    (λ c. let w = at_small _ _ _ _ c.before.before.before.before.before.before.requires.0 c.level_at.ensures in omega arith)
-    (λ c. let w = at_small _ _ _ _ c.before.before.before.before.before.before.requires.0 c.level_at.ensures in omega arith)
-    (λ c. let w = at_small _ _ _ _ c.before.before.before.before.before.before.before.requires.0 c.before.level_at.ensures in omega arith)
-    (λ c. let w = at_small _ _ _ _ c.before.before.before.before.before.before.before.requires.0 c.before.level_at.ensures in omega arith)
+    (λ c. let w = at_small _ _ _ _ c.before.before.before.before.before.before.requires.0 c.level_at-level.ensures in omega arith)
+    (λ c. let w = at_small _ _ _ _ c.before.before.before.before.before.before.requires.0 c.level_at-level.ensures in omega arith)
+    (λ c. let w = at_small _ _ _ _ c.before.before.before.before.before.before.before.requires.0 c.before.level_at-level.ensures in omega arith)
+    (λ c. let w = at_small _ _ _ _ c.before.before.before.before.before.before.before.requires.0 c.before.level_at-level.ensures in omega arith)
     (λ c.
     let t = c.before.before.before in
-    going-here _ _ _ _ _ _ t.before.before.loop.invariant.1 t.before.loop-test.true t.level_at.ensures (ne_eqb _ _ c.if2.true))
+    going-here _ _ _ _ _ _ t.before.before.loop-place.invariant.1 t.before.loop-place-test.true t.level_at-level.ensures (ne_eqb _ _ c.if-from-level.true))
     (λ c. search rules)
     (λ c. search rules)
     (λ c.
     let t = c.before.before.before in
-    (omega arith, going_on _ _ _ _ _ _ t.before.before.loop.invariant.1 t.before.loop-test.true t.level_at.ensures (eq-eqb _ _ c.if2.false)))
-    (λ c. going_end _ _ _ c.before.before.before.before.before.requires.1 _ _ c.before.loop.invariant.1 c.loop-test.false))
+    (omega arith, going_on _ _ _ _ _ _ t.before.before.loop-place.invariant.1 t.before.loop-place-test.true t.level_at-level.ensures (eq-eqb _ _ c.if-from-level.false)))
+    (λ c. going_end _ _ _ c.before.before.before.before.before.requires.1 _ _ c.before.loop-place.invariant.1 c.loop-place-test.false))

@@ -8,10 +8,10 @@ pub lower_spec : {M : Type 1} → statement M
 lower_spec =
     tie.close
     (tie.spec
-    (λ c. lower-within _ _ _ _ _ c.before.requires.0 c.before.requires.1 c.if1.true)
-    (λ c. lower_by_one _ _ _ _ _ c.before.requires.0 c.before.requires.1 c.if1.true)
+    (λ c. lower-within _ _ _ _ _ c.before.requires.0 c.before.requires.1 c.if-own-gt0.true)
+    (λ c. lower_by_one _ _ _ _ _ c.before.requires.0 c.before.requires.1 c.if-own-gt0.true)
     (λ c κs. search rules)
     (λ c. lower-bound _ _ _ _ c.before.before.requires.0 _ c.digit_bound.ensures)
-    (λ c. let h = c.before.before.requires in lower-fits _ _ _ _ _ h.0 h.1 c.before.if1.false _ c.digit_bound.ensures)
-    (λ c. let h = c.before.before.requires in lower-sum _ _ _ _ _ h.0 h.1 c.before.if1.false _ c.digit_bound.ensures)
-    (λ c. let h = c.before.before.requires in lower-around _ _ _ _ _ h.0 h.1 c.before.if1.false _ c.digit_bound.ensures))
+    (λ c. let h = c.before.before.requires in lower-fits _ _ _ _ _ h.0 h.1 c.before.if-own-gt0.false _ c.digit_bound.ensures)
+    (λ c. let h = c.before.before.requires in lower-sum _ _ _ _ _ h.0 h.1 c.before.if-own-gt0.false _ c.digit_bound.ensures)
+    (λ c. let h = c.before.before.requires in lower-around _ _ _ _ _ h.0 h.1 c.before.if-own-gt0.false _ c.digit_bound.ensures))

@@ -20,12 +20,12 @@ parent_of_spec =
     let strides = c.before.before.before.before in
     let own = strides.before.before in
     let asked = own.before.before.before.before in
-    let w = parent-link _ _ _ _ _ asked.parent_refusal.ensures own.before.before.before.if1.false _ own.digits_of2.ensures in
-    (w.0, w.1, strides.strides_of.ensures))
+    let w = parent-link _ _ _ _ _ asked.parent_refusal-refusal.ensures own.before.before.before.if-refusal-ne0.false _ own.digits_of-2.ensures in
+    (w.0, w.1, strides.strides_of-strides.ensures))
     -- returns
     (λ c.
     let own = c.before.before.before.before.before.before.before in
-    let e = own.before.before.before.before.parent_refusal.ensures in
-    let z = own.before.before.before.if1.false in
+    let e = own.before.before.before.before.parent_refusal-refusal.ensures in
+    let z = own.before.before.before.if-refusal-ne0.false in
     parent-given _ _ _ _ _ e z _ c.before.before.before.before.none.ensures _
-    (parent-found _ _ _ _ _ e z _ own.digits_of2.ensures _ own.before.before.digits_of.ensures _ c.parent_by.ensures)))
+    (parent-found _ _ _ _ _ e z _ own.digits_of-2.ensures _ own.before.before.digits_of.ensures _ c.parent_by.ensures)))

@@ -11,4 +11,4 @@ number_at_spec =
     (λ c. search number_source)
     (λ c κs. let h = c.before.requires in let w = number-link _ _ _ _ _ _ h.0 in (w.0, w.1, h.1))
     (λ c. let w = number_fits _ _ _ _ _ _ c.before.before.requires.0 _ c.parent_by.ensures in omega arith)
-    (λ c. number-parent _ _ _ _ c.before.if1.false _ _ c.before.before.requires.0 _ c.parent_by.ensures))
+    (λ c. number-parent _ _ _ _ c.before.if-source-server.false _ _ c.before.before.requires.0 _ c.parent_by.ensures))

@@ -6,18 +6,18 @@ use Rattle.trees.proofs.WholeLaws.{Writing, writing_start, writing-asked, writin
 use Rattle.trees.proofs.whole.write_numbers.Statement.{statement}
 use Rattle.trees.proofs.whole.write_numbers.Tie as tie
 
-abbrev invariant_loop : tie.invariant_loop
-invariant_loop shape source tree numbers₀ from strides count own₀ server₀ numbers own server = Writing shape source tree numbers own server
+abbrev invariant-loop-server : tie.invariant-loop-server
+invariant-loop-server shape source tree numbers₀ from strides count own₀ server₀ numbers own server = Writing shape source tree numbers own server
 
-abbrev decreases_loop : tie.decreases_loop
-decreases_loop shape source tree numbers₀ from strides count own₀ server₀ numbers own server = count - server
+abbrev decreases-loop-server : tie.decreases-loop-server
+decreases-loop-server shape source tree numbers₀ from strides count own₀ server₀ numbers own server = count - server
 
 pub write_numbers_spec : {M : Type 1} → statement M
 write_numbers_spec =
     tie.close
     (tie.spec
-    invariant_loop
-    decreases_loop
+    invariant-loop-server
+    decreases-loop-server
     (λ c κs. search rules)
     (λ c κs. search rules)
     (λ c κs. search rules)
@@ -26,16 +26,16 @@ write_numbers_spec =
     (λ c κs.
     let t = c.before.before.before in
     let strides = t.before.before.before in
-    (writing-asked _ _ _ strides.before.before.before.requires.0 _ t.before.before.server_count.ensures _ _ _ t.before.loop.invariant t.loop-test.true _ strides.before.before.digits_of.ensures, strides.strides_of.ensures))
+    (writing-asked _ _ _ strides.before.before.before.requires.0 _ t.before.before.server_count-count.ensures _ _ _ t.before.loop-server.invariant t.loop-server-test.true _ strides.before.before.digits_of.ensures, strides.strides_of-strides.ensures))
     -- a place of the numbers
-    (λ c. let t = c.before.before.before.before in let w = writing-inside _ _ _ t.before.before.before.before.before.before.requires.0 _ t.before.before.server_count.ensures _ _ _ t.before.loop.invariant t.loop-test.true in omega arith)
-    (λ c. let t = c.before.before.before.before in let w = writing-inside _ _ _ t.before.before.before.before.before.before.requires.0 _ t.before.before.server_count.ensures _ _ _ t.before.loop.invariant t.loop-test.true in omega arith)
+    (λ c. let t = c.before.before.before.before in let w = writing-inside _ _ _ t.before.before.before.before.before.before.requires.0 _ t.before.before.server_count-count.ensures _ _ _ t.before.loop-server.invariant t.loop-server-test.true in omega arith)
+    (λ c. let t = c.before.before.before.before in let w = writing-inside _ _ _ t.before.before.before.before.before.before.requires.0 _ t.before.before.server_count-count.ensures _ _ _ t.before.loop-server.invariant t.loop-server-test.true in omega arith)
     -- digits-after-requires
-    (λ c κs. let t = c.before.before.before.before in writing-below _ _ _ t.before.before.before.before.before.before.requires.0 _ t.before.before.server_count.ensures _ _ _ t.before.loop.invariant)
+    (λ c κs. let t = c.before.before.before.before in writing-below _ _ _ t.before.before.before.before.before.before.requires.0 _ t.before.before.server_count-count.ensures _ _ _ t.before.loop-server.invariant)
     (λ c. search rules)
     (λ c. omega arith)
     -- loop-again
     (λ c.
     let t = c.before.before.before.before.before in
-    writing_on _ _ _ t.before.before.before.before.before.before.requires.0 _ t.before.before.server_count.ensures _ _ _ t.before.loop.invariant t.loop-test.true _ c.before.number_at.ensures _ c.digits_after.ensures)
-    (λ c. writing-all _ _ _ c.before.before.before.before.before.before.requires.0 _ c.before.before.server_count.ensures _ _ _ c.before.loop.invariant c.loop-test.false))
+    writing_on _ _ _ t.before.before.before.before.before.before.requires.0 _ t.before.before.server_count-count.ensures _ _ _ t.before.loop-server.invariant t.loop-server-test.true _ c.before.number_at.ensures _ c.digits_after-next.ensures)
+    (λ c. writing-all _ _ _ c.before.before.before.before.before.before.requires.0 _ c.before.before.server_count-count.ensures _ _ _ c.before.loop-server.invariant c.loop-server-test.false))

@@ -12,11 +12,11 @@ write_tree_spec =
     (λ c κs. search rules)
     (λ c κs. search rules)
     (λ c. (search tree-refused, search tree_keeps))
-    (λ c κs. (sym c.before.before.link_refusal.ensures ∙ c.before.if1.false, refl))
+    (λ c κs. (sym c.before.before.link_refusal-refusal.ensures ∙ c.before.if-refusal-ne0.false, refl))
     (λ c κs. search rules)
     (λ c κs. search rules)
     (λ c.
-    let e = c.before.before.before.before.before.link_refusal.ensures in
-    let z = c.before.before.before.before.if1.false in
+    let e = c.before.before.before.before.before.link_refusal-refusal.ensures in
+    let z = c.before.before.before.before.if-refusal-ne0.false in
     let n = c.server_count.ensures in
     (tree-given _ _ _ _ e z _ n _ c.before.none.ensures, tree-written _ _ _ _ e z _ n _ _ c.before.before.write_numbers.ensures)))
