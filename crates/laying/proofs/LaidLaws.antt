@@ -125,11 +125,12 @@ spares_exactly s vs x l = (
 )
 
 -- a link is taken by no route exactly when each route spares it
-untaken : {s : Shape} {routes : List (List ℕ)} {x l : ℕ} {vs : List ℕ} → taken s routes x l ≡ false → In vs routes → Spares s vs x l
+untaken : {s : Shape} {x l : ℕ} {vs : List ℕ} {routes : List (List ℕ)} → taken s routes x l ≡ false → In vs routes → Spares s vs x l
 unfolding taken
-untaken {s} {routes = us ∷ uss} {x} {l} e (In.head q) =
+untaken {s} {x} {l} {vs} {routes = []} e h = elim h [ ]
+untaken {s} {x} {l} {routes = us ∷ uss} e (In.head q) =
     subst (λ (v : List ℕ). Spares s v x l) (sym q) ((spares_exactly s us x l).0 (neither (takes s us x l) (taken s uss x l) e).0)
-untaken {s} {routes = us ∷ uss} {x} {l} e (In.tail m) = untaken (neither (takes s us x l) (taken s uss x l) e).1 m
+untaken {s} {x} {l} {routes = us ∷ uss} e (In.tail m) = untaken (neither (takes s us x l) (taken s uss x l) e).1 m
 
 all_spare : (s : Shape) (routes : List (List ℕ)) (x l : ℕ) → ((vs : List ℕ) → In vs routes → Spares s vs x l) → taken s routes x l ≡ false
 unfolding taken

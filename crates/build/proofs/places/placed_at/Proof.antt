@@ -10,20 +10,20 @@ use Rattle.build.proofs.SetLaws.{placed-all, placed-next}
 use Rattle.build.proofs.places.placed_at.Statement.{statement}
 use Rattle.build.proofs.places.placed_at.Tie as tie
 
-abbrev invariant_loop : tie.invariant_loop
-invariant_loop place route all₀ j₀ all j = (j ≤ 8) × (all ≡ paste all₀ place route j)
+abbrev invariant-loop-j : tie.invariant-loop-j
+invariant-loop-j place route all₀ j₀ all j = (j ≤ 8) × (all ≡ paste all₀ place route j)
 
-abbrev decreases_loop : tie.decreases_loop
-decreases_loop place route all₀ j₀ all j = 8 - j
+abbrev decreases-loop-j : tie.decreases-loop-j
+decreases-loop-j place route all₀ j₀ all j = 8 - j
 
 pub placed_at_spec : {M : Type 1} → statement M
 placed_at_spec =
     tie.close
     (tie.spec
-    invariant_loop
-    decreases_loop
+    invariant-loop-j
+    decreases-loop-j
     -- loop-holds
-    (λ c. (omega arith, paste-zero c.args.bytes c.args.place c.args.t3))
+    (λ c. (omega arith, paste-zero c.args.bytes c.args.place c.args.route))
     -- array-read-all, add-all, array-write-all, add-j, loop-less: one byte
     (λ c. search rules)
     (λ c. search rules)
@@ -33,16 +33,16 @@ placed_at_spec =
     -- loop-again
     (λ c.
     let a = c.before.before.args in
-    let g = c.before.loop in
+    let g = c.before.loop-j in
     let l : length a.bytes ≡ 32 = search rules in
-    let m : length a.t3 ≡ 8 = search rules in (
+    let m : length a.route ≡ 8 = search rules in (
       omega arith,
-      ap (λ (x : List ℕ). set x (a.place + g.j) (get_or a.t3 g.j 0)) g.invariant.1
-          ∙ placed-next a.place a.t3 a.bytes g.j (omega arith) (omega arith),
+      ap (λ (x : List ℕ). set x (a.place + g.j) (get_or a.route g.j 0)) g.invariant.1
+          ∙ placed-next a.place a.route a.bytes g.j (omega arith) (omega arith),
     ))
     -- returns
     (λ c.
     let a = c.before.before.args in
-    let g = c.before.loop in
-    let m : length a.t3 ≡ 8 = search rules in
-    g.invariant.1 ∙ placed-all a.place a.t3 a.bytes g.j m (omega arith)))
+    let g = c.before.loop-j in
+    let m : length a.route ≡ 8 = search rules in
+    g.invariant.1 ∙ placed-all a.place a.route a.bytes g.j m (omega arith)))

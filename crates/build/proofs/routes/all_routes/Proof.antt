@@ -8,18 +8,18 @@ use Rattle.build.proofs.SlotLaws.{laid-built, places_small}
 use Rattle.build.proofs.routes.all_routes.Statement.{statement}
 use Rattle.build.proofs.routes.all_routes.Tie as tie
 
-abbrev invariant_loop : tie.invariant_loop
-invariant_loop shape source destination from to set₀ k place₀ set place = Gathering shape source destination set place
+abbrev invariant-loop-place : tie.invariant-loop-place
+invariant-loop-place shape source destination from to set₀ k place₀ set place = Gathering shape source destination set place
 
-abbrev decreases_loop : tie.decreases_loop
-decreases_loop shape source destination from to set₀ k place₀ set place = suc shape.k - place
+abbrev decreases-loop-place : tie.decreases-loop-place
+decreases-loop-place shape source destination from to set₀ k place₀ set place = suc shape.k - place
 
 pub all_routes_spec : {M : Type 1} → statement M
 all_routes_spec =
     tie.close
     (tie.spec
-    invariant_loop
-    decreases_loop
+    invariant-loop-place
+    decreases-loop-place
     -- places-of-requires, places-of-requires-2: the digits of the ends
     (λ c κs. (ends_of _ _ _ c.requires).source)
     (λ c κs. (ends_of _ _ _ c.before.requires).destination)
@@ -35,8 +35,8 @@ all_routes_spec =
     (λ c.
     let turn = c.before.before.before in
     let ends = turn.before.before in
-    gather_next turn.loop.invariant _ _ c.with_route.ensures
-    (laid-built _ _ _ _ (omega arith) _ _ ends.before.places_of.ensures ends.places_of2.ensures _ c.before.route_bytes.ensures)
-    c.before.before.loop-test.true)
+    gather_next turn.loop-place.invariant _ _ c.with_route-more.ensures
+    (laid-built _ _ _ _ (omega arith) _ _ ends.before.places_of-from.ensures ends.places_of-to.ensures _ c.before.route_bytes-route.ensures)
+    c.before.before.loop-place-test.true)
     -- returns
     (λ c. search (gather_end, arith)))

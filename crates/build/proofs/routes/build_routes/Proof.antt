@@ -19,8 +19,8 @@ build_routes_spec =
     (λ c. search answer-refused)
     -- none-requires, all-routes-requires, returns-2: the routes
     (λ c κs. search rules)
-    (λ c κs. sym c.before.before.ends_refusal.ensures ∙ c.before.if1.false)
+    (λ c κs. sym c.before.before.ends_refusal-refusal.ensures ∙ c.before.if-refusal-ne0.false)
     (λ c.
     let made = ap₂ (λ (x : Refusal) (y : RouteSet). record { refusal = x; routes = y }) c.before.none.ensures c.all_routes.ensures in
     let test = c.before.before in
-    answer-given _ _ no_building _ _ test.before.ends_refusal.ensures test.if1.false made))
+    answer-given _ _ no_building _ _ test.before.ends_refusal-refusal.ensures test.if-refusal-ne0.false made))

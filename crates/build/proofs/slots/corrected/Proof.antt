@@ -11,19 +11,19 @@ use Rattle.build.proofs.SlotLaws.{fixing, Correcting, skipped, hopped, ended}
 use Rattle.build.proofs.slots.corrected.Statement.{statement}
 use Rattle.build.proofs.slots.corrected.Tie as tie
 
-abbrev invariant_loop : tie.invariant_loop
-invariant_loop k first count from to bytes₀ hops₀ level₀ left₀ bytes hops level left =
+abbrev invariant-loop-left : tie.invariant-loop-left
+invariant-loop-left k first count from to bytes₀ hops₀ level₀ left₀ bytes hops level left =
     Correcting k from to (take count bytes₀ ++ fixing k from to (suc k) first) bytes hops level left
 
-abbrev decreases_loop : tie.decreases_loop
-decreases_loop k first count from to bytes₀ hops₀ level₀ left₀ bytes hops level left = left
+abbrev decreases-loop-left : tie.decreases-loop-left
+decreases-loop-left k first count from to bytes₀ hops₀ level₀ left₀ bytes hops level left = left
 
 pub corrected_spec : {M : Type 1} → statement M
 corrected_spec =
     tie.close
     (tie.spec
-    invariant_loop
-    decreases_loop
+    invariant-loop-left
+    decreases-loop-left
     -- add-left, loop-holds
     (λ c. let p = c.requires in omega arith)
     (λ c.
@@ -34,34 +34,34 @@ corrected_spec =
       room = omega arith;
       long = search rules;
       blank = p.4;
-      same = ap (λ (m : ℕ). take a.count a.made ++ fixing a.k a.t3 a.t4 m a.first) (add-one a.k);
+      same = ap (λ (m : ℕ). take a.count a.made ++ fixing a.k a.from a.to m a.first) (add-one a.k);
     })
     -- mul-value, array-read-value, mul-if1, array-read-if1: the level's digit of both ends
-    (λ c. let g = c.before.loop.invariant in omega (arith, c.before.before.requires.0, g.level))
-    (λ c. let g = c.before.loop.invariant in omega (arith, c.before.before.requires.0, g.level))
-    (λ c. let g = c.before.loop.invariant in omega (arith, c.before.before.requires.0, g.level))
-    (λ c. let g = c.before.loop.invariant in omega (arith, c.before.before.requires.0, g.level))
+    (λ c. let g = c.before.loop-left.invariant in omega (arith, c.before.before.requires.0, g.level))
+    (λ c. let g = c.before.loop-left.invariant in omega (arith, c.before.before.requires.0, g.level))
+    (λ c. let g = c.before.loop-left.invariant in omega (arith, c.before.before.requires.0, g.level))
+    (λ c. let g = c.before.loop-left.invariant in omega (arith, c.before.before.requires.0, g.level))
     -- byte-of-requires, array-write-bytes, add-hops: they differ, and a hop corrects it
     (λ c κs.
     let p = c.before.before.before.requires in
     let a = c.before.before.before.args in
-    let o = c.before.before.loop in
+    let o = c.before.before.loop-left in
     let g = o.invariant in
-    let m : length a.t4 ≡ 4 = search rules in
+    let m : length a.to ≡ 4 = search rules in
     (omega (arith, p.0, g.level), p.2.at o.level (omega (arith, m, p.0, g.level))))
-    (λ c. let g = c.before.before.before.loop.invariant in omega arith)
-    (λ c. let g = c.before.before.before.loop.invariant in omega arith)
+    (λ c. let g = c.before.before.before.loop-left.invariant in omega arith)
+    (λ c. let g = c.before.before.before.loop-left.invariant in omega arith)
     -- level-after-requires, sub-left, loop-less, loop-again: the next level
     (λ c κs. search rules)
     (λ c. search rules)
     (λ c. search rules)
     (λ c.
-    let g = c.before.before.before.loop.invariant in
-    let some = c.before.before.loop-test.true in
-    let next = c.level_after.ensures in
+    let g = c.before.before.before.loop-left.invariant in
+    let some = c.before.before.loop-left-test.true in
+    let next = c.level_after-level.ensures in
     ⊎_elim
-    (λ w. rw (w.2, w.3) (hopped _ _ _ _ _ _ _ _ g some w.0.taken _ w.1.ensures _ next))
-    (λ w. rw (w.1, w.2) (skipped _ _ _ _ _ _ _ _ g some w.0.left _ next))
-    c.before.if1.branch)
+    (λ w. rw (w.bytes-is, w.hops-is) (hopped _ _ _ _ _ _ _ _ g some w.if-from-level.true _ w.byte_of.ensures _ next))
+    (λ w. rw (w.bytes-is, w.hops-is) (skipped _ _ _ _ _ _ _ _ g some w.if-from-level.false _ next))
+    c.before.if-from-level.branch-raw)
     -- returns
     (λ c. search ended))

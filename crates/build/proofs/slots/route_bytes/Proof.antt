@@ -25,7 +25,7 @@ route_bytes_spec =
     (λ c κs.
     let a = c.before.args in
     let p = c.before.requires in
-    let m : length a.t3 ≡ 4 = search rules in
+    let m : length a.from ≡ 4 = search rules in
     (p.0, p.1, p.2.at a.slot (omega (arith, m, p.0.levels, p.1))))
     (λ c. search rules)
     (λ c. search rules)
@@ -33,7 +33,7 @@ route_bytes_spec =
     (λ c κs.
     let a = c.before.before.args in
     let v = c.before.before.requires.0 in
-    omega (arith, c.value_after.ensures, plus_lt v a.slot (get_or a.t3 a.slot 0), bound_le v a.slot))
+    omega (arith, c.value_after-other.ensures, plus_lt v a.slot (get_or a.from a.slot 0), bound_le v a.slot))
     (λ c. search rules)
     -- level-after-requires, corrected-requires-2, returns-2: and on from the level after
     (λ c κs. search rules)
@@ -41,7 +41,7 @@ route_bytes_spec =
     let a = c.before.before.before.before.args in
     let p = c.before.before.before.before.requires in (
       p.0.levels,
-      omega (arith, c.level_after.ensures, next_le a.shape.k a.slot p.1),
+      omega (arith, c.level_after-first.ensures, next_le a.shape.k a.slot p.1),
       p.3,
       omega arith,
       refl,

@@ -11,46 +11,46 @@ use Rattle.finder.proofs.Finish.{Ended, none_found, reached, found-answer}
 use Rattle.finder.proofs.scan.search.Statement.{statement}
 use Rattle.finder.proofs.scan.search.Tie as tie
 
-abbrev invariant_loop2 : tie.invariant_loop2
-invariant_loop2 shape table source destination back₀ queue₀ marks₀ head tail₀ here level side w₀ v₀ v-end back queue marks tail w v =
+abbrev invariant-loop-v : tie.invariant-loop-v
+invariant-loop-v shape table source destination back₀ queue₀ marks₀ head tail₀ here level side w₀ v₀ v-end back queue marks tail w v =
     AtValue shape table source destination here side marks₀ back queue marks head tail level v w
 
-abbrev decreases_loop2 : tie.decreases_loop2
-decreases_loop2 shape table source destination back₀ queue₀ marks₀ head tail₀ here level side w₀ v₀ v-end back queue marks tail w v = side.count - v
+abbrev decreases-loop-v : tie.decreases-loop-v
+decreases-loop-v shape table source destination back₀ queue₀ marks₀ head tail₀ here level side w₀ v₀ v-end back queue marks tail w v = side.count - v
 
-abbrev invariant_loop : tie.invariant_loop
-invariant_loop shape table source destination back₀ queue₀ marks₀ head tail₀ here level₀ back queue marks tail level =
+abbrev invariant-loop-level : tie.invariant-loop-level
+invariant-loop-level shape table source destination back₀ queue₀ marks₀ head tail₀ here level₀ back queue marks tail level =
     AtLevel shape table source destination here back queue marks head tail level
 
-abbrev decreases_loop : tie.decreases_loop
-decreases_loop shape table source destination back₀ queue₀ marks₀ head tail₀ here level₀ back queue marks tail level = level
+abbrev decreases-loop-level : tie.decreases-loop-level
+decreases-loop-level shape table source destination back₀ queue₀ marks₀ head tail₀ here level₀ back queue marks tail level = level
 
-abbrev invariant_scan : tie.invariant_scan
-invariant_scan shape table source destination back₀ queue₀ marks₀ head₀ tail₀ back queue marks head tail =
+abbrev invariant-scan : tie.invariant-scan
+invariant-scan shape table source destination back₀ queue₀ marks₀ head₀ tail₀ back queue marks head tail =
     AtServer shape table source destination back queue marks head tail
 
-abbrev decreases_scan : tie.decreases_scan
-decreases_scan shape table source destination back₀ queue₀ marks₀ head₀ tail₀ back queue marks head tail = 4096 - head
+abbrev decreases-scan : tie.decreases-scan
+decreases-scan shape table source destination back₀ queue₀ marks₀ head₀ tail₀ back queue marks head tail = 4096 - head
 
 -- how the scan ends
-ended : (c : tie.Left-scan invariant_loop2 decreases_loop2 invariant_loop decreases_loop invariant_scan decreases_scan)
+ended : (c : tie.Left-scan invariant-loop-v decreases-loop-v invariant-loop-level decreases-loop-level invariant-scan decreases-scan)
     → (let a = c.before.before.before.before.before.before.args in let z = c.scan-test in Ended a.shape a.table.now a.source z.back z.queue z.tail a.destination)
 ended c =
     ⊎_elim
-    (λ w. rw (w.1, w.2, w.3) (ended-all c.before.scan.invariant (omega arith)))
-    (λ w. rw (w.13, w.14, w.15) (ended-found w.6.inv w.7.taken w.11.ensures w.12.taken))
-    c.scan-test.branch
+    (λ w. rw (w.back-is, w.queue-is, w.tail-is) (ended-all c.before.scan.invariant (omega arith)))
+    (λ w. rw (w.back-is, w.queue-is, w.tail-is) (ended-found w.loop-v.invariant w.loop-v-test.true w.visit-tail.ensures w.if-back-destination.true))
+    c.scan-test.branch-raw
 
 pub search_spec : {M : Type 1} → statement M
 search_spec =
     tie.close
     (tie.spec
-    invariant_loop2
-    decreases_loop2
-    invariant_loop
-    decreases_loop
-    invariant_scan
-    decreases_scan
+    invariant-loop-v
+    decreases-loop-v
+    invariant-loop-level
+    decreases-loop-level
+    invariant-scan
+    decreases-scan
     -- begin-requires, scan-holds: the tables with the source alone in them
     (λ c κs. let r = (room_of _ _ _ _ c.before.before.before.requires).0 in (omega (arith, r.source.below, r.source.valid.small), blank 4096 refl, refl))
     (λ c. search scan_starts)
@@ -63,34 +63,34 @@ search_spec =
     (λ c. search levels-start)
     (λ c. omega arith)
     -- to-scan-requires, loop2-holds: the servers at its switch of a level
-    (λ c κs. let h = c.before.before.loop.invariant in (here-link h c.before.loop-test.true, h.swept.long))
+    (λ c κs. let h = c.before.before.loop-level.invariant in (here-link h c.before.loop-level-test.true, h.swept.long))
     (λ c. search values_start)
     -- loop-less, loop-again: the level is done
     (λ c. omega arith)
     (λ c. search level_ends)
     -- mul-marks, add-marks, array-write-marks, mul-if1, array-read-if1: one server at the switch
-    (λ c. let h = near c.before.loop2.invariant c.loop2-test.true in omega (arith, h.0, h.2))
-    (λ c. let h = near c.before.loop2.invariant c.loop2-test.true in omega (arith, h.0, h.2))
-    (λ c. let h = near c.before.loop2.invariant c.loop2-test.true in omega (arith, h.3))
-    (λ c. let h = near c.before.loop2.invariant c.loop2-test.true in omega (arith, h.2))
-    (λ c. let h = near c.before.loop2.invariant c.loop2-test.true in omega (arith, h.2))
+    (λ c. let h = near c.before.loop-v.invariant c.loop-v-test.true in omega (arith, h.0, h.2))
+    (λ c. let h = near c.before.loop-v.invariant c.loop-v-test.true in omega (arith, h.0, h.2))
+    (λ c. let h = near c.before.loop-v.invariant c.loop-v-test.true in omega (arith, h.3))
+    (λ c. let h = near c.before.loop-v.invariant c.loop-v-test.true in omega (arith, h.2))
+    (λ c. let h = near c.before.loop-v.invariant c.loop-v-test.true in omega (arith, h.2))
     -- visit-requires, mul-if2, array-read-if2: where it is not found yet
-    (λ c κs. to_try c.before.before.before.before.loop2.invariant c.before.before.before.loop2-test.true c.before.before.if1.true)
+    (λ c κs. to_try c.before.before.before.before.loop-v.invariant c.before.before.before.loop-v-test.true c.before.before.if-back-w.true)
     (λ c. omega arith)
     (λ c. omega arith)
     -- add-w, add-v, loop2-less, loop2-again: the next one
-    (λ c. let h = near c.before.before.before.loop2.invariant c.before.before.loop2-test.true in omega (arith, h.2, h.4))
+    (λ c. let h = near c.before.before.before.loop-v.invariant c.before.before.loop-v-test.true in omega (arith, h.2, h.4))
     (λ c. omega arith)
     (λ c. omega arith)
     (λ c.
     ⊎_elim
-    (λ w. rw (w.5, w.6, w.7) (value-tried c.before.before.before.loop2.invariant c.before.before.loop2-test.true w.3.ensures))
-    (λ w. rw (w.1, w.2, w.3) (value_seen c.before.before.before.loop2.invariant c.before.before.loop2-test.true w.0.left))
-    c.before.if1.branch)
+    (λ w. rw (w.back-is, w.queue-is, w.tail-is) (value-tried c.before.before.before.loop-v.invariant c.before.before.loop-v-test.true w.visit-tail.ensures))
+    (λ w. rw (w.back-is, w.queue-is, w.tail-is) (value_seen c.before.before.before.loop-v.invariant c.before.before.loop-v-test.true w.if-back-w.false))
+    c.before.if-back-w.branch-raw)
     -- add-head, scan-less, scan-again: the next server of the queue
     (λ c. omega arith)
     (λ c. omega arith)
-    (λ c. levels-end c.before.loop.invariant (omega arith))
+    (λ c. levels-end c.before.loop-level.invariant (omega arith))
     -- mul-if3, array-read-if3, no-route-requires, returns: the destination is not found
     (λ c. omega arith)
     (λ c. omega arith)

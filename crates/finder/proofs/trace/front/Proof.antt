@@ -29,4 +29,4 @@ front_spec =
     (λ c. search rules)
     (λ c. search rules)
     (λ c. search rules)
-    (λ c. ap (λ (l : List ℕ). c.args.byte ∷ l) (sevens c.args.t1 (omega arith))))
+    (λ c. ap (λ (l : List ℕ). c.args.byte ∷ l) (sevens c.args.bytes (omega arith))))

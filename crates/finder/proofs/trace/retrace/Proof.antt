@@ -7,22 +7,22 @@ use Rattle.finder.proofs.Back.{Tracing, InTables, in_tables, tracing_starts, tra
 use Rattle.finder.proofs.trace.retrace.Statement.{statement}
 use Rattle.finder.proofs.trace.retrace.Tie as tie
 
-abbrev invariant_loop : tie.invariant_loop
-invariant_loop k back queue source destination bytes₀ hops₀ at₀ bytes hops at = Tracing k source back queue destination bytes hops at
+abbrev invariant-loop-at : tie.invariant-loop-at
+invariant-loop-at k back queue source destination bytes₀ hops₀ at₀ bytes hops at = Tracing k source back queue destination bytes hops at
 
-abbrev decreases_loop : tie.decreases_loop
-decreases_loop k back queue source destination bytes₀ hops₀ at₀ bytes hops at = 8 - hops
+abbrev decreases-loop-at : tie.decreases-loop-at
+decreases-loop-at k back queue source destination bytes₀ hops₀ at₀ bytes hops at = 8 - hops
 
 -- what a turn reads is in the tables
-reads_in : (c : tie.In-loop invariant_loop decreases_loop) → (let a = c.before.before.args in InTables a.back.now a.queue.now a.k c.before.loop.at)
-reads_in c = let p = c.before.before.requires in in_tables p (c.before.loop.invariant.along p) c.loop-test.true
+reads_in : (c : tie.In-loop-at invariant-loop-at decreases-loop-at) → (let a = c.before.before.args in InTables a.back.now a.queue.now a.k c.before.loop-at.at)
+reads_in c = let p = c.before.before.requires in in_tables p (c.before.loop-at.invariant.along p) c.loop-at-test.true
 
 pub retrace_spec : {M : Type 1} → statement M
 retrace_spec =
     tie.close
     (tie.spec
-    invariant_loop
-    decreases_loop
+    invariant-loop-at
+    decreases-loop-at
     -- loop-holds
     (λ c. tracing_starts 8 refl)
     -- no-route-requires, returns: a ninth hop

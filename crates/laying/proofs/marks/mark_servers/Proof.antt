@@ -7,18 +7,18 @@ use Rattle.laying.proofs.MarkLaws.{MarkedAmong, among-start, among-step, among-d
 use Rattle.laying.proofs.marks.mark_servers.Statement.{statement}
 use Rattle.laying.proofs.marks.mark_servers.Tie as tie
 
-abbrev invariant_loop : tie.invariant_loop
-invariant_loop shape copy₀ servers i₀ copy i = MarkedAmong (λ x l. x) shape copy₀ servers i copy
+abbrev invariant-loop-i : tie.invariant-loop-i
+invariant-loop-i shape copy₀ servers i₀ copy i = MarkedAmong (λ x l. x) shape copy₀ servers i copy
 
-abbrev decreases_loop : tie.decreases_loop
-decreases_loop shape copy₀ servers i₀ copy i = length servers - i
+abbrev decreases-loop-i : tie.decreases-loop-i
+decreases-loop-i shape copy₀ servers i₀ copy i = length servers - i
 
 pub mark_servers_spec : {M : Type 1} → statement M
 mark_servers_spec =
     tie.close
     (tie.spec
-    invariant_loop
-    decreases_loop
+    invariant-loop-i
+    decreases-loop-i
     -- loop-holds
     (λ c. search among-start)
     -- mul-mark-server, shared-slice-read-mark-server, mark-server-requires: the next server
@@ -27,14 +27,14 @@ mark_servers_spec =
     (λ c κs.
     let i = c.before.before.before in
     let servers = i.before.before.before.requires.0 in
-    (servers i.loop.i (omega arith), i.loop.invariant.marks.table))
+    (servers i.loop-i.i (omega arith), i.loop-i.invariant.marks.table))
     -- add-i, loop-less, loop-again
     (λ c. omega arith)
     (λ c. omega arith)
     (λ c.
     let marked = c.before.before in
-    let i = marked.before.before.before.before.loop in
+    let i = marked.before.before.before.before.loop-i in
     among-step i.invariant (omega arith) _ refl marked.mark_server.ensures)
     -- same-length, returns
     (λ c. omega arith)
-    (λ c. among-done c.before.loop.invariant (omega arith)))
+    (λ c. among-done c.before.loop-i.invariant (omega arith)))

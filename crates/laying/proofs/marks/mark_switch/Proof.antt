@@ -6,18 +6,18 @@ use Rattle.laying.proofs.MarkLaws.{MarkedSide, side_start, side_near, side_step,
 use Rattle.laying.proofs.marks.mark_switch.Statement.{statement}
 use Rattle.laying.proofs.marks.mark_switch.Tie as tie
 
-abbrev invariant_loop : tie.invariant_loop
-invariant_loop copy₀ server level side other₀ v₀ v-end copy other v = MarkedSide copy₀ server level side copy v other
+abbrev invariant-loop-value : tie.invariant-loop-value
+invariant-loop-value copy₀ server level side other₀ v₀ v-end copy other v = MarkedSide copy₀ server level side copy v other
 
-abbrev decreases_loop : tie.decreases_loop
-decreases_loop copy₀ server level side other₀ v₀ v-end copy other v = side.count - v
+abbrev decreases-loop-value : tie.decreases-loop-value
+decreases-loop-value copy₀ server level side other₀ v₀ v-end copy other v = side.count - v
 
 pub mark_switch_spec : {M : Type 1} → statement M
 mark_switch_spec =
     tie.close
     (tie.spec
-    invariant_loop
-    decreases_loop
+    invariant-loop-value
+    decreases-loop-value
     -- side-of-requires, loop-holds: the servers at the switch
     (λ c κs. search rules)
     (λ c. side_start)
@@ -27,7 +27,7 @@ mark_switch_spec =
     let marked = c.before.before in
     let i = marked.before.before.before in
     let made = i.before.before in
-    let n = side_near made.before.before.requires.0 made.side_of.ensures i.before.loop.invariant i.loop-test.true in
+    let n = side_near made.before.before.requires.0 made.side_of-side.ensures i.before.loop-value.invariant i.loop-value-test.true in
     omega arith)
     (λ c. omega arith)
     -- loop-less, loop-again
@@ -35,4 +35,4 @@ mark_switch_spec =
     (λ c. search side_step)
     -- same-length, returns
     (λ c. omega arith)
-    (λ c. let p = c.before.before.before.before.requires in side_done p.0 c.before.before.side_of.ensures c.before.loop.invariant p.1 (omega arith)))
+    (λ c. let p = c.before.before.before.before.requires in side_done p.0 c.before.before.side_of-side.ensures c.before.loop-value.invariant p.1 (omega arith)))

@@ -7,18 +7,18 @@ use Rattle.laying.proofs.MarkLaws.{MarkedSwitches, among-start, hop-link, switch
 use Rattle.laying.proofs.marks.mark_switches.Statement.{statement}
 use Rattle.laying.proofs.marks.mark_switches.Tie as tie
 
-abbrev invariant_loop : tie.invariant_loop
-invariant_loop shape copy₀ servers i₀ copy i = (i + 1 ≤ length servers) × MarkedSwitches shape copy₀ servers i copy
+abbrev invariant-loop-i : tie.invariant-loop-i
+invariant-loop-i shape copy₀ servers i₀ copy i = (i + 1 ≤ length servers) × MarkedSwitches shape copy₀ servers i copy
 
-abbrev decreases_loop : tie.decreases_loop
-decreases_loop shape copy₀ servers i₀ copy i = length servers - i
+abbrev decreases-loop-i : tie.decreases-loop-i
+decreases-loop-i shape copy₀ servers i₀ copy i = length servers - i
 
 pub mark_switches_spec : {M : Type 1} → statement M
 mark_switches_spec =
     tie.close
     (tie.spec
-    invariant_loop
-    decreases_loop
+    invariant-loop-i
+    decreases-loop-i
     -- loop-holds, add-loop
     (λ c. (omega arith, search among-start))
     (λ c. omega arith)
@@ -33,7 +33,7 @@ mark_switches_spec =
     -- mark-switch-requires
     (λ c κs.
     let i = c.before.before.before.before in
-    (search hop-link, i.before.loop.invariant.1.marks.table))
+    (search hop-link, i.before.loop-i.invariant.1.marks.table))
     -- add-i, loop-less, loop-again
     (λ c. omega arith)
     (λ c. omega arith)
@@ -41,7 +41,7 @@ mark_switches_spec =
     let h = c.before.before.before.before in
     let i = h.before.before.before in
     let route = i.before.before.before.before.requires.0 in
-    (omega arith, switches-step route i.before.loop.invariant.1 i.loop-test.true _ h.level_between.ensures c.before.before.mark_switch.ensures))
+    (omega arith, switches-step route i.before.loop-i.invariant.1 i.loop-i-test.true _ h.level_between-hop.ensures c.before.before.mark_switch.ensures))
     -- same-length, returns
     (λ c. omega arith)
-    (λ c. switches-done _ c.before.loop.invariant.1 (omega arith)))
+    (λ c. switches-done _ c.before.loop-i.invariant.1 (omega arith)))

@@ -9,12 +9,12 @@ use Rattle.step.proofs.next.next_hop.Statement.{statement}
 use Rattle.step.proofs.next.next_hop.Tie as tie
 
 -- the path byte is less than 256
-byte_small : (c : tie.After-shared-slice-known3)
+byte_small : (c : tie.After-shared_slice_known-3-1)
     → (let tested = c.before.before.before in let a = tested.before.before.before.before.args in get_or a.path.now a.index 0 < 256)
 byte_small c =
     let tested = c.before.before.before in
     let a = tested.before.before.before.before.args in
-    omega (arith, c.shared-slice-known3.given a.index)
+    omega (arith, c.shared_slice_known-3-1.given a.index)
 
 pub next_hop_spec : {M : Type 1} → statement M
 unfolding entry flag_at
@@ -51,7 +51,7 @@ next_hop_spec =
     let byte = c.before.before.before.before in
     let passed = byte.before.before.before in
     let b = byte_small byte in
-    entry-inside _ _ _ _ _ _ passed.before.given_refusal.ensures passed.if1.false _ (omega arith))
+    entry-inside _ _ _ _ _ _ passed.before.given_refusal-given.ensures passed.if-given-ne0.false _ (omega arith))
     -- add-at-2, at-requires-2, no-hop-requires-5, returns-5: the neighbour is not available
     (λ c. search rules)
     (λ c κs. search rules)

@@ -9,12 +9,12 @@ use Rattle.step.proofs.steps.step_once.Statement.{statement}
 use Rattle.step.proofs.steps.step_once.Tie as tie
 
 -- the path byte is less than 256
-byte_small : (c : tie.After-shared-slice-known3)
+byte_small : (c : tie.After-shared_slice_known-3-1)
     → (let tested = c.before.before.before.before in let a = tested.before.before.before.before.args in get_or a.path.now a.index 0 < 256)
 byte_small c =
     let tested = c.before.before.before.before in
     let a = tested.before.before.before.before.args in
-    omega (arith, c.shared-slice-known3.given a.index)
+    omega (arith, c.shared_slice_known-3-1.given a.index)
 
 pub step_once_spec : {M : Type 1} → statement M
 unfolding entry port_at
@@ -38,15 +38,15 @@ step_once_spec =
     (λ c κs. search rules)
     (λ c.
     let away = c.before.before in
-    let found = away.before.before.before.before.next_hop.ensures in
-    let i = step-index _ _ _ _ _ _ _ found away.before.if1.false away.if2.false in
+    let found = away.before.before.before.before.next_hop-hop.ensures in
+    let i = step-index _ _ _ _ _ _ _ found away.before.if-refusal-ne0.false away.if-here-destination.false in
     omega arith)
     (λ c κs. search step-table)
     -- shared-slice-read-t14, returns-3: the OutPort; it goes
     (λ c.
     let byte = c.before.before.before in
     let away = byte.before in
-    let found = away.before.before.before.before.next_hop.ensures in
+    let found = away.before.before.before.before.next_hop-hop.ensures in
     let b = byte_small byte in
-    step-entry _ _ _ _ _ _ _ found away.before.if1.false away.if2.false _ (omega arith))
+    step-entry _ _ _ _ _ _ _ found away.before.if-refusal-ne0.false away.if-here-destination.false _ (omega arith))
     (λ c. search step_forwards))

@@ -15,20 +15,20 @@ given_refusal_spec =
     (tie.spec
     -- pair-refusal-requires, returns: the pair is refused
     (λ c κs. search rules)
-    (λ c. chain_stops _ _ _ (chain_stops _ _ _ c.before.pair_refusal.ensures c.if1.true) c.if1.true)
+    (λ c. chain_stops _ _ _ (chain_stops _ _ _ c.before.pair_refusal-r.ensures c.if-r-ne0.true) c.if-r-ne0.true)
     -- returns-2: the table is not of 2048 bytes
     (λ c.
     let pair = c.before in
     chain_stops _ _ _
-    (chain_goes _ _ _ _ pair.before.pair_refusal.ensures pair.if1.false (rw (ne_eqb _ _ c.if2.true))) (λ z. omega arith))
+    (chain_goes _ _ _ _ pair.before.pair_refusal-r.ensures pair.if-r-ne0.false (rw (ne_eqb _ _ c.if-table-ne-TABLE_BYTES.true))) (λ z. omega arith))
     -- returns-3, returns-4: the path is not of eight bytes, or nothing is refused
     (λ c.
     let pair = c.before.before in
     chain_goes _ _ _ _
-    (chain_goes _ _ _ _ pair.before.pair_refusal.ensures pair.if1.false (rw (eq-eqb _ _ c.before.if2.false)))
-    refl (rw (ne_eqb _ _ c.if3.true)))
+    (chain_goes _ _ _ _ pair.before.pair_refusal-r.ensures pair.if-r-ne0.false (rw (eq-eqb _ _ c.before.if-table-ne-TABLE_BYTES.false)))
+    refl (rw (ne_eqb _ _ c.if-path-ne-MOST_HOPS.true)))
     (λ c.
     let pair = c.before.before in
     chain_goes _ _ _ _
-    (chain_goes _ _ _ _ pair.before.pair_refusal.ensures pair.if1.false (rw (eq-eqb _ _ c.before.if2.false)))
-    refl (rw (eq-eqb _ _ c.if3.false))))
+    (chain_goes _ _ _ _ pair.before.pair_refusal-r.ensures pair.if-r-ne0.false (rw (eq-eqb _ _ c.before.if-table-ne-TABLE_BYTES.false)))
+    refl (rw (eq-eqb _ _ c.if-path-ne-MOST_HOPS.false))))

@@ -6,18 +6,18 @@ use Rattle.verdict.proofs.ListWalk.{Walking, walking_none, walking_stops, walkin
 use Rattle.verdict.proofs.checks.check_arrays.Statement.{statement}
 use Rattle.verdict.proofs.checks.check_arrays.Tie as tie
 
-abbrev invariant_loop : tie.invariant_loop
-invariant_loop shape table source destination list count walks₀ i₀ walks i = Walking shape table source destination list walks i
+abbrev invariant-loop-i : tie.invariant-loop-i
+invariant-loop-i shape table source destination list count walks₀ i₀ walks i = Walking shape table source destination list walks i
 
-abbrev decreases_loop : tie.decreases_loop
-decreases_loop shape table source destination list count walks₀ i₀ walks i = length list / 8 - i
+abbrev decreases-loop-i : tie.decreases-loop-i
+decreases-loop-i shape table source destination list count walks₀ i₀ walks i = length list / 8 - i
 
 pub check_arrays_spec : {M : Type 1} → statement M
 check_arrays_spec =
     tie.close
     (tie.spec
-    invariant_loop
-    decreases_loop
+    invariant-loop-i
+    decreases-loop-i
     -- none-requires, loop-holds: before the loop
     (λ c κs. search rules)
     (λ c. search walking_none)

@@ -21,11 +21,11 @@ list_refusal_spec =
     -- add-if4, mul-if4: the most bytes that the shape allows
     (λ c.
     let room = c.before.before.before in
-    let h = room-levels _ _ _ _ _ room.before.room_refusal.ensures room.if1.false in
+    let h = room-levels _ _ _ _ _ room.before.room_refusal-r.ensures room.if-r-ne0.false in
     omega arith)
     (λ c.
     let room = c.before.before.before in
-    let h = room-levels _ _ _ _ _ room.before.room_refusal.ensures room.if1.false in
+    let h = room-levels _ _ _ _ _ room.before.room_refusal-r.ensures room.if-r-ne0.false in
     omega arith)
     -- returns-4, returns-5: more than that, or not
     (λ c. search (chain_goes, length_over))

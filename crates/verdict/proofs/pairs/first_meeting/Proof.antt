@@ -9,19 +9,19 @@ use Rattle.verdict.proofs.ScanLaws.{arrived-at, meeting_on, meeting-here, meetin
 use Rattle.verdict.proofs.pairs.first_meeting.Statement.{statement}
 use Rattle.verdict.proofs.pairs.first_meeting.Tie as tie
 
-abbrev invariant_loop : tie.invariant_loop
-invariant_loop count i walks one j₀ j =
+abbrev invariant-loop-j : tie.invariant-loop-j
+invariant-loop-j count i walks one j₀ j =
     (i + 1 ≤ j) × (j ≤ count) × (first_meeting (i + 1) one (j + 1) (drop j (take count walks)) ≡ first_meeting (i + 1) one (i + 1 + 1) (drop (i + 1) (take count walks)))
 
-abbrev decreases_loop : tie.decreases_loop
-decreases_loop count i walks one j₀ j = count - j
+abbrev decreases-loop-j : tie.decreases-loop-j
+decreases-loop-j count i walks one j₀ j = count - j
 
 pub first_meeting_spec : {M : Type 1} → statement M
 first_meeting_spec =
     tie.close
     (tie.spec
-    invariant_loop
-    decreases_loop
+    invariant-loop-j
+    decreases-loop-j
     -- mul-one, array-copy-out-one, add-j, loop-holds: the array at i, and those after it
     (λ c. omega arith)
     (λ c. omega arith)
@@ -43,7 +43,7 @@ first_meeting_spec =
     (λ c.
     let b = c.before.before.before.before.before in
     let given = b.before.before.requires in
-    (omega arith, omega arith, meeting_on _ _ _ _ _ b.loop.invariant.2 _ c.before.before.meeting_of.ensures given.2 given.0 c.before.before.before.before.loop-test.true c.if1.false))
+    (omega arith, omega arith, meeting_on _ _ _ _ _ b.loop-j.invariant.2 _ c.before.before.meeting_of-meeting.ensures given.2 given.0 c.before.before.before.before.loop-j-test.true c.if-meeting-ne0.false))
     -- none-requires, returns-2: all are
     (λ c κs. search rules)
     (λ c. search (meeting-end, arith)))

@@ -6,18 +6,18 @@ use Rattle.verdict.proofs.MeetingLaws.{Unmet, unmet_start, unmet_switch, unmet_s
 use Rattle.verdict.proofs.pairs.first_met.Statement.{statement}
 use Rattle.verdict.proofs.pairs.first_met.Tie as tie
 
-abbrev invariant_loop : tie.invariant_loop
-invariant_loop used met switch server i₀ i = Unmet used met switch server i
+abbrev invariant-loop-i : tie.invariant-loop-i
+invariant-loop-i used met switch server i₀ i = Unmet used met switch server i
 
-abbrev decreases_loop : tie.decreases_loop
-decreases_loop used met switch server i₀ i = length met - i
+abbrev decreases-loop-i : tie.decreases-loop-i
+decreases-loop-i used met switch server i₀ i = length met - i
 
 pub first_met_spec : {M : Type 1} → statement M
 first_met_spec =
     tie.close
     (tie.spec
-    invariant_loop
-    decreases_loop
+    invariant-loop-i
+    decreases-loop-i
     (λ c. search unmet_start)
     -- the switch of this hop
     (λ c. search rules)

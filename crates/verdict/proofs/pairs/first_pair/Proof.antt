@@ -9,18 +9,18 @@ use Rattle.verdict.proofs.ScanLaws.{pair_on, pair_here, pair_end}
 use Rattle.verdict.proofs.pairs.first_pair.Statement.{statement}
 use Rattle.verdict.proofs.pairs.first_pair.Tie as tie
 
-abbrev invariant_loop : tie.invariant_loop
-invariant_loop walks count i₀ i = (i ≤ count) × (first_pair (i + 1) (drop i (take count walks)) ≡ first_pair 1 (take count walks))
+abbrev invariant-loop-i : tie.invariant-loop-i
+invariant-loop-i walks count i₀ i = (i ≤ count) × (first_pair (i + 1) (drop i (take count walks)) ≡ first_pair 1 (take count walks))
 
-abbrev decreases_loop : tie.decreases_loop
-decreases_loop walks count i₀ i = count - i
+abbrev decreases-loop-i : tie.decreases-loop-i
+decreases-loop-i walks count i₀ i = count - i
 
 pub first_pair_spec : {M : Type 1} → statement M
 first_pair_spec =
     tie.close
     (tie.spec
-    invariant_loop
-    decreases_loop
+    invariant-loop-i
+    decreases-loop-i
     -- loop-holds, first-meeting-requires
     (λ c. (omega arith, refl))
     (λ c κs. search rules)

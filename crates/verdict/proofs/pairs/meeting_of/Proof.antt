@@ -5,18 +5,18 @@ use Rattle.verdict.proofs.MeetingLaws.{NoneMet, none-met-start, none-met_on, met
 use Rattle.verdict.proofs.pairs.meeting_of.Statement.{statement}
 use Rattle.verdict.proofs.pairs.meeting_of.Tie as tie
 
-abbrev invariant_loop : tie.invariant_loop
-invariant_loop one other hops other-hops i₀ i = NoneMet one other i
+abbrev invariant-loop-i : tie.invariant-loop-i
+invariant-loop-i one other hops other-hops i₀ i = NoneMet one other i
 
-abbrev decreases_loop : tie.decreases_loop
-decreases_loop one other hops other-hops i₀ i = one.count - 1 - i
+abbrev decreases-loop-i : tie.decreases-loop-i
+decreases-loop-i one other hops other-hops i₀ i = one.count - 1 - i
 
 pub meeting_of_spec : {M : Type 1} → statement M
 meeting_of_spec =
     tie.close
     (tie.spec
-    invariant_loop
-    decreases_loop
+    invariant-loop-i
+    decreases-loop-i
     -- sub-hops, sub-other-hops, loop-holds
     (λ c. search rules)
     (λ c. search rules)
@@ -30,6 +30,6 @@ meeting_of_spec =
     -- add-i, loop-less, loop-again
     (λ c. search rules)
     (λ c. search rules)
-    (λ c. none-met_on _ _ _ c.before.before.before.loop.invariant c.before.before.loop-test.true _ c.before.met_at.ensures c.if1.false)
+    (λ c. none-met_on _ _ _ c.before.before.before.loop-i.invariant c.before.before.loop-i-test.true _ c.before.met_at-place.ensures c.if-place-other_hops.false)
     -- returns-2: none does
     (λ c. search none-met-end))
