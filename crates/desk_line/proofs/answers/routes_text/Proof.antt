@@ -6,18 +6,18 @@ use Rattle.desk_line.proofs.AnswerLaws.{Printed, print_start, print_room, print_
 use Rattle.desk_line.proofs.answers.routes_text.Statement.{statement}
 use Rattle.desk_line.proofs.answers.routes_text.Tie as tie
 
-abbrev invariant_loop : tie.invariant_loop
-invariant_loop shape source destination routes text₀ place₀ text place = Printed shape source destination text place
+abbrev invariant-loop-place : tie.invariant-loop-place
+invariant-loop-place shape source destination routes text₀ place₀ text place = Printed shape source destination text place
 
-abbrev decreases_loop : tie.decreases_loop
-decreases_loop shape source destination routes text₀ place₀ text place = suc shape.k - place
+abbrev decreases-loop-place : tie.decreases-loop-place
+decreases-loop-place shape source destination routes text₀ place₀ text place = suc shape.k - place
 
 pub routes_text_spec : {M : Type 1} → statement M
 routes_text_spec =
     tie.close
     (tie.spec
-    invariant_loop
-    decreases_loop
+    invariant-loop-place
+    decreases-loop-place
     -- no-text-requires, loop-holds
     (λ c κs. search rules)
     (λ c. search print_start)

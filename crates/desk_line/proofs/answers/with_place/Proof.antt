@@ -21,10 +21,10 @@ with_place_spec =
     (λ c.
     let a = c.before.before.args in
     let h : a.place ≤ 3 = search place-small in
-    let l : length a.routes.bytes ≡ 32 = search set_long in
+    let l : length a.routes.bytes-1 ≡ 32 = search set_long in
     search rules)
     -- read-path-requires, sub-with-route, with-route-requires, returns: the route read
     (λ c κs. search rules)
-    (λ c. let h : 1 ≤ c.before.read_path.result.count = search read_some in omega arith)
+    (λ c. let h : 1 ≤ c.before.read_path-read.result.count = search read_some in omega arith)
     (λ c κs. search (part_long, read-few))
     (λ c. search read-line))

@@ -8,18 +8,18 @@ use Rattle.desk_line.proofs.LineLaws.{before_here, before_on, before-end}
 use Rattle.desk_line.proofs.lines.length_before.Statement.{statement}
 use Rattle.desk_line.proofs.lines.length_before.Tie as tie
 
-abbrev invariant_loop : tie.invariant_loop
-invariant_loop text stop i₀ i = (i ≤ length text) × (i + length (before stop (drop i text)) ≡ length (before stop text))
+abbrev invariant-loop-i : tie.invariant-loop-i
+invariant-loop-i text stop i₀ i = (i ≤ length text) × (i + length (before stop (drop i text)) ≡ length (before stop text))
 
-abbrev decreases_loop : tie.decreases_loop
-decreases_loop text stop i₀ i = length text - i
+abbrev decreases-loop-i : tie.decreases-loop-i
+decreases-loop-i text stop i₀ i = length text - i
 
 pub length_before_spec : {M : Type 1} → statement M
 length_before_spec =
     tie.close
     (tie.spec
-    invariant_loop
-    decreases_loop
+    invariant-loop-i
+    decreases-loop-i
     -- loop-holds, shared-slice-read-if1
     (λ c. omega arith)
     (λ c. omega arith)

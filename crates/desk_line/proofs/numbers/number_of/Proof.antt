@@ -9,18 +9,18 @@ use Rattle.desk_line.proofs.NumberLaws.{read_on, read_low, read_high, read-large
 use Rattle.desk_line.proofs.numbers.number_of.Statement.{statement}
 use Rattle.desk_line.proofs.numbers.number_of.Tie as tie
 
-abbrev invariant_loop : tie.invariant_loop
-invariant_loop word value₀ i₀ value i = (i ≤ length word) × (value ≤ 65535) × (read_on value (drop i word) ≡ word_of word)
+abbrev invariant-loop-i : tie.invariant-loop-i
+invariant-loop-i word value₀ i₀ value i = (i ≤ length word) × (value ≤ 65535) × (read_on value (drop i word) ≡ word_of word)
 
-abbrev decreases_loop : tie.decreases_loop
-decreases_loop word value₀ i₀ value i = length word - i
+abbrev decreases-loop-i : tie.decreases-loop-i
+decreases-loop-i word value₀ i₀ value i = length word - i
 
 pub number_of_spec : {M : Type 1} → statement M
 number_of_spec =
     tie.close
     (tie.spec
-    invariant_loop
-    decreases_loop
+    invariant-loop-i
+    decreases-loop-i
     -- no-word-requires, returns: no byte
     (λ c κs. search rules)
     (λ c. search (word_empty, arith))

@@ -7,18 +7,18 @@ use Rattle.desk_line.proofs.numbers.numbers_of.Statement.{statement}
 use Rattle.desk_line.proofs.numbers.numbers_of.Tie as tie
 use borrow.Author.Tests.{not-true, not-false}
 
-abbrev invariant_loop : tie.invariant_loop
-invariant_loop line spaces values₀ rest₀ place₀ values rest place = WordsRead line spaces values rest place
+abbrev invariant-loop-place : tie.invariant-loop-place
+invariant-loop-place line spaces values₀ rest₀ place₀ values rest place = WordsRead line spaces values rest place
 
-abbrev decreases_loop : tie.decreases_loop
-decreases_loop line spaces values₀ rest₀ place₀ values rest place = spaces - place
+abbrev decreases-loop-place : tie.decreases-loop-place
+decreases-loop-place line spaces values₀ rest₀ place₀ values rest place = spaces - place
 
 pub numbers_of_spec : {M : Type 1} → statement M
 numbers_of_spec =
     tie.close
     (tie.spec
-    invariant_loop
-    decreases_loop
+    invariant-loop-place
+    decreases-loop-place
     -- loop-holds
     (λ c. words_start _ _)
     -- part-before-requires, number-of-requires: a word

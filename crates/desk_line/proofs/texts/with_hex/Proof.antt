@@ -9,23 +9,23 @@ use Rattle.desk_line.proofs.TextLaws.{hex-start, hex-room, half_room, hex-step, 
 use Rattle.desk_line.proofs.texts.with_hex.Statement.{statement}
 use Rattle.desk_line.proofs.texts.with_hex.Tie as tie
 
-abbrev invariant_loop : tie.invariant_loop
-invariant_loop bytes text i₀ longer i = (i ≤ length bytes) × (longer ≡ text_of (shown text ++ hex_of (take i bytes)))
+abbrev invariant-loop-i : tie.invariant-loop-i
+invariant-loop-i bytes text i₀ longer i = (i ≤ length bytes) × (longer ≡ text_of (shown text ++ hex_of (take i bytes)))
 
-abbrev decreases_loop : tie.decreases_loop
-decreases_loop bytes text i₀ longer i = length bytes - i
+abbrev decreases-loop-i : tie.decreases-loop-i
+decreases-loop-i bytes text i₀ longer i = length bytes - i
 
 pub with_hex_spec : {M : Type 1} → statement M
 with_hex_spec =
     tie.close
     (tie.spec
-    invariant_loop
-    decreases_loop
+    invariant-loop-i
+    decreases-loop-i
     -- loop-holds
     (λ c. (omega arith, hex-start c.before.requires))
     -- shared-slice-read-byte, hex-digit-requires, with-byte-requires: the high digit
     (λ c. omega arith)
-    (λ c κs. omega (arith, c.shared-slice-known2.given c.before.before.loop.i))
+    (λ c κs. omega (arith, c.shared_slice_known-in-loop-i-1.given c.before.before.loop-i.i))
     (λ c κs. search (hex-room, arith))
     -- hex-digit-requires-2, with-byte-requires-2: the low digit
     (λ c κs. omega arith)

@@ -9,18 +9,18 @@ use Rattle.desk_line.proofs.TextLaws.{word-start, word-step, word_end, word_room
 use Rattle.desk_line.proofs.texts.with_word.Statement.{statement}
 use Rattle.desk_line.proofs.texts.with_word.Tie as tie
 
-abbrev invariant_loop : tie.invariant_loop
-invariant_loop word text i₀ longer i = (i ≤ length word) × (longer ≡ text_of (shown text ++ take i word))
+abbrev invariant-loop-i : tie.invariant-loop-i
+invariant-loop-i word text i₀ longer i = (i ≤ length word) × (longer ≡ text_of (shown text ++ take i word))
 
-abbrev decreases_loop : tie.decreases_loop
-decreases_loop word text i₀ longer i = length word - i
+abbrev decreases-loop-i : tie.decreases-loop-i
+decreases-loop-i word text i₀ longer i = length word - i
 
 pub with_word_spec : {M : Type 1} → statement M
 with_word_spec =
     tie.close
     (tie.spec
-    invariant_loop
-    decreases_loop
+    invariant-loop-i
+    decreases-loop-i
     -- loop-holds
     (λ c. (omega arith, word-start c.before.requires))
     -- shared-slice-read-with-byte, with-byte-requires: one byte

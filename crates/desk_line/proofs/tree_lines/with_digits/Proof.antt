@@ -4,18 +4,18 @@ use Rattle.desk_line.proofs.TreeLineLaws.{DigitsLeft, digits-start, digit-space,
 use Rattle.desk_line.proofs.tree_lines.with_digits.Statement.{statement}
 use Rattle.desk_line.proofs.tree_lines.with_digits.Tie as tie
 
-abbrev invariant_loop : tie.invariant_loop
-invariant_loop digits text level₀ longer level = DigitsLeft digits text longer level
+abbrev invariant-loop-level : tie.invariant-loop-level
+invariant-loop-level digits text level₀ longer level = DigitsLeft digits text longer level
 
-abbrev decreases_loop : tie.decreases_loop
-decreases_loop digits text level₀ longer level = level
+abbrev decreases-loop-level : tie.decreases-loop-level
+decreases-loop-level digits text level₀ longer level = level
 
 pub with_digits_spec : {M : Type 1} → statement M
 with_digits_spec =
     tie.close
     (tie.spec
-    invariant_loop
-    decreases_loop
+    invariant-loop-level
+    decreases-loop-level
     -- sub-level, loop-holds
     (λ c. omega arith)
     (λ c. search (digits-start, arith))

@@ -30,18 +30,18 @@ retrace_spec =
     (λ c. search tracing_over)
     -- mul-key, element-copy-out-key: the key of the server
     (λ c. omega (arith, reads_in c.before))
-    (λ c. omega (arith, reads_in c.before))
+    (λ c. omega (arith, reads_in c.before.before))
     -- cast-key, sub-front, mul-front, add-front, cast-front, front-requires: the byte that it holds
-    (λ c. omega (arith, reads_in c.before.before))
-    (λ c. omega (arith, reads_in c.before.before))
-    (λ c. omega (arith, reads_in c.before.before))
-    (λ c. omega (arith, reads_in c.before.before))
-    (λ c. omega (arith, reads_in c.before.before))
+    (λ c. omega (arith, reads_in c.before.before.before))
+    (λ c. omega (arith, reads_in c.before.before.before))
+    (λ c. omega (arith, reads_in c.before.before.before))
+    (λ c. omega (arith, reads_in c.before.before.before))
+    (λ c. omega (arith, reads_in c.before.before.before))
     (λ c κs. search rules)
     -- mul-at, element-copy-out-at, cast-at: the server before
-    (λ c. omega (arith, reads_in c.before.before.before))
-    (λ c. omega (arith, reads_in c.before.before.before))
     (λ c. omega (arith, reads_in c.before.before.before.before))
+    (λ c. omega (arith, reads_in c.before.before.before.before.before))
+    (λ c. omega (arith, reads_in c.before.before.before.before.before.before))
     -- add-hops, loop-less, loop-again
     (λ c. omega arith)
     (λ c. omega arith)

@@ -7,18 +7,18 @@ use Rattle.pick.proofs.UsableLaws.{Seeking, seeking_all, seeking_found, seeking_
 use Rattle.pick.proofs.picks.first_usable.Statement.{statement}
 use Rattle.pick.proofs.picks.first_usable.Tie as tie
 
-abbrev invariant_loop : tie.invariant_loop
-invariant_loop shape table source destination list count i₀ i = Seeking shape table source destination list i
+abbrev invariant-loop-i : tie.invariant-loop-i
+invariant-loop-i shape table source destination list count i₀ i = Seeking shape table source destination list i
 
-abbrev decreases_loop : tie.decreases_loop
-decreases_loop shape table source destination list count i₀ i = length list / 8 - i
+abbrev decreases-loop-i : tie.decreases-loop-i
+decreases-loop-i shape table source destination list count i₀ i = length list / 8 - i
 
 pub first_usable_spec : {M : Type 1} → statement M
 first_usable_spec =
     tie.close
     (tie.spec
-    invariant_loop
-    decreases_loop
+    invariant-loop-i
+    decreases-loop-i
     -- loop-holds
     (λ c. search seeking_all)
     -- mul-at, add-end, sub-walk, part-walk-start, part-walk-end, walk-requires: the eight bytes of an array

@@ -6,21 +6,21 @@ use Rattle.pick.proofs.picks.pick_route.Statement.{statement}
 use Rattle.pick.proofs.picks.pick_route.Tie as tie
 
 -- the eight bytes of the place lie in the fresh list
-fresh : (c : tie.After-struct-known2) → (
+fresh : (c : tie.After-struct_known-then-place-eq-FRESH-1) → (
     let asked = c.before.before.before in
     let given = asked.before.before.before.before in
-    Inside asked.pick_place.result.route given.args.fresh.now)
-fresh c = fresh-inside _ _ _ _ _ _ _ c.before.before.before.pick_place.ensures c.before.if1.true
+    Inside asked.pick_place-place.result-1.route given.args.fresh.now)
+fresh c = fresh-inside _ _ _ _ _ _ _ c.before.before.before.pick_place-place.ensures c.before.if-place-eq-FRESH.true
 
 -- or in the kept list
-kept : (c : tie.After-struct-known4) → (
+kept : (c : tie.After-struct_known-then-place-eq-KEPT-1) → (
     let first = c.before.before.before in
     let asked = first.before.before in
     let given = asked.before.before.before.before in
-    Inside asked.pick_place.result.route given.args.kept.now)
+    Inside asked.pick_place-place.result-1.route given.args.kept.now)
 kept c =
     let first = c.before.before.before in
-    kept-inside _ _ _ _ _ _ _ first.before.before.pick_place.ensures c.before.if2.true
+    kept-inside _ _ _ _ _ _ _ first.before.before.pick_place-place.ensures c.before.if-place-eq-KEPT.true
 
 pub pick_route_spec : {M : Type 1} → statement M
 pick_route_spec =
@@ -34,7 +34,7 @@ pick_route_spec =
     (λ c. let h = fresh c in omega arith)
     (λ c. let h = fresh c in omega arith)
     (λ c. let h = fresh c in omega arith)
-    (λ c. part_fresh _ _ _ _ _ _ _ c.before.before.before.before.pick_place.ensures _ _ c.before.before.if1.true)
+    (λ c. part_fresh _ _ _ _ _ _ _ c.before.before.before.before.pick_place-place.ensures _ _ c.before.before.if-place-eq-FRESH.true)
     -- mul-end-2, sub-result-3, sub-result-4, part-result-start-2, part-result-end-2, returns-2: in the kept list
     (λ c. let h = kept c in omega (arith, c.before.before.before.before.before.before.before.before.before.well-formed.1.1.1.1.1.0))
     (λ c. let h = kept c in omega arith)
@@ -43,11 +43,11 @@ pick_route_spec =
     (λ c. let h = kept c in omega arith)
     (λ c.
     let first = c.before.before.before.before in
-    part_kept _ _ _ _ _ _ _ first.before.before.pick_place.ensures _ _ c.before.before.if2.true)
+    part_kept _ _ _ _ _ _ _ first.before.before.pick_place-place.ensures _ _ c.before.before.if-place-eq-KEPT.true)
     -- sub-result-5, part-result-start-3, part-result-end-3, returns-3: in neither
     (λ c. search rules)
     (λ c. search rules)
     (λ c. search rules)
     (λ c.
     let first = c.before.before.before in
-    part_none _ _ _ _ _ _ _ first.before.before.pick_place.ensures _ _ first.if1.false c.before.if2.false))
+    part_none _ _ _ _ _ _ _ first.before.before.pick_place-place.ensures _ _ first.if-place-eq-FRESH.false c.before.if-place-eq-KEPT.false))

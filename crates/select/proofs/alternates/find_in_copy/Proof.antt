@@ -24,4 +24,4 @@ find_in_copy_spec =
     let first = second.before.before.before.before.before in
     let copied = first.before.before.before.before in
     let given = copied.before.before.before.before.requires in
-    around-slot _ _ given.0 copied.copy_in.ensures first.lay_arrays.ensures second.lay_arrays2.ensures c.find_route.ensures))
+    around-slot _ _ given.0 copied.copy_in.ensures first.lay_arrays.ensures second.lay_arrays-2.ensures c.find_route.ensures))

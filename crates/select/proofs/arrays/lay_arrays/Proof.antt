@@ -8,18 +8,18 @@ use Rattle.select.proofs.HeldLaws.{StillToLay, lay_starts, lay_more, lay_ends}
 use Rattle.select.proofs.arrays.lay_arrays.Statement.{statement}
 use Rattle.select.proofs.arrays.lay_arrays.Tie as tie
 
-abbrev invariant_loop : tie.invariant_loop
-invariant_loop shape copy₀ source destination set first end j₀ copy j = (length copy ≡ length copy₀) × StillToLay shape source destination set first end copy₀ j copy
+abbrev invariant-loop-j : tie.invariant-loop-j
+invariant-loop-j shape copy₀ source destination set first end j₀ copy j = (length copy ≡ length copy₀) × StillToLay shape source destination set first end copy₀ j copy
 
-abbrev decreases_loop : tie.decreases_loop
-decreases_loop shape copy₀ source destination set first end j₀ copy j = end - j
+abbrev decreases-loop-j : tie.decreases-loop-j
+decreases-loop-j shape copy₀ source destination set first end j₀ copy j = end - j
 
 pub lay_arrays_spec : {M : Type 1} → statement M
 lay_arrays_spec =
     tie.close
     (tie.spec
-    invariant_loop
-    decreases_loop
+    invariant-loop-j
+    decreases-loop-j
     -- loop-holds
     (λ c. (refl, lay_starts))
     -- array-at-requires, slice-aggregate-lay-route, lay-route-requires
@@ -32,4 +32,4 @@ lay_arrays_spec =
     (λ c. (omega arith, search lay_more))
     -- same-length, returns
     (λ c. omega arith)
-    (λ c. lay_ends c.before.loop.invariant.1 (omega arith)))
+    (λ c. lay_ends c.before.loop-j.invariant.1 (omega arith)))

@@ -15,7 +15,7 @@ select_routes_spec =
     (λ c. search selecting-refused)
     -- build-routes-requires, settle-slots-requires
     (λ c κs. search rules)
-    (λ c κs. (search built-answered, sym c.before.before.before.room_refusal.ensures ∙ c.before.before.if1.false))
+    (λ c κs. (search built-answered, sym c.before.before.before.room_refusal-refusal.ensures ∙ c.before.before.if-refusal-ne0.false))
     -- no-selection-requires-2, returns-2: 16
     (λ c κs. search rules)
     (λ c. search selecting-none)

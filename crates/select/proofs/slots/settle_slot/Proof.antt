@@ -27,4 +27,4 @@ settle_slot_spec =
     let walked = found.before.before.before in
     let array = walked.before.before in
     let given = array.before.before.before.requires in
-    so_replaced given.1 _ given.0 _ array.array_at.ensures _ walked.walk.ensures found.before.if1.false _ found.alternate.ensures c.before.before.if2.false _ c.with_route2.ensures))
+    so_replaced given.1 _ given.0 _ array.array_at-array.ensures _ walked.walk-walked.ensures found.before.if-walked-eq0.false _ found.alternate-found.ensures c.before.before.if-found-eq0.false _ c.with_route-2.ensures))

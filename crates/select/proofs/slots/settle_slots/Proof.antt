@@ -7,18 +7,18 @@ use Rattle.select.proofs.SlotCode.{so_starts, so_at, so_ends_at}
 use Rattle.select.proofs.slots.settle_slots.Statement.{statement}
 use Rattle.select.proofs.slots.settle_slots.Tie as tie
 
-abbrev invariant_loop : tie.invariant_loop
-invariant_loop shape table source destination built settled₀ left₀ settled left = SoFar shape table source destination left settled
+abbrev invariant-loop-left : tie.invariant-loop-left
+invariant-loop-left shape table source destination built settled₀ left₀ settled left = SoFar shape table source destination left settled
 
-abbrev decreases_loop : tie.decreases_loop
-decreases_loop shape table source destination built settled₀ left₀ settled left = left
+abbrev decreases-loop-left : tie.decreases-loop-left
+decreases-loop-left shape table source destination built settled₀ left₀ settled left = left
 
 pub settle_slots_spec : {M : Type 1} → statement M
 settle_slots_spec =
     tie.close
     (tie.spec
-    invariant_loop
-    decreases_loop
+    invariant-loop-left
+    decreases-loop-left
     -- new-requires, add-left, loop-holds
     (λ c κs. search rules)
     (λ c. let h = (room_of _ _ _ _ c.before.before.before.requires.1).0 in omega arith)
@@ -27,6 +27,6 @@ settle_slots_spec =
     (λ c. omega arith)
     (λ c κs. (search rules, search so_at))
     (λ c. omega arith)
-    (λ c. c.settle_slot.ensures)
+    (λ c. c.settle_slot-next.ensures)
     -- returns
-    (λ c. so_ends_at c.before.loop.invariant (omega arith)))
+    (λ c. so_ends_at c.before.loop-left.invariant (omega arith)))
