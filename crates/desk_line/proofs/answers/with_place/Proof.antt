@@ -13,18 +13,18 @@ with_place_spec =
     tie.close
     (tie.spec
     -- mul-start, add-end, sub-route: the place of the route's eight bytes
-    (λ c. let h : c.before.args.place ≤ 3 = search place-small in omega arith)
-    (λ c. let h : c.before.args.place ≤ 3 = search place-small in omega arith)
+    (λ c. let h : c.args.place ≤ 3 = search place-small in omega arith)
+    (λ c. let h : c.args.place ≤ 3 = search place-small in omega arith)
     (λ c. search rules)
     -- part-route-start, part-route-end: they lie in the set
     (λ c. search rules)
     (λ c.
-    let a = c.before.before.args in
+    let a = c.args in
     let h : a.place ≤ 3 = search place-small in
-    let l : length a.routes.bytes-1 ≡ 32 = search set_long in
+    let l : length a.routes.bytes ≡ 32 = search set_long in
     search rules)
     -- read-path-requires, sub-with-route, with-route-requires, returns: the route read
     (λ c κs. search rules)
-    (λ c. let h : 1 ≤ c.before.read_path-read.result.count = search read_some in omega arith)
+    (λ c. let h : 1 ≤ c.read_path-read.result.count = search read_some in omega arith)
     (λ c κs. search (part_long, read-few))
     (λ c. search read-line))

@@ -8,8 +8,7 @@ pub with_parent_spec : {M : Type 1} → statement M
 with_parent_spec =
     tie.close
     (tie.spec
-    -- slice-aggregate-with-word, with-word-requires, returns: the source
-    (λ c. search rules)
+    -- with_word-requires, returns: the source
     (λ c κs. search dash-room)
     (λ c. search dash-made)
     -- parent-of-requires, with-server-requires, returns-2: any other server

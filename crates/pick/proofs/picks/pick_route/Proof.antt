@@ -9,7 +9,7 @@ use Rattle.pick.proofs.picks.pick_route.Tie as tie
 fresh : (c : tie.After-struct_known-then-place-eq-FRESH-1) → (
     let asked = c.before.before.before in
     let given = asked.before.before.before.before in
-    Inside asked.pick_place-place.result-1.route given.args.fresh.now)
+    Inside asked.pick_place-place.result.route given.args.fresh.now)
 fresh c = fresh-inside _ _ _ _ _ _ _ c.before.before.before.pick_place-place.ensures c.before.if-place-eq-FRESH.true
 
 -- or in the kept list
@@ -17,7 +17,7 @@ kept : (c : tie.After-struct_known-then-place-eq-KEPT-1) → (
     let first = c.before.before.before in
     let asked = first.before.before in
     let given = asked.before.before.before.before in
-    Inside asked.pick_place-place.result-1.route given.args.kept.now)
+    Inside asked.pick_place-place.result.route given.args.kept.now)
 kept c =
     let first = c.before.before.before in
     kept-inside _ _ _ _ _ _ _ first.before.before.pick_place-place.ensures c.before.if-place-eq-KEPT.true
@@ -36,7 +36,7 @@ pick_route_spec =
     (λ c. let h = fresh c in omega arith)
     (λ c. part_fresh _ _ _ _ _ _ _ c.before.before.before.before.pick_place-place.ensures _ _ c.before.before.if-place-eq-FRESH.true)
     -- mul-end-2, sub-result-3, sub-result-4, part-result-start-2, part-result-end-2, returns-2: in the kept list
-    (λ c. let h = kept c in omega (arith, c.before.before.before.before.before.before.before.before.before.well-formed.1.1.1.1.1.0))
+    (λ c. let h = kept c in omega (arith, c.before.before.before.before.before.before.before.before.before.well_formed.1.1.1.1.1.0))
     (λ c. let h = kept c in omega arith)
     (λ c. let h = kept c in omega arith)
     (λ c. let h = kept c in omega arith)

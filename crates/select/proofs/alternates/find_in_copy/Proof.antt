@@ -20,8 +20,8 @@ find_in_copy_spec =
     (λ c κs. search rules)
     (λ c. search rules)
     (λ c.
-    let second = c.before.before.before.before in
-    let first = second.before.before.before.before.before in
-    let copied = first.before.before.before.before in
-    let given = copied.before.before.before.before.requires in
+    let second = c in
+    let first = second in
+    let copied = first in
+    let given = copied.requires in
     around-slot _ _ given.0 copied.copy_in.ensures first.lay_arrays.ensures second.lay_arrays-2.ensures c.find_route.ensures))

@@ -27,4 +27,4 @@ array_at_spec =
     (λ c. omega arith)
     (λ c. omega arith)
     (λ c. omega arith)
-    (λ c. let a = c.before.args in let l : length a.set.bytes-1 ≡ 32 = search rules in array-bytes _ a.set (omega arith) l))
+    (λ c. let a = c.before.args in let l : length a.set.bytes ≡ 32 = search rules in array-bytes _ a.set (omega arith) l))
