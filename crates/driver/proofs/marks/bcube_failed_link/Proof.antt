@@ -14,16 +14,16 @@ bcube_failed_link_spec =
     (λ c κs. search rules)
     (λ c κs. search rules)
     -- result-word-requires, returns: the link is failed
-    (λ c κs. asked-fits _ _ _ _ _ (omega arith) c.before.failed_link.ensures)
+    (λ c κs. asked-fits _ _ _ _ _ (omega arith) c.before.failed_link-answer.ensures)
     (λ c.
     let asked = c.before.before in
     let a = asked.before.before.before.args in
     failed_said (λ s. failed_answer s a.table.now a.server a.level)
-    c.result_word.ensures c.before.if1.true asked.failed_link.ensures asked.before.shape_in.ensures)
+    c.result_word.ensures c.before.if-answer.true asked.failed_link-answer.ensures asked.before.shape_in-shape.ensures)
     -- result-word-requires-2, returns-2: it is live
-    (λ c κs. asked-fits _ _ _ _ _ (omega arith) c.before.failed_link.ensures)
+    (λ c κs. asked-fits _ _ _ _ _ (omega arith) c.before.failed_link-answer.ensures)
     (λ c.
     let asked = c.before.before in
     let a = asked.before.before.before.args in
     live_said (λ s. failed_answer s a.table.now a.server a.level)
-    c.result_word2.ensures c.before.if1.false asked.failed_link.ensures asked.before.shape_in.ensures))
+    c.result_word-2.ensures c.before.if-answer.false asked.failed_link-answer.ensures asked.before.shape_in-shape.ensures))

@@ -15,7 +15,7 @@ bcube_mark_spec =
     (λ c κs. search rules)
     (λ c κs. search rules)
     -- result-word-requires, same-length, same-length-2, returns
-    (λ c κs. link_fits _ _ _ _ _ c.before.before.before.before.mark_link.ensures.0)
+    (λ c κs. link_fits _ _ _ _ _ c.before.before.before.before.mark_link-refusal.ensures.0)
     (λ c. search rules)
     (λ c. search rules)
     (λ c.
@@ -24,5 +24,5 @@ bcube_mark_spec =
     changed_both
     (λ s. link_answer s a.table.now a.summary.now a.server a.level)
     (λ s. link_table true s a.table.now a.summary.now a.server a.level)
-    changed.before.before.before.shape_in.ensures c.result_word.ensures
-    (λ s. link_summary true s a.table.now a.summary.now a.server a.level) changed.mark_link.ensures))
+    changed.before.before.before.shape_in-shape.ensures c.result_word.ensures
+    (λ s. link_summary true s a.table.now a.summary.now a.server a.level) changed.mark_link-refusal.ensures))

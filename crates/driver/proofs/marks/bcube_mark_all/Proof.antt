@@ -15,7 +15,7 @@ bcube_mark_all_spec =
     (λ c κs. search rules)
     (λ c κs. search rules)
     -- result-word-requires, same-length, same-length-2, returns
-    (λ c κs. server-fits _ _ _ _ c.before.before.before.before.mark_server.ensures.0)
+    (λ c κs. server-fits _ _ _ _ c.before.before.before.before.mark_server-refusal.ensures.0)
     (λ c. search rules)
     (λ c. search rules)
     (λ c.
@@ -24,5 +24,5 @@ bcube_mark_all_spec =
     changed_both
     (λ s. server_answer s a.table.now a.summary.now a.server)
     (λ s. server_table true s a.table.now a.summary.now a.server)
-    changed.before.before.before.shape_in.ensures c.result_word.ensures
-    (λ s. server_summary true s a.table.now a.summary.now a.server) changed.mark_server.ensures))
+    changed.before.before.before.shape_in-shape.ensures c.result_word.ensures
+    (λ s. server_summary true s a.table.now a.summary.now a.server) changed.mark_server-refusal.ensures))

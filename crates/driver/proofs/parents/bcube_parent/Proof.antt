@@ -15,8 +15,8 @@ bcube_parent_spec =
     (λ c κs. search rules)
     (λ c κs. search rules)
     -- result-word-requires, returns
-    (λ c κs. number_fits _ _ (parent-small _ _ _ _) c.parent_of.ensures)
+    (λ c κs. number_fits _ _ (parent-small _ _ _ _) c.parent_of-answer.ensures)
     (λ c.
     let a = c.before.before.before.args in
     said number_word (λ s. parent_answer s a.source a.tree a.server)
-    c.result_word.ensures c.before.parent_of.ensures c.before.before.shape_in.ensures))
+    c.result_word.ensures c.before.parent_of-answer.ensures c.before.before.shape_in.ensures))

@@ -16,11 +16,11 @@ bcube_tree_spec =
     (λ c κs. search rules)
     (λ c κs. search rules)
     -- result-word-requires, returns
-    (λ c κs. number_fits _ _ (tree-small _ _ _) c.write_tree.ensures.0)
+    (λ c κs. number_fits _ _ (tree-small _ _ _) c.write_tree-answer.ensures.0)
     (λ c.
     let wrote = c.before in
     let a = wrote.before.before.before.args in
     written_one number_word
     (λ s. tree_answer s a.source a.tree)
     (λ s. tree_left s a.source a.tree a.parents.now)
-    wrote.before.before.shape_in.ensures c.result_word.ensures wrote.write_tree.ensures))
+    wrote.before.before.shape_in-shape.ensures c.result_word.ensures wrote.write_tree-answer.ensures))

@@ -15,11 +15,11 @@ bcube_check_spec =
     -- shape-in-requires, check-list-requires, result-word-requires
     (λ c κs. search rules)
     (λ c κs. search rules)
-    (λ c κs. told-fits (λ (x : Refusal). x) (λ (x : Refusal). 0) (check-small _ _ _ _ _) c.check_list.ensures)
+    (λ c κs. told-fits (λ (x : Refusal). x) (λ (x : Refusal). 0) (check-small _ _ _ _ _) c.check_list-refusal.ensures)
     -- returns
     (λ c.
     let checked = c.before in
     let a = checked.before.before.before.before.args in
     told-word (λ (x : Refusal). x) (λ (x : Refusal). 0)
     (λ (s : Shape). check_answer s a.table.now a.source a.destination a.list.now)
-    checked.check_list.ensures checked.before.shape_in.ensures c.result_word.ensures))
+    checked.check_list-refusal.ensures checked.before.shape_in-shape.ensures c.result_word.ensures))

@@ -18,13 +18,13 @@ bcube_hop_of_spec =
     (λ c κs. search rules)
     (λ c κs. search rules)
     -- mul-result-word, add-result-word, mul-result-word-2, add-result-word-2: the value fits
-    (λ c. let h = hop-found _ _ _ _ c.before.hop_of.ensures in omega (arith, h.level))
-    (λ c. let h = hop-found _ _ _ _ c.before.before.hop_of.ensures in omega (arith, h.level, h.old))
-    (λ c. let h = hop-found _ _ _ _ c.before.before.hop_of.ensures in omega (arith, h.level, h.old))
-    (λ c. let h = hop-found _ _ _ _ c.before.before.before.hop_of.ensures in omega (arith, h.level, h.old, h.next))
+    (λ c. let h = hop-found _ _ _ _ c.before.hop_of-hop.ensures in omega (arith, h.level))
+    (λ c. let h = hop-found _ _ _ _ c.before.before.hop_of-hop.ensures in omega (arith, h.level, h.old))
+    (λ c. let h = hop-found _ _ _ _ c.before.before.hop_of-hop.ensures in omega (arith, h.level, h.old))
+    (λ c. let h = hop-found _ _ _ _ c.before.before.before.hop_of-hop.ensures in omega (arith, h.level, h.old, h.next))
     -- result-word-requires, returns
-    (λ c κs. (hop-found _ _ _ _ c.before.before.before.hop_of.ensures).small)
+    (λ c κs. (hop-found _ _ _ _ c.before.before.before.hop_of-hop.ensures).small)
     (λ c.
     let hop = c.before.before.before.before in
     let a = hop.before.before.args in
-    said hop_word (λ s. hop_answer s a.server a.byte) c.result_word.ensures hop.hop_of.ensures hop.before.shape_in.ensures))
+    said hop_word (λ s. hop_answer s a.server a.byte) c.result_word.ensures hop.hop_of-hop.ensures hop.before.shape_in.ensures))

@@ -15,8 +15,8 @@ bcube_path_byte_spec =
     (λ c κs. search rules)
     (λ c κs. search rules)
     -- result-word-requires, returns
-    (λ c κs. number_fits _ _ (byte_small _ _ _) c.byte_of.ensures)
+    (λ c κs. number_fits _ _ (byte_small _ _ _) c.byte_of-answer.ensures)
     (λ c.
     let a = c.before.before.before.args in
     said number_word (λ s. byte_answer s a.level a.value)
-    c.result_word.ensures c.before.byte_of.ensures c.before.before.shape_in.ensures))
+    c.result_word.ensures c.before.byte_of-answer.ensures c.before.before.shape_in.ensures))

@@ -16,11 +16,11 @@ bcube_path_byte_parts_spec =
     (λ c κs. search rules)
     (λ c κs. search rules)
     -- mul-result-word, add-result-word: the value fits
-    (λ c. let h = parts_found _ _ _ c.before.parts_of.ensures in omega (arith, h.level))
-    (λ c. let h = parts_found _ _ _ c.before.before.parts_of.ensures in omega (arith, h.level, h.value))
+    (λ c. let h = parts_found _ _ _ c.before.parts_of-parts.ensures in omega (arith, h.level))
+    (λ c. let h = parts_found _ _ _ c.before.before.parts_of-parts.ensures in omega (arith, h.level, h.value))
     -- result-word-requires, returns
-    (λ c κs. (parts_found _ _ _ c.before.before.parts_of.ensures).small)
+    (λ c κs. (parts_found _ _ _ c.before.before.parts_of-parts.ensures).small)
     (λ c.
     let parts = c.before.before.before in
     let a = parts.before.before.args in
-    said parts_word (λ s. parts_answer s a.byte) c.result_word.ensures parts.parts_of.ensures parts.before.shape_in.ensures))
+    said parts_word (λ s. parts_answer s a.byte) c.result_word.ensures parts.parts_of-parts.ensures parts.before.shape_in.ensures))

@@ -17,13 +17,13 @@ bcube_pick_spec =
     (λ c κs. search rules)
     (λ c κs. search rules)
     -- mul-result-word, add-result-word, result-word-requires: the list and the place fit
-    (λ c. let h = pick_small _ _ _ _ _ _ _ c.before.pick_place.ensures in omega (arith, h.value))
-    (λ c. let h = pick_small _ _ _ _ _ _ _ c.before.before.pick_place.ensures in omega (arith, h.value))
-    (λ c κs. pick_small _ _ _ _ _ _ _ c.before.before.pick_place.ensures)
+    (λ c. let h = pick_small _ _ _ _ _ _ _ c.before.pick_place-place.ensures in omega (arith, h.value))
+    (λ c. let h = pick_small _ _ _ _ _ _ _ c.before.before.pick_place-place.ensures in omega (arith, h.value))
+    (λ c κs. pick_small _ _ _ _ _ _ _ c.before.before.pick_place-place.ensures)
     -- returns
     (λ c.
     let picked = c.before.before.before in
     let asked = picked.before in
     let a = asked.before.before.before.before.args in
     said place_word (λ (s : Shape). place_answer s a.table.now a.source a.destination a.fresh.now a.kept.now)
-    c.result_word.ensures picked.pick_place.ensures asked.shape_in.ensures))
+    c.result_word.ensures picked.pick_place-place.ensures asked.shape_in-shape.ensures))

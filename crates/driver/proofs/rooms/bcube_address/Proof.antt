@@ -17,8 +17,8 @@ bcube_address_spec =
     (λ c κs. search rules)
     (λ c κs. search rules)
     -- result-word-requires, returns
-    (λ c κs. number_fits _ _ (address-small _ _ refl) c.address_of.ensures)
+    (λ c κs. number_fits _ _ (address-small _ _ refl) c.address_of-answer.ensures)
     (λ c.
     let a = c.before.before.before.args in
     said number_word (λ s. address_answer s (a.d0 ∷ a.d1 ∷ a.d2 ∷ a.d3 ∷ []))
-    c.result_word.ensures c.before.address_of.ensures c.before.before.shape_in.ensures))
+    c.result_word.ensures c.before.address_of-answer.ensures c.before.before.shape_in.ensures))

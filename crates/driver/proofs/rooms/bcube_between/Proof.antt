@@ -14,20 +14,20 @@ bcube_between_spec =
     (λ c κs. search rules)
     (λ c κs. search rules)
     -- add-result-word, result-word-requires, returns: they are neighbours
-    (λ c. let h = between-level _ _ _ c.before.before.level_between.ensures in omega arith)
+    (λ c. let h = between-level _ _ _ c.before.before.level_between-answer.ensures in omega arith)
     (λ c κs.
-    let e = c.before.before.level_between.ensures in
+    let e = c.before.before.level_between-answer.ensures in
     let h = between-level _ _ _ e in
     between-fits _ _ _ _ (omega arith) e)
     (λ c.
     let found = c.before.before.before in
     let a = found.before.before.args in
     between_said (λ s. between_answer s a.one a.other)
-    c.result_word.ensures c.before.before.if1.true found.level_between.ensures found.before.shape_in.ensures)
+    c.result_word.ensures c.before.before.if-answer.true found.level_between-answer.ensures found.before.shape_in-shape.ensures)
     -- result-word-requires-2, returns-2: they are not
-    (λ c κs. between-fits _ _ _ _ (omega arith) c.before.level_between.ensures)
+    (λ c κs. between-fits _ _ _ _ (omega arith) c.before.level_between-answer.ensures)
     (λ c.
     let found = c.before.before in
     let a = found.before.before.args in
     apart_said (λ s. between_answer s a.one a.other)
-    c.result_word2.ensures c.before.if1.false found.level_between.ensures found.before.shape_in.ensures))
+    c.result_word-2.ensures c.before.if-answer.false found.level_between-answer.ensures found.before.shape_in-shape.ensures))

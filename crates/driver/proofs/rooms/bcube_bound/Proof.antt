@@ -15,8 +15,8 @@ bcube_bound_spec =
     (λ c κs. search rules)
     (λ c κs. search rules)
     -- result-word-requires, returns
-    (λ c κs. number_fits _ _ (bound-small _ _) c.bound_of.ensures)
+    (λ c κs. number_fits _ _ (bound-small _ _) c.bound_of-answer.ensures)
     (λ c.
     let a = c.before.before.before.args in
     said number_word (λ s. bound_answer s a.level)
-    c.result_word.ensures c.before.bound_of.ensures c.before.before.shape_in.ensures))
+    c.result_word.ensures c.before.bound_of-answer.ensures c.before.before.shape_in.ensures))

@@ -15,8 +15,8 @@ bcube_digit_spec =
     (λ c κs. search rules)
     (λ c κs. search rules)
     -- result-word-requires, returns
-    (λ c κs. number_fits _ _ (digit-small _ _ _) c.digit_of.ensures)
+    (λ c κs. number_fits _ _ (digit-small _ _ _) c.digit_of-answer.ensures)
     (λ c.
     let a = c.before.before.before.args in
     said number_word (λ s. digit_answer s a.server a.level)
-    c.result_word.ensures c.before.digit_of.ensures c.before.before.shape_in.ensures))
+    c.result_word.ensures c.before.digit_of-answer.ensures c.before.before.shape_in-shape.ensures))

@@ -17,18 +17,18 @@ bcube_digits_spec =
     -- shape-in-requires, digits-of-requires, result-word-requires
     (λ c κs. search rules)
     (λ c κs. search rules)
-    (λ c κs. digits-fits _ _ _ (lit< tt) c.digits_of.ensures)
+    (λ c κs. digits-fits _ _ _ (lit< tt) c.digits_of-answer.ensures)
     -- returns: refused, and the buffer as it was lent
     (λ c.
     let found = c.before.before.before in
     let a = found.before.before.args in
     told-refused (λ (x : Digits). x.refusal) (λ (x : Digits). 0) (λ (s : Shape). digits_answer s a.server)
-    found.digits_of.ensures found.before.shape_in.ensures c.before.before.result_word.ensures
-    (λ (x : Digits). x.places) _ c.if1.true)
+    found.digits_of-answer.ensures found.before.shape_in.ensures c.before.before.result_word-result.ensures
+    (λ (x : Digits). x.places) _ c.if-answer-ne0.true)
     -- returns-2: the answer, and what it puts into the buffer
     (λ c.
     let found = c.before.before.before.before in
     let a = found.before.before.args in
     told-given (λ (x : Digits). x.refusal) (λ (x : Digits). 0) (λ (s : Shape). digits_answer s a.server)
-    found.digits_of.ensures found.before.shape_in.ensures c.before.before.before.result_word.ensures
-    (λ (x : Digits). x.places) _ c.before.if1.false refl))
+    found.digits_of-answer.ensures found.before.shape_in.ensures c.before.before.before.result_word-result.ensures
+    (λ (x : Digits). x.places) _ c.before.if-answer-ne0.false refl))

@@ -15,8 +15,8 @@ bcube_neighbour_spec =
     (λ c κs. search rules)
     (λ c κs. search rules)
     -- result-word-requires, returns
-    (λ c κs. number_fits _ _ (neighbour-small _ _ _ _) c.neighbour_of.ensures)
+    (λ c κs. number_fits _ _ (neighbour-small _ _ _ _) c.neighbour_of-answer.ensures)
     (λ c.
     let a = c.before.before.before.args in
     said number_word (λ s. neighbour_answer s a.server a.level a.value)
-    c.result_word.ensures c.before.neighbour_of.ensures c.before.before.shape_in.ensures))
+    c.result_word.ensures c.before.neighbour_of-answer.ensures c.before.before.shape_in-shape.ensures))

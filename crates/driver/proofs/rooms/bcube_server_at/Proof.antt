@@ -15,8 +15,8 @@ bcube_server_at_spec =
     (λ c κs. search rules)
     (λ c κs. search rules)
     -- result-word-requires, returns
-    (λ c κs. number_fits _ _ (server-at-small _ _ _ _) c.server_at.ensures)
+    (λ c κs. number_fits _ _ (server-at-small _ _ _ _) c.server_at-answer.ensures)
     (λ c.
     let a = c.before.before.before.args in
     said number_word (λ s. server_at_answer s a.level a.number a.port)
-    c.result_word.ensures c.before.server_at.ensures c.before.before.shape_in.ensures))
+    c.result_word.ensures c.before.server_at-answer.ensures c.before.before.shape_in.ensures))

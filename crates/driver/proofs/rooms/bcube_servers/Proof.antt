@@ -15,5 +15,5 @@ bcube_servers_spec =
     (λ c κs. search rules)
     (λ c κs. search rules)
     -- result-word-requires, returns
-    (λ c κs. number_fits _ _ (servers-small _) c.servers_of.ensures)
-    (λ c. said number_word servers_answer c.result_word.ensures c.before.servers_of.ensures c.before.before.shape_in.ensures))
+    (λ c κs. number_fits _ _ (servers-small _) c.servers_of-answer.ensures)
+    (λ c. said number_word servers_answer c.result_word.ensures c.before.servers_of-answer.ensures c.before.before.shape_in.ensures))

@@ -18,7 +18,7 @@ bcube_shape_spec =
     (λ c κs. search rules)
     (λ c κs. search rules)
     -- result-word-requires, returns
-    (λ c κs. plain_fits _ (one_le 255 refl (shape-numbers _)) (omega arith) c.before.shape_refusal.ensures c.plain.ensures)
+    (λ c κs. plain_fits _ (one_le 255 refl (shape-numbers _)) (omega arith) c.before.shape_refusal-number.ensures c.plain.ensures)
     (λ c.
     plain_said shape_refusal c.result_word.ensures c.before.plain.ensures
-    c.before.before.shape_refusal.ensures c.before.before.before.shape_in.ensures))
+    c.before.before.shape_refusal-number.ensures c.before.before.before.shape_in.ensures))

@@ -16,8 +16,8 @@ bcube_switch_spec =
     (λ c κs. search rules)
     (λ c κs. search rules)
     -- result-word-requires, returns
-    (λ c κs. told-fits (λ (x : Switch). x.refusal) (λ (x : Switch). x.number) (switch-small _ _ _) c.switch_of.ensures)
+    (λ c κs. told-fits (λ (x : Switch). x.refusal) (λ (x : Switch). x.number) (switch-small _ _ _) c.switch_of-answer.ensures)
     (λ c.
     let a = c.before.before.before.args in
     said switch_word (λ s. switch_answer s a.server a.level)
-    c.result_word.ensures c.before.switch_of.ensures c.before.before.shape_in.ensures))
+    c.result_word.ensures c.before.switch_of-answer.ensures c.before.before.shape_in-shape.ensures))

@@ -14,12 +14,12 @@ bcube_build_spec =
     -- shape-in-requires, build-routes-requires, result-word-requires
     (λ c κs. search rules)
     (λ c κs. search rules)
-    (λ c κs. build-small _ _ _ _ c.before.before.before.build_routes.ensures)
+    (λ c κs. build-small _ _ _ _ c.before.before.before.build_routes-built.ensures)
     -- returns: the buffer takes the routes, or stays as it was lent
     (λ c.
     let made = c.before.before.before.before in
-    build_said _ _ _ made.build_routes.ensures made.before.shape_in.ensures c.result_word.ensures
+    build_said _ _ _ made.build_routes-built.ensures made.before.shape_in-shape.ensures c.result_word.ensures
     (⊎_elim
-    (λ w. w.2 ∙ left-given _ _ _ w.0.taken)
-    (λ w. w.1 ∙ left_lent _ _ _ w.0.left)
-    c.before.if1.branch)))
+    (λ w. w.routes-is ∙ left-given _ _ _ w.if-built-eq0.true)
+    (λ w. w.routes-is ∙ left_lent _ _ _ w.if-built-eq0.false)
+    c.before.if-built-eq0.branch-raw)))

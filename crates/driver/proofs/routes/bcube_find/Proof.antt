@@ -14,12 +14,12 @@ bcube_find_spec =
     -- shape-in-requires, find-route-requires, result-word-requires
     (λ c κs. search rules)
     (λ c κs. search rules)
-    (λ c κs. find-small _ c.before.before.find_route.ensures)
+    (λ c κs. find-small _ c.before.before.find_route-found.ensures)
     -- returns: the buffer takes the route, or stays as it was lent
     (λ c.
     let made = c.before.before.before in
-    find_said made.find_route.ensures made.before.shape_in.ensures c.result_word.ensures
+    find_said made.find_route-found.ensures made.before.shape_in-shape.ensures c.result_word.ensures
     (⊎_elim
-    (λ w. w.2 ∙ left-given _ _ _ w.0.taken)
-    (λ w. w.1 ∙ left_lent _ _ _ w.0.left)
-    c.before.if1.branch)))
+    (λ w. w.path-is ∙ left-given _ _ _ w.if-found-eq0.true)
+    (λ w. w.path-is ∙ left_lent _ _ _ w.if-found-eq0.false)
+    c.before.if-found-eq0.branch-raw)))

@@ -14,12 +14,12 @@ bcube_select_spec =
     -- shape-in-requires, select-routes-requires, result-word-requires
     (λ c κs. search rules)
     (λ c κs. search rules)
-    (λ c κs. select-small _ c.before.before.before.select_routes.ensures)
+    (λ c κs. select-small _ c.before.before.before.select_routes-selected.ensures)
     -- returns: the buffer takes the routes, or stays as it was lent
     (λ c.
     let made = c.before.before.before.before in
-    select_said made.select_routes.ensures made.before.shape_in.ensures c.result_word.ensures
+    select_said made.select_routes-selected.ensures made.before.shape_in-shape.ensures c.result_word.ensures
     (⊎_elim
-    (λ w. w.2 ∙ left-given _ _ _ w.0.taken)
-    (λ w. w.1 ∙ left_lent _ _ _ w.0.left)
-    c.before.if1.branch)))
+    (λ w. w.routes-is ∙ left-given _ _ _ w.if-selected-eq0.true)
+    (λ w. w.routes-is ∙ left_lent _ _ _ w.if-selected-eq0.false)
+    c.before.if-selected-eq0.branch-raw)))

@@ -17,4 +17,4 @@ room_of_spec =
     -- n
     (λ c κs. search rules)
     (λ c. search rules)
-    (λ c. room-made _ _ _ c.at-most-2553.ensures.0 c.before.before.at_most_255.ensures.0 c.before.at-most-2552.ensures.0))
+    (λ c. room-made _ _ _ c.at_most_255-3.ensures.0 c.before.before.at_most_255.ensures.0 c.before.at_most_255-2.ensures.0))

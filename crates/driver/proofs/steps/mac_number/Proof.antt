@@ -37,6 +37,6 @@ mac_number_spec =
     -- returns
     (λ c.
     let read = c.before.before.before in
-    let t = read.before.before.before.args.t1 in
+    let t = read.before.before.before.args.mac in
     let l : length t ≡ 6 = search rules in
     omega (arith, mac-made t l)))

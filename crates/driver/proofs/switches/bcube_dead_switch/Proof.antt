@@ -21,11 +21,11 @@ bcube_dead_switch_spec =
     let asked = c.before.before.before.before in
     let a = asked.before.before.before.before.args in
     dead_said (λ s. dead_answer s a.table.now a.summary.now)
-    c.result_word.ensures c.before.before.before.if1.true asked.dead_switch.ensures asked.before.shape_in.ensures)
+    c.result_word.ensures c.before.before.before.if-answer.true asked.dead_switch-answer.ensures asked.before.shape_in-shape.ensures)
     -- result-word-requires-2, returns-2: none is
     (λ c κs. search none-fits)
     (λ c.
     let asked = c.before.before in
     let a = asked.before.before.before.before.args in
     none_said (λ s. dead_answer s a.table.now a.summary.now)
-    c.result_word2.ensures c.before.if1.false asked.dead_switch.ensures asked.before.shape_in.ensures))
+    c.result_word-2.ensures c.before.if-answer.false asked.dead_switch-answer.ensures asked.before.shape_in-shape.ensures))

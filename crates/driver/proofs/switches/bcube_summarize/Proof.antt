@@ -14,7 +14,7 @@ bcube_summarize_spec =
     (λ c κs. search rules)
     (λ c κs. search rules)
     -- result-word-requires, same-length, returns
-    (λ c κs. fresh-fits _ _ _ c.before.before.summarize.ensures.0)
+    (λ c κs. fresh-fits _ _ _ c.before.before.summarize-refusal.ensures.0)
     (λ c. search rules)
     (λ c.
     let changed = c.before.before.before in
@@ -22,4 +22,4 @@ bcube_summarize_spec =
     changed-one
     (λ s. fresh_answer s a.table.now a.summary.now)
     (λ s. fresh_summary s a.table.now a.summary.now)
-    changed.before.before.shape_in.ensures c.result_word.ensures changed.summarize.ensures))
+    changed.before.before.shape_in-shape.ensures c.result_word.ensures changed.summarize-refusal.ensures))
