@@ -23,7 +23,7 @@ use Rattle.driver.proofs.bcube_reverse.Reads as bcube_reverse_reads
 use Rattle.driver.proofs.bcube_check.Reads as bcube_check_reads
 use Rattle.driver.proofs.bcube_pick.Reads as bcube_pick_reads
 use Rattle.driver.proofs.bcube_step.Reads as bcube_step_reads
-use Rattle.wrong.specs.Never.{NeverLeaves, NeverTells, NeverSo, Loan, second, third, fifth, ◌&◌, ◌lends◌}
+use Rattle.wrong.specs.Never.{NeverLeaves, NeverTells, NeverSo, Loan, second, third, fifth, ◌&◌, ◌lends◌, ◌lends_mut◌}
 use Rattle.wrong.specs.Examples.{none_failed, switch_twice, straight_back, round_to_source, round_to_server, switch_later, eight_round, stale}
 
 -- refusal r at hop h of route 1, with hop g as the earlier one
@@ -164,24 +164,24 @@ pub record Again (o q b : Loan) : Type 0 where
   pub walk : Misread walk_reads.Post (λ s d bs. s & o lends [] & 0 & d & q lends bs & tt) (λ y. y.refusal)
   pub read_path : Misread read_path_reads.Post (λ s d bs. s & 0 & d & q lends bs & tt) (λ y. y.refusal)
   pub reverse_path : Misread reverse_path_reads.Post (λ s d bs. s & 0 & d & q lends bs & tt) (λ y. y.refusal)
-  pub lay_route : Misread lay_route_reads.Post (λ s d bs. s & o lends none_failed s & 0 & d & q lends bs & tt) (λ y. y)
+  pub lay_route : Misread lay_route_reads.Post (λ s d bs. s & o lends_mut none_failed s & 0 & d & q lends bs & tt) (λ y. y)
   pub check_list : Misread check_list_reads.Post (λ s d bs. s & o lends none_failed s & 0 & d & q lends bs & tt) (λ y. y)
   pub write_path : Miswritten write_path_reads.Post (λ s vs. s & q lends vs & tt) (λ y. y.refusal)
   -- from C
-  pub bcube_read : Misread bcube_read_reads.Post (λ s d bs. room_for s & 0 & d & q lends bs & b lends stale 9 & tt) refusal_in
-  pub bcube_reverse : Misread bcube_reverse_reads.Post (λ s d bs. room_for s & 0 & d & q lends bs & b lends stale 8 & tt) refusal_in
+  pub bcube_read : Misread bcube_read_reads.Post (λ s d bs. room_for s & 0 & d & q lends bs & b lends_mut stale 9 & tt) refusal_in
+  pub bcube_reverse : Misread bcube_reverse_reads.Post (λ s d bs. room_for s & 0 & d & q lends bs & b lends_mut stale 8 & tt) refusal_in
   pub bcube_check : Misread bcube_check_reads.Post (λ s d bs. room_for s & 0 & d & o lends none_failed s & q lends bs & tt) refusal_in
-  pub bcube_write : Miswritten bcube_write_reads.Post (λ s vs. room_for s & q lends vs & b lends stale 8 & tt) refusal_in
+  pub bcube_write : Miswritten bcube_write_reads.Post (λ s vs. room_for s & q lends vs & b lends_mut stale 8 & tt) refusal_in
   -- with any arguments, from Rattle
   pub any_walk : (s : Shape) (t : List ℕ) (a d : ℕ) (bs : List ℕ) → Misnamed walk_reads.Post (s & o lends t & a & d & q lends bs & tt) (λ y. y.refusal)
   pub any_read_path : (s : Shape) (a d : ℕ) (bs : List ℕ) → Misnamed read_path_reads.Post (s & a & d & q lends bs & tt) (λ y. y.refusal)
   pub any_reverse_path : (s : Shape) (a d : ℕ) (bs : List ℕ) → Misnamed reverse_path_reads.Post (s & a & d & q lends bs & tt) (λ y. y.refusal)
-  pub any_lay_route : (s : Shape) (t : List ℕ) (a d : ℕ) (bs : List ℕ) → Misnamed lay_route_reads.Post (s & o lends t & a & d & q lends bs & tt) (λ y. y)
+  pub any_lay_route : (s : Shape) (t : List ℕ) (a d : ℕ) (bs : List ℕ) → Misnamed lay_route_reads.Post (s & o lends_mut t & a & d & q lends bs & tt) (λ y. y)
   pub any_write_path : (s : Shape) (vs : List ℕ) → Misnamed write_path_reads.Post (s & q lends vs & tt) (λ y. y.refusal)
   -- with any arguments, from C
-  pub any_bcube_read : (c : Room) (a d : ℕ) (bs lent : List ℕ) → Misnamed bcube_read_reads.Post (c & a & d & q lends bs & b lends lent & tt) refusal_in
-  pub any_bcube_reverse : (c : Room) (a d : ℕ) (bs lent : List ℕ) → Misnamed bcube_reverse_reads.Post (c & a & d & q lends bs & b lends lent & tt) refusal_in
-  pub any_bcube_write : (c : Room) (vs lent : List ℕ) → Misnamed bcube_write_reads.Post (c & q lends vs & b lends lent & tt) refusal_in
+  pub any_bcube_read : (c : Room) (a d : ℕ) (bs lent : List ℕ) → Misnamed bcube_read_reads.Post (c & a & d & q lends bs & b lends_mut lent & tt) refusal_in
+  pub any_bcube_reverse : (c : Room) (a d : ℕ) (bs lent : List ℕ) → Misnamed bcube_reverse_reads.Post (c & a & d & q lends bs & b lends_mut lent & tt) refusal_in
+  pub any_bcube_write : (c : Room) (vs lent : List ℕ) → Misnamed bcube_write_reads.Post (c & q lends vs & b lends_mut lent & tt) refusal_in
   -- picking and a step, with any arguments
   pub any_pick_place : (s : Shape) (t : List ℕ) (a d : ℕ) (fs ks : List ℕ) → Overtold pick_place_reads.Post (s & o lends t & a & d & q lends fs & b lends ks & tt) (λ y. y.refusal)
   pub any_pick_refusal : (s : Shape) (t : List ℕ) (a d : ℕ) (fs ks : List ℕ) → Overtold pick_refusal_reads.Post (s & o lends t & a & d & q lends fs & b lends ks & tt) (λ y. y)
@@ -189,9 +189,9 @@ pub record Again (o q b : Loan) : Type 0 where
   pub any_bcube_pick : (c : Room) (t : List ℕ) (a d : ℕ) (fs ks : List ℕ) → Overtold bcube_pick_reads.Post (c & a & d & o lends t & q lends fs & b lends ks & tt) refusal_in
   pub any_bcube_step : (c : Room) (a d i : ℕ) (bs es : List ℕ) → Bytes es → Overtold bcube_step_reads.Post (c & a & d & i & q lends bs & o lends es & tt) (λ y. (unpacked y).refusal)
   -- the buffer touched on 28 or 29: the servers met before it, the way back of the hops before it, the bytes before it
-  pub read_touched : NeverLeaves bcube_read_reads.Post (room_of 4 1 4 & 0 & 3 & q lends switch_twice & b lends stale 9 & tt) fifth (0 ∷ 1 ∷ stale 7)
-  pub reverse_touched : NeverLeaves bcube_reverse_reads.Post (room_of 4 1 4 & 0 & 3 & q lends straight_back & b lends stale 8 & tt) fifth (0x00 ∷ stale 7)
-  pub write_touched : NeverLeaves bcube_write_reads.Post (room_of 4 1 4 & q lends 0 ∷ 1 ∷ 3 ∷ [] & b lends stale 8 & tt) third (0x01 ∷ stale 7)
+  pub read_touched : NeverLeaves bcube_read_reads.Post (room_of 4 1 4 & 0 & 3 & q lends switch_twice & b lends_mut stale 9 & tt) fifth (0 ∷ 1 ∷ stale 7)
+  pub reverse_touched : NeverLeaves bcube_reverse_reads.Post (room_of 4 1 4 & 0 & 3 & q lends straight_back & b lends_mut stale 8 & tt) fifth (0x00 ∷ stale 7)
+  pub write_touched : NeverLeaves bcube_write_reads.Post (room_of 4 1 4 & q lends 0 ∷ 1 ∷ 3 ∷ [] & b lends_mut stale 8 & tt) third (0x01 ∷ stale 7)
   -- the first hop laid, though the second is refused
-  pub lay_touched : NeverLeaves lay_route_reads.Post (full_room 4 1 & o lends none_failed (full_room 4 1) & 0 & 3 & q lends switch_twice & tt) second
+  pub lay_touched : NeverLeaves lay_route_reads.Post (full_room 4 1 & o lends_mut none_failed (full_room 4 1) & 0 & 3 & q lends switch_twice & tt) second
       (1 ∷ 3 ∷ 1 ∷ 1 ∷ 0 ∷ 0 ∷ 0 ∷ 0 ∷ 0 ∷ 0 ∷ 0 ∷ 0 ∷ 0 ∷ 0 ∷ 0 ∷ 0 ∷ [])

@@ -46,7 +46,7 @@ use Rattle.driver.proofs.bcube_pick.Reads as bcube_pick
 use Rattle.driver.proofs.bcube_step.Reads as bcube_step
 use Rattle.driver.proofs.bcube_parent.Reads as bcube_parent
 use Rattle.driver.proofs.bcube_tree.Reads as bcube_tree
-use Rattle.wrong.specs.Never.{Never, NeverLeaves, NeverLeavesAt, NeverTells, Loan, third, fourth, fifth, ◌&◌, ◌lends◌}
+use Rattle.wrong.specs.Never.{Never, NeverLeaves, NeverLeavesAt, NeverTells, Loan, third, fourth, fifth, ◌&◌, ◌lends◌, ◌lends_mut◌}
 use Rattle.wrong.specs.Examples.{array, healthy, failing, eight_hops, switch_twice, round_to_server, unmarked, counting, half_healthy, half_failing, half_unmarked, half_counting, direct, other, tied, cut_off, mac, neighbour, stale}
 use Rattle.wrong.specs.Step.{around, left_with, stood_with}
 
@@ -162,19 +162,19 @@ pub record Driver (o q b : Loan) : Type 0 where
   pub switches_of_m_at_level_0 : Never bcube_switches.Post (room_of 8 3 4 & 0 & tt) (word none 512)
   -- ---- bcube_digits
   -- N not bounded: address 4096 of (8,3) taken
-  pub digits_address_wraps : Never bcube_digits.Post (room_of 8 3 8 & 4096 & b lends stale 4 & tt) (word none 0)
+  pub digits_address_wraps : Never bcube_digits.Post (room_of 8 3 8 & 4096 & b lends_mut stale 4 & tt) (word none 0)
   -- the digits counted in the value
-  pub digits_counted : Never bcube_digits.Post (room_of 8 3 8 & 521 & b lends stale 4 & tt) (word none 4)
+  pub digits_counted : Never bcube_digits.Post (room_of 8 3 8 & 521 & b lends_mut stale 4 & tt) (word none 4)
   -- reversed: 521 of (8,3), written 1011
-  pub digits_reversed : NeverLeaves bcube_digits.Post (room_of 8 3 8 & 521 & b lends stale 4 & tt) third (1 ∷ 0 ∷ 1 ∷ 1 ∷ [])
+  pub digits_reversed : NeverLeaves bcube_digits.Post (room_of 8 3 8 & 521 & b lends_mut stale 4 & tt) third (1 ∷ 0 ∷ 1 ∷ 1 ∷ [])
   -- the buffer left as it was lent
-  pub digits_not_written : NeverLeaves bcube_digits.Post (room_of 8 3 8 & 521 & b lends stale 4 & tt) third (stale 4)
+  pub digits_not_written : NeverLeaves bcube_digits.Post (room_of 8 3 8 & 521 & b lends_mut stale 4 & tt) third (stale 4)
   -- the buffer touched on refusal
-  pub digits_touched : NeverLeaves bcube_digits.Post (room_of 8 3 8 & 4096 & b lends stale 4 & tt) third (replicate 4 0)
+  pub digits_touched : NeverLeaves bcube_digits.Post (room_of 8 3 8 & 4096 & b lends_mut stale 4 & tt) third (replicate 4 0)
   -- N as n to the power k + 1: address 2048 of (8,3,4) answered
-  pub digits_of_the_full_room : NeverLeaves bcube_digits.Post (room_of 8 3 4 & 2048 & b lends stale 4 & tt) third (0 ∷ 0 ∷ 0 ∷ 4 ∷ [])
+  pub digits_of_the_full_room : NeverLeaves bcube_digits.Post (room_of 8 3 4 & 2048 & b lends_mut stale 4 & tt) third (0 ∷ 0 ∷ 0 ∷ 4 ∷ [])
   -- digits to the base m: 2047 of (8,3,4), written 3777
-  pub digits_to_the_base_m : NeverLeaves bcube_digits.Post (room_of 8 3 4 & 2047 & b lends stale 4 & tt) third (3 ∷ 3 ∷ 3 ∷ 3 ∷ [])
+  pub digits_to_the_base_m : NeverLeaves bcube_digits.Post (room_of 8 3 4 & 2047 & b lends_mut stale 4 & tt) third (3 ∷ 3 ∷ 3 ∷ 3 ∷ [])
   -- ---- bcube_digit
   -- from the other end: digit 2 of 1011
   pub digit_from_the_other_end : Never bcube_digit.Post (room_of 8 3 8 & 521 & 2 & tt) (word none 1)
@@ -260,154 +260,154 @@ pub record Driver (o q b : Loan) : Type 0 where
   pub failed_in_full_table : Never bcube_failed_link.Post (room_of 4 1 2 & 8 & 0 & o lends healthy & tt) (word none 0)
   -- ---- bcube_mark
   -- level k + 1 marked
-  pub marked_above_k : Never bcube_mark.Post (room_of 4 1 4 & 3 & 2 & o lends healthy & q lends unmarked & tt) (word none 0)
+  pub marked_above_k : Never bcube_mark.Post (room_of 4 1 4 & 3 & 2 & o lends_mut healthy & q lends_mut unmarked & tt) (word none 0)
   -- 1 told for a mark made
-  pub mark_counted : Never bcube_mark.Post (room_of 4 1 4 & 3 & 1 & o lends healthy & q lends unmarked & tt) (word none 1)
+  pub mark_counted : Never bcube_mark.Post (room_of 4 1 4 & 3 & 1 & o lends_mut healthy & q lends_mut unmarked & tt) (word none 1)
   -- the count of the switch told in the value
-  pub mark_count_told : Never bcube_mark.Post (room_of 4 1 2 & 5 & 1 & o lends half_failing 1 2 & q lends half_counting 3 1 & tt) (word none 2)
+  pub mark_count_told : Never bcube_mark.Post (room_of 4 1 2 & 5 & 1 & o lends_mut half_failing 1 2 & q lends_mut half_counting 3 1 & tt) (word none 2)
   -- the level cut to 32 bits
-  pub mark_level_cut : Never bcube_mark.Post (room_of 4 1 2 & 5 & 4294967297 & o lends half_healthy & q lends half_unmarked & tt) (word none 0)
+  pub mark_level_cut : Never bcube_mark.Post (room_of 4 1 2 & 5 & 4294967297 & o lends_mut half_healthy & q lends_mut half_unmarked & tt) (word none 0)
   -- 30 tested before 6: a bit above k, a summary of 8 bytes for the 6 switches of (4,1,2)
-  pub mark_summary_before_table : Never bcube_mark.Post (room_of 4 1 2 & 5 & 1 & o lends half_failing 0 4 & q lends replicate 8 0 & tt) (word (plain 30) 0)
+  pub mark_summary_before_table : Never bcube_mark.Post (room_of 4 1 2 & 5 & 1 & o lends_mut half_failing 0 4 & q lends_mut replicate 8 0 & tt) (word (plain 30) 0)
   -- a summary of one byte too many taken
-  pub mark_long_summary : Never bcube_mark.Post (room_of 4 1 2 & 5 & 1 & o lends half_healthy & q lends replicate 7 0 & tt) (word none 0)
+  pub mark_long_summary : Never bcube_mark.Post (room_of 4 1 2 & 5 & 1 & o lends_mut half_healthy & q lends_mut replicate 7 0 & tt) (word none 0)
   -- 30 not given where the mark would change nothing
-  pub mark_entry_not_tested : Never bcube_mark.Post (room_of 4 1 2 & 5 & 1 & o lends half_failing 5 2 & q lends half_unmarked & tt) (word none 0)
+  pub mark_entry_not_tested : Never bcube_mark.Post (room_of 4 1 2 & 5 & 1 & o lends_mut half_failing 5 2 & q lends_mut half_unmarked & tt) (word none 0)
   -- 30 for entries that are wrong elsewhere
-  pub mark_elsewhere_tested : Never bcube_mark.Post (room_of 4 1 2 & 5 & 1 & o lends half_healthy & q lends set (half_counting 0 9) 5 7 & tt) (word (plain 30) 0)
+  pub mark_elsewhere_tested : Never bcube_mark.Post (room_of 4 1 2 & 5 & 1 & o lends_mut half_healthy & q lends_mut set (half_counting 0 9) 5 7 & tt) (word (plain 30) 0)
   -- m servers counted at a switch of level 0: the mark of server 3 missed, and the entry refused
-  pub mark_m_servers_counted : Never bcube_mark.Post (room_of 4 1 2 & 0 & 0 & o lends half_failing 3 1 & q lends half_counting 0 1 & tt) (word (plain 30) 0)
+  pub mark_m_servers_counted : Never bcube_mark.Post (room_of 4 1 2 & 0 & 0 & o lends_mut half_failing 3 1 & q lends_mut half_counting 0 1 & tt) (word (plain 30) 0)
   -- nothing marked
-  pub marks_nothing : NeverLeaves bcube_mark.Post (room_of 4 1 4 & 3 & 1 & o lends healthy & q lends unmarked & tt) fourth healthy
+  pub marks_nothing : NeverLeaves bcube_mark.Post (room_of 4 1 4 & 3 & 1 & o lends_mut healthy & q lends_mut unmarked & tt) fourth healthy
   -- server and level exchanged
-  pub mark_server_and_level_exchanged : NeverLeaves bcube_mark.Post (room_of 4 1 4 & 1 & 0 & o lends healthy & q lends unmarked & tt) fourth (failing 0 2)
+  pub mark_server_and_level_exchanged : NeverLeaves bcube_mark.Post (room_of 4 1 4 & 1 & 0 & o lends_mut healthy & q lends_mut unmarked & tt) fourth (failing 0 2)
   -- the table touched on refusal 20
-  pub mark_touched : NeverLeaves bcube_mark.Post (room_of 4 1 4 & 3 & 2 & o lends healthy & q lends unmarked & tt) fourth (failing 3 4)
+  pub mark_touched : NeverLeaves bcube_mark.Post (room_of 4 1 4 & 3 & 2 & o lends_mut healthy & q lends_mut unmarked & tt) fourth (failing 3 4)
   -- the table touched on refusal 30
-  pub mark_table_touched : NeverLeaves bcube_mark.Post (room_of 4 1 2 & 5 & 1 & o lends half_healthy & q lends half_counting 3 1 & tt) fourth (half_failing 5 2)
+  pub mark_table_touched : NeverLeaves bcube_mark.Post (room_of 4 1 2 & 5 & 1 & o lends_mut half_healthy & q lends_mut half_counting 3 1 & tt) fourth (half_failing 5 2)
   -- N as n to the power k + 1: server 8 of (4,1,2) marked in a table of 16 bytes
-  pub marked_in_full_table : NeverLeaves bcube_mark.Post (room_of 4 1 2 & 8 & 0 & o lends healthy & q lends half_unmarked & tt) fourth (failing 8 1)
+  pub marked_in_full_table : NeverLeaves bcube_mark.Post (room_of 4 1 2 & 8 & 0 & o lends_mut healthy & q lends_mut half_unmarked & tt) fourth (failing 8 1)
   -- the mark not counted
-  pub mark_not_counted : NeverLeaves bcube_mark.Post (room_of 4 1 2 & 5 & 1 & o lends half_healthy & q lends half_unmarked & tt) fifth half_unmarked
+  pub mark_not_counted : NeverLeaves bcube_mark.Post (room_of 4 1 2 & 5 & 1 & o lends_mut half_healthy & q lends_mut half_unmarked & tt) fifth half_unmarked
   -- a repeated mark counted twice
-  pub mark_counted_twice : NeverLeaves bcube_mark.Post (room_of 4 1 2 & 5 & 1 & o lends half_failing 5 2 & q lends half_counting 3 1 & tt) fifth (half_counting 3 2)
+  pub mark_counted_twice : NeverLeaves bcube_mark.Post (room_of 4 1 2 & 5 & 1 & o lends_mut half_failing 5 2 & q lends_mut half_counting 3 1 & tt) fifth (half_counting 3 2)
   -- the place of an entry as level times n to the power k, plus number: 5 for 3
-  pub mark_place_by_power : NeverLeaves bcube_mark.Post (room_of 4 1 2 & 5 & 1 & o lends half_healthy & q lends half_unmarked & tt) fifth (half_counting 5 1)
+  pub mark_place_by_power : NeverLeaves bcube_mark.Post (room_of 4 1 2 & 5 & 1 & o lends_mut half_healthy & q lends_mut half_unmarked & tt) fifth (half_counting 5 1)
   -- entries that are wrong elsewhere corrected
-  pub mark_elsewhere_corrected : NeverLeaves bcube_mark.Post (room_of 4 1 2 & 5 & 1 & o lends half_healthy & q lends set (half_counting 0 9) 5 7 & tt) fifth (half_counting 3 1)
+  pub mark_elsewhere_corrected : NeverLeaves bcube_mark.Post (room_of 4 1 2 & 5 & 1 & o lends_mut half_healthy & q lends_mut set (half_counting 0 9) 5 7 & tt) fifth (half_counting 3 1)
   -- the summary touched on refusal 30
-  pub mark_summary_touched : NeverLeaves bcube_mark.Post (room_of 4 1 2 & 5 & 1 & o lends half_healthy & q lends half_counting 3 1 & tt) fifth (half_counting 3 2)
+  pub mark_summary_touched : NeverLeaves bcube_mark.Post (room_of 4 1 2 & 5 & 1 & o lends_mut half_healthy & q lends_mut half_counting 3 1 & tt) fifth (half_counting 3 2)
   -- ---- bcube_clear
   -- level k + 1 cleared
-  pub cleared_above_k : Never bcube_clear.Post (room_of 4 1 4 & 3 & 2 & o lends healthy & q lends unmarked & tt) (word none 0)
+  pub cleared_above_k : Never bcube_clear.Post (room_of 4 1 4 & 3 & 2 & o lends_mut healthy & q lends_mut unmarked & tt) (word none 0)
   -- 20 tested before 4: level 2 of server 16
-  pub clear_level_before_address : Never bcube_clear.Post (room_of 4 1 4 & 16 & 2 & o lends healthy & q lends unmarked & tt) (word (plain 20) 0)
+  pub clear_level_before_address : Never bcube_clear.Post (room_of 4 1 4 & 16 & 2 & o lends_mut healthy & q lends_mut unmarked & tt) (word (plain 20) 0)
   -- 30 tested before 6: a bit above k, a summary of 8 bytes for (4,1,2)
-  pub clear_summary_before_table : Never bcube_clear.Post (room_of 4 1 2 & 5 & 1 & o lends half_failing 0 4 & q lends replicate 8 0 & tt) (word (plain 30) 0)
+  pub clear_summary_before_table : Never bcube_clear.Post (room_of 4 1 2 & 5 & 1 & o lends_mut half_failing 0 4 & q lends_mut replicate 8 0 & tt) (word (plain 30) 0)
   -- a summary of one byte too many taken
-  pub clear_long_summary : Never bcube_clear.Post (room_of 4 1 2 & 5 & 1 & o lends half_healthy & q lends replicate 7 0 & tt) (word none 0)
+  pub clear_long_summary : Never bcube_clear.Post (room_of 4 1 2 & 5 & 1 & o lends_mut half_healthy & q lends_mut replicate 7 0 & tt) (word none 0)
   -- 30 not given where clearing would change nothing
-  pub clear_entry_not_tested : Never bcube_clear.Post (room_of 4 1 2 & 5 & 1 & o lends half_healthy & q lends half_counting 3 1 & tt) (word none 0)
+  pub clear_entry_not_tested : Never bcube_clear.Post (room_of 4 1 2 & 5 & 1 & o lends_mut half_healthy & q lends_mut half_counting 3 1 & tt) (word none 0)
   -- 30 for entries that are wrong elsewhere
-  pub clear_elsewhere_tested : Never bcube_clear.Post (room_of 4 1 2 & 5 & 1 & o lends half_healthy & q lends set (half_counting 0 9) 5 7 & tt) (word (plain 30) 0)
+  pub clear_elsewhere_tested : Never bcube_clear.Post (room_of 4 1 2 & 5 & 1 & o lends_mut half_healthy & q lends_mut set (half_counting 0 9) 5 7 & tt) (word (plain 30) 0)
   -- all links of the server cleared
-  pub clears_all : NeverLeaves bcube_clear.Post (room_of 4 1 4 & 3 & 0 & o lends failing 3 3 & q lends set (counting 0 1) 7 1 & tt) fourth healthy
+  pub clears_all : NeverLeaves bcube_clear.Post (room_of 4 1 4 & 3 & 0 & o lends_mut failing 3 3 & q lends_mut set (counting 0 1) 7 1 & tt) fourth healthy
   -- the link of level k cleared
-  pub clears_level_k : NeverLeaves bcube_clear.Post (room_of 4 1 4 & 3 & 0 & o lends failing 3 3 & q lends set (counting 0 1) 7 1 & tt) fourth (failing 3 1)
+  pub clears_level_k : NeverLeaves bcube_clear.Post (room_of 4 1 4 & 3 & 0 & o lends_mut failing 3 3 & q lends_mut set (counting 0 1) 7 1 & tt) fourth (failing 3 1)
   -- the table touched on refusal 6, which its bit above k is
-  pub clear_touched : NeverLeaves bcube_clear.Post (room_of 4 1 4 & 3 & 0 & o lends failing 3 5 & q lends counting 0 1 & tt) fourth (failing 3 4)
+  pub clear_touched : NeverLeaves bcube_clear.Post (room_of 4 1 4 & 3 & 0 & o lends_mut failing 3 5 & q lends_mut counting 0 1 & tt) fourth (failing 3 4)
   -- the table touched on refusal 30
-  pub clear_table_touched : NeverLeaves bcube_clear.Post (room_of 4 1 2 & 5 & 1 & o lends half_failing 5 2 & q lends half_unmarked & tt) fourth half_healthy
+  pub clear_table_touched : NeverLeaves bcube_clear.Post (room_of 4 1 2 & 5 & 1 & o lends_mut half_failing 5 2 & q lends_mut half_unmarked & tt) fourth half_healthy
   -- N as n to the power k + 1: server 8 of (4,1,2) cleared in a table of 16 bytes
-  pub cleared_in_full_table : NeverLeaves bcube_clear.Post (room_of 4 1 2 & 8 & 0 & o lends failing 8 1 & q lends half_unmarked & tt) fourth healthy
+  pub cleared_in_full_table : NeverLeaves bcube_clear.Post (room_of 4 1 2 & 8 & 0 & o lends_mut failing 8 1 & q lends_mut half_unmarked & tt) fourth healthy
   -- the clearing not counted
-  pub clearing_not_counted : NeverLeaves bcube_clear.Post (room_of 4 1 2 & 5 & 1 & o lends set (half_failing 1 2) 5 2 & q lends half_counting 3 2 & tt) fifth (half_counting 3 2)
+  pub clearing_not_counted : NeverLeaves bcube_clear.Post (room_of 4 1 2 & 5 & 1 & o lends_mut set (half_failing 1 2) 5 2 & q lends_mut half_counting 3 2 & tt) fifth (half_counting 3 2)
   -- one taken away though the link was not marked
-  pub clear_unmarked_subtracted : NeverLeaves bcube_clear.Post (room_of 4 1 2 & 5 & 1 & o lends half_failing 1 2 & q lends half_counting 3 1 & tt) fifth half_unmarked
+  pub clear_unmarked_subtracted : NeverLeaves bcube_clear.Post (room_of 4 1 2 & 5 & 1 & o lends_mut half_failing 1 2 & q lends_mut half_counting 3 1 & tt) fifth half_unmarked
   -- the place of an entry as level times n to the power k, plus number: 5 for 3, servers 3 and 5 being marked
-  pub clear_place_by_power : NeverLeaves bcube_clear.Post (room_of 4 1 2 & 5 & 1 & o lends set (half_failing 3 2) 5 2 & q lends set (half_counting 3 1) 5 1 & tt) fifth (half_counting 3 1)
+  pub clear_place_by_power : NeverLeaves bcube_clear.Post (room_of 4 1 2 & 5 & 1 & o lends_mut set (half_failing 3 2) 5 2 & q lends_mut set (half_counting 3 1) 5 1 & tt) fifth (half_counting 3 1)
   -- entries that are wrong elsewhere corrected
-  pub clear_elsewhere_corrected : NeverLeaves bcube_clear.Post (room_of 4 1 2 & 5 & 1 & o lends half_failing 5 2 & q lends set (set (half_counting 0 9) 3 1) 5 7 & tt) fifth half_unmarked
+  pub clear_elsewhere_corrected : NeverLeaves bcube_clear.Post (room_of 4 1 2 & 5 & 1 & o lends_mut half_failing 5 2 & q lends_mut set (set (half_counting 0 9) 3 1) 5 7 & tt) fifth half_unmarked
   -- the summary touched on refusal 30
-  pub clear_summary_touched : NeverLeaves bcube_clear.Post (room_of 4 1 2 & 5 & 1 & o lends half_failing 5 2 & q lends half_counting 3 2 & tt) fifth (half_counting 3 1)
+  pub clear_summary_touched : NeverLeaves bcube_clear.Post (room_of 4 1 2 & 5 & 1 & o lends_mut half_failing 5 2 & q lends_mut half_counting 3 2 & tt) fifth (half_counting 3 1)
   -- ---- bcube_mark_all, of which server 5 of (4,1,2) is at switch 1 of level 0 and at switch 1 of level 1: places 1 and 3
   -- server N marked
-  pub mark_all_n : Never bcube_mark_all.Post (room_of 4 1 4 & 16 & o lends healthy & q lends unmarked & tt) (word none 0)
+  pub mark_all_n : Never bcube_mark_all.Post (room_of 4 1 4 & 16 & o lends_mut healthy & q lends_mut unmarked & tt) (word none 0)
   -- 6 tested before 4: server 16, a table of 15 bytes
-  pub mark_all_table_before_address : Never bcube_mark_all.Post (room_of 4 1 4 & 16 & o lends replicate 15 0 & q lends unmarked & tt) (word (plain 6) 0)
+  pub mark_all_table_before_address : Never bcube_mark_all.Post (room_of 4 1 4 & 16 & o lends_mut replicate 15 0 & q lends_mut unmarked & tt) (word (plain 6) 0)
   -- the server cut to 32 bits
-  pub mark_all_cut : Never bcube_mark_all.Post (room_of 4 1 4 & 4294967299 & o lends healthy & q lends unmarked & tt) (word none 0)
+  pub mark_all_cut : Never bcube_mark_all.Post (room_of 4 1 4 & 4294967299 & o lends_mut healthy & q lends_mut unmarked & tt) (word none 0)
   -- 30 tested before 6: a bit above k, a summary of 8 bytes for (4,1,2)
-  pub mark_all_summary_before_table : Never bcube_mark_all.Post (room_of 4 1 2 & 5 & o lends half_failing 0 4 & q lends replicate 8 0 & tt) (word (plain 30) 0)
+  pub mark_all_summary_before_table : Never bcube_mark_all.Post (room_of 4 1 2 & 5 & o lends_mut half_failing 0 4 & q lends_mut replicate 8 0 & tt) (word (plain 30) 0)
   -- a summary of one byte too many taken
-  pub mark_all_long_summary : Never bcube_mark_all.Post (room_of 4 1 2 & 5 & o lends half_healthy & q lends replicate 7 0 & tt) (word none 0)
+  pub mark_all_long_summary : Never bcube_mark_all.Post (room_of 4 1 2 & 5 & o lends_mut half_healthy & q lends_mut replicate 7 0 & tt) (word none 0)
   -- the entry of level 0 tested alone
-  pub mark_all_level_k_not_tested : Never bcube_mark_all.Post (room_of 4 1 2 & 5 & o lends half_healthy & q lends half_counting 3 1 & tt) (word none 0)
+  pub mark_all_level_k_not_tested : Never bcube_mark_all.Post (room_of 4 1 2 & 5 & o lends_mut half_healthy & q lends_mut half_counting 3 1 & tt) (word none 0)
   -- 30 not given where the marks would change nothing
-  pub mark_all_entry_not_tested : Never bcube_mark_all.Post (room_of 4 1 2 & 5 & o lends half_failing 5 3 & q lends half_unmarked & tt) (word none 0)
+  pub mark_all_entry_not_tested : Never bcube_mark_all.Post (room_of 4 1 2 & 5 & o lends_mut half_failing 5 3 & q lends_mut half_unmarked & tt) (word none 0)
   -- 30 for entries that are wrong elsewhere
-  pub mark_all_elsewhere_tested : Never bcube_mark_all.Post (room_of 4 1 2 & 5 & o lends half_healthy & q lends set (half_counting 0 9) 5 7 & tt) (word (plain 30) 0)
+  pub mark_all_elsewhere_tested : Never bcube_mark_all.Post (room_of 4 1 2 & 5 & o lends_mut half_healthy & q lends_mut set (half_counting 0 9) 5 7 & tt) (word (plain 30) 0)
   -- nothing marked
-  pub marks_no_server : NeverLeaves bcube_mark_all.Post (room_of 4 1 4 & 3 & o lends healthy & q lends unmarked & tt) third healthy
+  pub marks_no_server : NeverLeaves bcube_mark_all.Post (room_of 4 1 4 & 3 & o lends_mut healthy & q lends_mut unmarked & tt) third healthy
   -- one link marked, that of level 0
-  pub marks_one_link : NeverLeaves bcube_mark_all.Post (room_of 4 1 4 & 3 & o lends healthy & q lends unmarked & tt) third (failing 3 1)
+  pub marks_one_link : NeverLeaves bcube_mark_all.Post (room_of 4 1 4 & 3 & o lends_mut healthy & q lends_mut unmarked & tt) third (failing 3 1)
   -- the whole byte set, bits above k with it
-  pub marks_whole_byte : NeverLeaves bcube_mark_all.Post (room_of 4 1 4 & 3 & o lends healthy & q lends unmarked & tt) third (failing 3 0xff)
+  pub marks_whole_byte : NeverLeaves bcube_mark_all.Post (room_of 4 1 4 & 3 & o lends_mut healthy & q lends_mut unmarked & tt) third (failing 3 0xff)
   -- the table touched on refusal 6, which its bit above k is
-  pub mark_all_touched : NeverLeaves bcube_mark_all.Post (room_of 4 1 4 & 3 & o lends failing 3 4 & q lends unmarked & tt) third (failing 3 3)
+  pub mark_all_touched : NeverLeaves bcube_mark_all.Post (room_of 4 1 4 & 3 & o lends_mut failing 3 4 & q lends_mut unmarked & tt) third (failing 3 3)
   -- the table touched on refusal 30
-  pub mark_all_table_touched : NeverLeaves bcube_mark_all.Post (room_of 4 1 2 & 5 & o lends half_healthy & q lends half_counting 3 1 & tt) third (half_failing 5 3)
+  pub mark_all_table_touched : NeverLeaves bcube_mark_all.Post (room_of 4 1 2 & 5 & o lends_mut half_healthy & q lends_mut half_counting 3 1 & tt) third (half_failing 5 3)
   -- N as n to the power k + 1: server 8 of (4,1,2) marked in a table of 16 bytes
-  pub server_marked_in_full_table : NeverLeaves bcube_mark_all.Post (room_of 4 1 2 & 8 & o lends healthy & q lends half_unmarked & tt) third (failing 8 3)
+  pub server_marked_in_full_table : NeverLeaves bcube_mark_all.Post (room_of 4 1 2 & 8 & o lends_mut healthy & q lends_mut half_unmarked & tt) third (failing 8 3)
   -- the entry of level 0 alone moved
-  pub mark_all_level_0_alone : NeverLeaves bcube_mark_all.Post (room_of 4 1 2 & 5 & o lends half_healthy & q lends half_unmarked & tt) fourth (half_counting 1 1)
+  pub mark_all_level_0_alone : NeverLeaves bcube_mark_all.Post (room_of 4 1 2 & 5 & o lends_mut half_healthy & q lends_mut half_unmarked & tt) fourth (half_counting 1 1)
   -- a repeated mark counted twice, at each level
-  pub mark_all_counted_twice : NeverLeaves bcube_mark_all.Post (room_of 4 1 2 & 5 & o lends half_failing 5 3 & q lends set (half_counting 1 1) 3 1 & tt) fourth (set (half_counting 1 2) 3 2)
+  pub mark_all_counted_twice : NeverLeaves bcube_mark_all.Post (room_of 4 1 2 & 5 & o lends_mut half_failing 5 3 & q lends_mut set (half_counting 1 1) 3 1 & tt) fourth (set (half_counting 1 2) 3 2)
   -- the place of an entry as level times n to the power k, plus number: 5 for 3
-  pub mark_all_place_by_power : NeverLeaves bcube_mark_all.Post (room_of 4 1 2 & 5 & o lends half_healthy & q lends half_unmarked & tt) fourth (set (half_counting 1 1) 5 1)
+  pub mark_all_place_by_power : NeverLeaves bcube_mark_all.Post (room_of 4 1 2 & 5 & o lends_mut half_healthy & q lends_mut half_unmarked & tt) fourth (set (half_counting 1 1) 5 1)
   -- entries that are wrong elsewhere corrected
-  pub mark_all_elsewhere_corrected : NeverLeaves bcube_mark_all.Post (room_of 4 1 2 & 5 & o lends half_healthy & q lends set (half_counting 0 9) 5 7 & tt) fourth (set (half_counting 1 1) 3 1)
+  pub mark_all_elsewhere_corrected : NeverLeaves bcube_mark_all.Post (room_of 4 1 2 & 5 & o lends_mut half_healthy & q lends_mut set (half_counting 0 9) 5 7 & tt) fourth (set (half_counting 1 1) 3 1)
   -- the summary touched on refusal 30
-  pub mark_all_summary_touched : NeverLeaves bcube_mark_all.Post (room_of 4 1 2 & 5 & o lends half_healthy & q lends half_counting 3 1 & tt) fourth (set (half_counting 1 1) 3 1)
+  pub mark_all_summary_touched : NeverLeaves bcube_mark_all.Post (room_of 4 1 2 & 5 & o lends_mut half_healthy & q lends_mut half_counting 3 1 & tt) fourth (set (half_counting 1 1) 3 1)
   -- ---- bcube_clear_all
   -- server N cleared
-  pub clear_all_n : Never bcube_clear_all.Post (room_of 4 1 4 & 16 & o lends healthy & q lends unmarked & tt) (word none 0)
+  pub clear_all_n : Never bcube_clear_all.Post (room_of 4 1 4 & 16 & o lends_mut healthy & q lends_mut unmarked & tt) (word none 0)
   -- 6 tested before 4: server 16, and a bit above k
-  pub clear_all_table_before_address : Never bcube_clear_all.Post (room_of 4 1 4 & 16 & o lends failing 3 4 & q lends unmarked & tt) (word (plain 6) 0)
+  pub clear_all_table_before_address : Never bcube_clear_all.Post (room_of 4 1 4 & 16 & o lends_mut failing 3 4 & q lends_mut unmarked & tt) (word (plain 6) 0)
   -- the links that were cleared counted
-  pub clear_all_counted : Never bcube_clear_all.Post (room_of 4 1 4 & 3 & o lends failing 3 3 & q lends set (counting 0 1) 7 1 & tt) (word none 2)
+  pub clear_all_counted : Never bcube_clear_all.Post (room_of 4 1 4 & 3 & o lends_mut failing 3 3 & q lends_mut set (counting 0 1) 7 1 & tt) (word none 2)
   -- 30 tested before 6: a bit above k, a summary of 8 bytes for (4,1,2)
-  pub clear_all_summary_before_table : Never bcube_clear_all.Post (room_of 4 1 2 & 5 & o lends half_failing 0 4 & q lends replicate 8 0 & tt) (word (plain 30) 0)
+  pub clear_all_summary_before_table : Never bcube_clear_all.Post (room_of 4 1 2 & 5 & o lends_mut half_failing 0 4 & q lends_mut replicate 8 0 & tt) (word (plain 30) 0)
   -- a summary of one byte too many taken
-  pub clear_all_long_summary : Never bcube_clear_all.Post (room_of 4 1 2 & 5 & o lends half_healthy & q lends replicate 7 0 & tt) (word none 0)
+  pub clear_all_long_summary : Never bcube_clear_all.Post (room_of 4 1 2 & 5 & o lends_mut half_healthy & q lends_mut replicate 7 0 & tt) (word none 0)
   -- the entry of level 0 tested alone
-  pub clear_all_level_k_not_tested : Never bcube_clear_all.Post (room_of 4 1 2 & 5 & o lends half_failing 5 3 & q lends half_counting 1 1 & tt) (word none 0)
+  pub clear_all_level_k_not_tested : Never bcube_clear_all.Post (room_of 4 1 2 & 5 & o lends_mut half_failing 5 3 & q lends_mut half_counting 1 1 & tt) (word none 0)
   -- 30 not given where clearing would change nothing
-  pub clear_all_entry_not_tested : Never bcube_clear_all.Post (room_of 4 1 2 & 5 & o lends half_healthy & q lends half_counting 3 1 & tt) (word none 0)
+  pub clear_all_entry_not_tested : Never bcube_clear_all.Post (room_of 4 1 2 & 5 & o lends_mut half_healthy & q lends_mut half_counting 3 1 & tt) (word none 0)
   -- 30 for entries that are wrong elsewhere
-  pub clear_all_elsewhere_tested : Never bcube_clear_all.Post (room_of 4 1 2 & 5 & o lends half_healthy & q lends set (half_counting 0 9) 5 7 & tt) (word (plain 30) 0)
+  pub clear_all_elsewhere_tested : Never bcube_clear_all.Post (room_of 4 1 2 & 5 & o lends_mut half_healthy & q lends_mut set (half_counting 0 9) 5 7 & tt) (word (plain 30) 0)
   -- nothing cleared
-  pub clears_no_server : NeverLeaves bcube_clear_all.Post (room_of 4 1 4 & 3 & o lends failing 3 3 & q lends set (counting 0 1) 7 1 & tt) third (failing 3 3)
+  pub clears_no_server : NeverLeaves bcube_clear_all.Post (room_of 4 1 4 & 3 & o lends_mut failing 3 3 & q lends_mut set (counting 0 1) 7 1 & tt) third (failing 3 3)
   -- one link cleared, that of level 0
-  pub clears_one_link : NeverLeaves bcube_clear_all.Post (room_of 4 1 4 & 3 & o lends failing 3 3 & q lends set (counting 0 1) 7 1 & tt) third (failing 3 2)
+  pub clears_one_link : NeverLeaves bcube_clear_all.Post (room_of 4 1 4 & 3 & o lends_mut failing 3 3 & q lends_mut set (counting 0 1) 7 1 & tt) third (failing 3 2)
   -- the whole table cleared: the mark of server 7 lost
-  pub clears_whole_table : NeverLeaves bcube_clear_all.Post (room_of 4 1 4 & 3 & o lends set (failing 3 3) 7 1 & q lends set (set (counting 0 1) 1 1) 7 1 & tt) third healthy
+  pub clears_whole_table : NeverLeaves bcube_clear_all.Post (room_of 4 1 4 & 3 & o lends_mut set (failing 3 3) 7 1 & q lends_mut set (set (counting 0 1) 1 1) 7 1 & tt) third healthy
   -- the table touched on refusal 6, which its bit above k is
-  pub clear_all_touched : NeverLeaves bcube_clear_all.Post (room_of 4 1 4 & 3 & o lends failing 3 4 & q lends unmarked & tt) third healthy
+  pub clear_all_touched : NeverLeaves bcube_clear_all.Post (room_of 4 1 4 & 3 & o lends_mut failing 3 4 & q lends_mut unmarked & tt) third healthy
   -- the table touched on refusal 30
-  pub clear_all_table_touched : NeverLeaves bcube_clear_all.Post (room_of 4 1 2 & 5 & o lends half_failing 5 3 & q lends half_unmarked & tt) third half_healthy
+  pub clear_all_table_touched : NeverLeaves bcube_clear_all.Post (room_of 4 1 2 & 5 & o lends_mut half_failing 5 3 & q lends_mut half_unmarked & tt) third half_healthy
   -- N as n to the power k + 1: server 8 of (4,1,2) cleared in a table of 16 bytes
-  pub server_cleared_in_full_table : NeverLeaves bcube_clear_all.Post (room_of 4 1 2 & 8 & o lends failing 8 3 & q lends half_unmarked & tt) third healthy
+  pub server_cleared_in_full_table : NeverLeaves bcube_clear_all.Post (room_of 4 1 2 & 8 & o lends_mut failing 8 3 & q lends_mut half_unmarked & tt) third healthy
   -- the entry of level 0 alone moved
-  pub clear_all_level_0_alone : NeverLeaves bcube_clear_all.Post (room_of 4 1 2 & 5 & o lends half_failing 5 3 & q lends set (half_counting 1 1) 3 1 & tt) fourth (half_counting 3 1)
+  pub clear_all_level_0_alone : NeverLeaves bcube_clear_all.Post (room_of 4 1 2 & 5 & o lends_mut half_failing 5 3 & q lends_mut set (half_counting 1 1) 3 1 & tt) fourth (half_counting 3 1)
   -- one taken away though the link was not marked: server 5 at level 1, where server 1 is
-  pub clear_all_unmarked_subtracted : NeverLeaves bcube_clear_all.Post (room_of 4 1 2 & 5 & o lends set (half_failing 5 1) 1 2 & q lends set (half_counting 1 1) 3 1 & tt) fourth half_unmarked
+  pub clear_all_unmarked_subtracted : NeverLeaves bcube_clear_all.Post (room_of 4 1 2 & 5 & o lends_mut set (half_failing 5 1) 1 2 & q lends_mut set (half_counting 1 1) 3 1 & tt) fourth half_unmarked
   -- the place of an entry as level times n to the power k, plus number: 5 for 3, the link of server 3 there being marked
-  pub clear_all_place_by_power : NeverLeaves bcube_clear_all.Post (room_of 4 1 2 & 5 & o lends set (half_failing 5 3) 3 2 & q lends set (set (half_counting 1 1) 3 1) 5 1 & tt) fourth (half_counting 3 1)
+  pub clear_all_place_by_power : NeverLeaves bcube_clear_all.Post (room_of 4 1 2 & 5 & o lends_mut set (half_failing 5 3) 3 2 & q lends_mut set (set (half_counting 1 1) 3 1) 5 1 & tt) fourth (half_counting 3 1)
   -- entries that are wrong elsewhere corrected
-  pub clear_all_elsewhere_corrected : NeverLeaves bcube_clear_all.Post (room_of 4 1 2 & 5 & o lends half_healthy & q lends set (half_counting 0 9) 5 7 & tt) fourth half_unmarked
+  pub clear_all_elsewhere_corrected : NeverLeaves bcube_clear_all.Post (room_of 4 1 2 & 5 & o lends_mut half_healthy & q lends_mut set (half_counting 0 9) 5 7 & tt) fourth half_unmarked
   -- the summary touched on refusal 30
-  pub clear_all_summary_touched : NeverLeaves bcube_clear_all.Post (room_of 4 1 2 & 5 & o lends half_failing 5 3 & q lends half_counting 1 1 & tt) fourth half_unmarked
+  pub clear_all_summary_touched : NeverLeaves bcube_clear_all.Post (room_of 4 1 2 & 5 & o lends_mut half_failing 5 3 & q lends_mut half_counting 1 1 & tt) fourth half_unmarked
   -- ---- bcube_dead_switch
   -- switch 0 of level 0 told as 0, which is none
   pub dead_first_as_0 : Never bcube_dead_switch.Post (room_of 4 1 2 & o lends 1 ∷ 1 ∷ 1 ∷ 1 ∷ 0 ∷ 0 ∷ 0 ∷ 0 ∷ [] & q lends half_counting 0 4 & tt) (word none 0)
@@ -443,27 +443,27 @@ pub record Driver (o q b : Loan) : Type 0 where
   pub dead_full_table : Never bcube_dead_switch.Post (room_of 4 1 2 & o lends healthy & q lends half_unmarked & tt) (word none 0)
   -- ---- bcube_summarize
   -- the old entries tested
-  pub fresh_old_entries_tested : Never bcube_summarize.Post (room_of 4 1 2 & o lends half_healthy & q lends set (half_counting 0 9) 5 7 & tt) (word (plain 30) 0)
+  pub fresh_old_entries_tested : Never bcube_summarize.Post (room_of 4 1 2 & o lends half_healthy & q lends_mut set (half_counting 0 9) 5 7 & tt) (word (plain 30) 0)
   -- the marks of the room told in the value
-  pub fresh_marks_told : Never bcube_summarize.Post (room_of 4 1 2 & o lends half_failing 5 3 & q lends stale 6 & tt) (word none 2)
+  pub fresh_marks_told : Never bcube_summarize.Post (room_of 4 1 2 & o lends half_failing 5 3 & q lends_mut stale 6 & tt) (word none 2)
   -- 30 tested before 6: a bit above k, a summary of 8 bytes
-  pub fresh_summary_before_table : Never bcube_summarize.Post (room_of 4 1 2 & o lends half_failing 0 4 & q lends replicate 8 0 & tt) (word (plain 30) 0)
+  pub fresh_summary_before_table : Never bcube_summarize.Post (room_of 4 1 2 & o lends half_failing 0 4 & q lends_mut replicate 8 0 & tt) (word (plain 30) 0)
   -- a summary of one byte too many taken
-  pub fresh_long_summary : Never bcube_summarize.Post (room_of 4 1 2 & o lends half_healthy & q lends replicate 7 0 & tt) (word none 0)
+  pub fresh_long_summary : Never bcube_summarize.Post (room_of 4 1 2 & o lends half_healthy & q lends_mut replicate 7 0 & tt) (word none 0)
   -- the summary left as it was lent
-  pub fresh_not_written : NeverLeaves bcube_summarize.Post (room_of 4 1 2 & o lends half_failing 5 3 & q lends stale 6 & tt) third (stale 6)
+  pub fresh_not_written : NeverLeaves bcube_summarize.Post (room_of 4 1 2 & o lends half_failing 5 3 & q lends_mut stale 6 & tt) third (stale 6)
   -- the counts added to what was there
-  pub fresh_added : NeverLeaves bcube_summarize.Post (room_of 4 1 2 & o lends half_failing 5 2 & q lends half_counting 3 1 & tt) third (half_counting 3 2)
+  pub fresh_added : NeverLeaves bcube_summarize.Post (room_of 4 1 2 & o lends half_failing 5 2 & q lends_mut half_counting 3 1 & tt) third (half_counting 3 2)
   -- a link counted at the other level
-  pub fresh_other_level : NeverLeaves bcube_summarize.Post (room_of 4 1 2 & o lends half_failing 6 2 & q lends stale 6 & tt) third (half_counting 1 1)
+  pub fresh_other_level : NeverLeaves bcube_summarize.Post (room_of 4 1 2 & o lends half_failing 6 2 & q lends_mut stale 6 & tt) third (half_counting 1 1)
   -- the place of an entry as level times n to the power k, plus number: 5 for 3
-  pub fresh_place_by_power : NeverLeaves bcube_summarize.Post (room_of 4 1 2 & o lends half_failing 5 2 & q lends stale 6 & tt) third (half_counting 5 1)
+  pub fresh_place_by_power : NeverLeaves bcube_summarize.Post (room_of 4 1 2 & o lends half_failing 5 2 & q lends_mut stale 6 & tt) third (half_counting 5 1)
   -- m servers counted at a switch of level 0: the mark of server 3 missed
-  pub fresh_m_servers : NeverLeaves bcube_summarize.Post (room_of 4 1 2 & o lends half_failing 3 1 & q lends stale 6 & tt) third half_unmarked
+  pub fresh_m_servers : NeverLeaves bcube_summarize.Post (room_of 4 1 2 & o lends half_failing 3 1 & q lends_mut stale 6 & tt) third half_unmarked
   -- the summary touched on refusal 30, which its length is
-  pub fresh_touched : NeverLeaves bcube_summarize.Post (room_of 4 1 2 & o lends half_healthy & q lends stale 7 & tt) third (replicate 7 0)
+  pub fresh_touched : NeverLeaves bcube_summarize.Post (room_of 4 1 2 & o lends half_healthy & q lends_mut stale 7 & tt) third (replicate 7 0)
   -- the summary touched on refusal 6, which a bit above k is
-  pub fresh_touched_by_table : NeverLeaves bcube_summarize.Post (room_of 4 1 2 & o lends half_failing 0 4 & q lends stale 6 & tt) third half_unmarked
+  pub fresh_touched_by_table : NeverLeaves bcube_summarize.Post (room_of 4 1 2 & o lends half_failing 0 4 & q lends_mut stale 6 & tt) third half_unmarked
   -- ---- bcube_path_byte
   -- the position in the low bits of the byte
   pub path_byte_position_low : Never bcube_path_byte.Post (room_of 4 1 4 & 1 & 2 & tt) (word none 0x09)
@@ -561,103 +561,103 @@ pub record Driver (o q b : Loan) : Type 0 where
   pub hop_in_the_full_room : Never bcube_hop_of.Post (room_of 4 1 2 & 8 & 0x40 & tt) (word none (65536 * 0x42))
   -- ---- bcube_read
   -- the hops for the servers: 1 to 521 of (8,3) by c1 41
-  pub read_hops_for_servers : Never bcube_read.Post (room_of 8 3 8 & 1 & 521 & q lends array (0xc1 ∷ 0x41 ∷ []) & b lends stale 9 & tt) (word none 2)
+  pub read_hops_for_servers : Never bcube_read.Post (room_of 8 3 8 & 1 & 521 & q lends array (0xc1 ∷ 0x41 ∷ []) & b lends_mut stale 9 & tt) (word none 2)
   -- route and hop exchanged: 14 at the third byte of 03 00 01, 00 to 03 of (4,1)
-  pub read_route_and_hop_exchanged : Never bcube_read.Post (room_of 4 1 4 & 0 & 3 & q lends array (0x03 ∷ 0x00 ∷ 0x01 ∷ []) & b lends stale 9 & tt) (word (refused_at 14 3 1) 0)
+  pub read_route_and_hop_exchanged : Never bcube_read.Post (room_of 4 1 4 & 0 & 3 & q lends array (0x03 ∷ 0x00 ∷ 0x01 ∷ []) & b lends_mut stale 9 & tt) (word (refused_at 14 3 1) 0)
   -- the buffer left as it was lent
-  pub read_not_written : NeverLeaves bcube_read.Post (room_of 8 3 8 & 1 & 521 & q lends array (0xc1 ∷ 0x41 ∷ []) & b lends stale 9 & tt) fifth (stale 9)
+  pub read_not_written : NeverLeaves bcube_read.Post (room_of 8 3 8 & 1 & 521 & q lends array (0xc1 ∷ 0x41 ∷ []) & b lends_mut stale 9 & tt) fifth (stale 9)
   -- places past the servers left as they were lent
-  pub read_zeros_forgotten : NeverLeaves bcube_read.Post (room_of 8 3 8 & 1 & 521 & q lends array (0xc1 ∷ 0x41 ∷ []) & b lends stale 9 & tt) fifth (1 ∷ 513 ∷ 521 ∷ stale 6)
+  pub read_zeros_forgotten : NeverLeaves bcube_read.Post (room_of 8 3 8 & 1 & 521 & q lends array (0xc1 ∷ 0x41 ∷ []) & b lends_mut stale 9 & tt) fifth (1 ∷ 513 ∷ 521 ∷ stale 6)
   -- the buffer touched on refusal
-  pub read_touched : NeverLeaves bcube_read.Post (room_of 4 1 4 & 0 & 3 & q lends array (0x03 ∷ 0x00 ∷ 0x01 ∷ []) & b lends stale 9 & tt) fifth (filled 9 (0 ∷ 3 ∷ []))
+  pub read_touched : NeverLeaves bcube_read.Post (room_of 4 1 4 & 0 & 3 & q lends array (0x03 ∷ 0x00 ∷ 0x01 ∷ []) & b lends_mut stale 9 & tt) fifth (filled 9 (0 ∷ 3 ∷ []))
   -- the bound of level k as n: 0 to 3 of (4,1,2) by 42 03 40, which meets 8 and 11
-  pub read_by_value_m : NeverLeaves bcube_read.Post (room_of 4 1 2 & 0 & 3 & q lends array (0x42 ∷ 0x03 ∷ 0x40 ∷ []) & b lends stale 9 & tt) fifth (filled 9 (0 ∷ 8 ∷ 11 ∷ 3 ∷ []))
+  pub read_by_value_m : NeverLeaves bcube_read.Post (room_of 4 1 2 & 0 & 3 & q lends array (0x42 ∷ 0x03 ∷ 0x40 ∷ []) & b lends_mut stale 9 & tt) fifth (filled 9 (0 ∷ 8 ∷ 11 ∷ 3 ∷ []))
   -- 4 for 9: server 8 is not below N
-  pub read_four_for_nine : Never bcube_read.Post (room_of 4 1 2 & 0 & 3 & q lends array (0x42 ∷ 0x03 ∷ 0x40 ∷ []) & b lends stale 9 & tt) (word (plain 4) 0)
+  pub read_four_for_nine : Never bcube_read.Post (room_of 4 1 2 & 0 & 3 & q lends array (0x42 ∷ 0x03 ∷ 0x40 ∷ []) & b lends_mut stale 9 & tt) (word (plain 4) 0)
   -- the bound of level 0 as m: byte 03 refused
-  pub read_by_value_3_refused : Never bcube_read.Post (room_of 4 1 2 & 0 & 3 & q lends array (0x03 ∷ []) & b lends stale 9 & tt) (word (refused_at 9 1 1) 0)
+  pub read_by_value_3_refused : Never bcube_read.Post (room_of 4 1 2 & 0 & 3 & q lends array (0x03 ∷ []) & b lends_mut stale 9 & tt) (word (refused_at 9 1 1) 0)
   -- N as n to the power k + 1: 8 to 0 of (4,1,2) by byte 40
-  pub read_in_the_full_room : Never bcube_read.Post (room_of 4 1 2 & 8 & 0 & q lends array (0x40 ∷ []) & b lends stale 9 & tt) (word none 2)
+  pub read_in_the_full_room : Never bcube_read.Post (room_of 4 1 2 & 8 & 0 & q lends array (0x40 ∷ []) & b lends_mut stale 9 & tt) (word none 2)
   -- 29 at hop 2, earlier hop 1, 00 by 01 to 03 of (4,1): the earlier byte zero
-  pub read_earlier_byte_zero : Never bcube_read.Post (room_of 4 1 4 & 0 & 3 & q lends switch_twice & b lends stale 9 & tt) (word (refused_at 29 1 2) 0)
+  pub read_earlier_byte_zero : Never bcube_read.Post (room_of 4 1 4 & 0 & 3 & q lends switch_twice & b lends_mut stale 9 & tt) (word (refused_at 29 1 2) 0)
   -- its halves exchanged, so that the hop is told as a route
-  pub read_earlier_halves_exchanged : Never bcube_read.Post (room_of 4 1 4 & 0 & 3 & q lends switch_twice & b lends stale 9 & tt) (record { word = 16777216 * 16 + (65536 * 2 + (256 * 1 + 29)) })
+  pub read_earlier_halves_exchanged : Never bcube_read.Post (room_of 4 1 4 & 0 & 3 & q lends switch_twice & b lends_mut stale 9 & tt) (record { word = 16777216 * 16 + (65536 * 2 + (256 * 1 + 29)) })
   -- the byte of the hop and the byte of the earlier one exchanged
-  pub read_hop_bytes_exchanged : Never bcube_read.Post (room_of 4 1 4 & 0 & 3 & q lends switch_twice & b lends stale 9 & tt) (record { word = 16777216 * 2 + (65536 * 1 + (256 * 1 + 29)) })
+  pub read_hop_bytes_exchanged : Never bcube_read.Post (room_of 4 1 4 & 0 & 3 & q lends switch_twice & b lends_mut stale 9 & tt) (record { word = 16777216 * 2 + (65536 * 1 + (256 * 1 + 29)) })
   -- the earlier hop told as a value
-  pub read_earlier_as_value : Never bcube_read.Post (room_of 4 1 4 & 0 & 3 & q lends switch_twice & b lends stale 9 & tt) (word (refused_at 29 1 2) 1)
+  pub read_earlier_as_value : Never bcube_read.Post (room_of 4 1 4 & 0 & 3 & q lends switch_twice & b lends_mut stale 9 & tt) (word (refused_at 29 1 2) 1)
   -- the servers met before it counted beside it
-  pub read_count_told_with_29 : Never bcube_read.Post (room_of 4 1 4 & 0 & 3 & q lends switch_twice & b lends stale 9 & tt) (word (with_earlier 0 1 (refused_at 29 1 2)) 2)
+  pub read_count_told_with_29 : Never bcube_read.Post (room_of 4 1 4 & 0 & 3 & q lends switch_twice & b lends_mut stale 9 & tt) (word (with_earlier 0 1 (refused_at 29 1 2)) 2)
   -- ---- bcube_write
   -- nine servers refused
-  pub write_nine_refused : Never bcube_write.Post (room_of 4 1 4 & q lends 0 ∷ 1 ∷ 5 ∷ 6 ∷ 10 ∷ 11 ∷ 15 ∷ 12 ∷ 8 ∷ [] & b lends stale 8 & tt) (word (plain 22) 0)
+  pub write_nine_refused : Never bcube_write.Post (room_of 4 1 4 & q lends 0 ∷ 1 ∷ 5 ∷ 6 ∷ 10 ∷ 11 ∷ 15 ∷ 12 ∷ 8 ∷ [] & b lends_mut stale 8 & tt) (word (plain 22) 0)
   -- the place one off: 23 at the third hop of 00, 01, 11, 00, 13
-  pub write_place_one_off : Never bcube_write.Post (room_of 4 1 4 & q lends 0 ∷ 1 ∷ 5 ∷ 0 ∷ 7 ∷ [] & b lends stale 8 & tt) (word (refused_at 23 1 2) 0)
+  pub write_place_one_off : Never bcube_write.Post (room_of 4 1 4 & q lends 0 ∷ 1 ∷ 5 ∷ 0 ∷ 7 ∷ [] & b lends_mut stale 8 & tt) (word (refused_at 23 1 2) 0)
   -- the position in the low bits of a byte: 00, 10, 13
-  pub write_position_low : NeverLeaves bcube_write.Post (room_of 4 1 4 & q lends 0 ∷ 4 ∷ 7 ∷ [] & b lends stale 8 & tt) third (array (0x05 ∷ 0x0c ∷ []))
+  pub write_position_low : NeverLeaves bcube_write.Post (room_of 4 1 4 & q lends 0 ∷ 4 ∷ 7 ∷ [] & b lends_mut stale 8 & tt) third (array (0x05 ∷ 0x0c ∷ []))
   -- the buffer left as it was lent
-  pub write_not_written : NeverLeaves bcube_write.Post (room_of 4 1 4 & q lends 0 ∷ 4 ∷ 7 ∷ [] & b lends stale 8 & tt) third (stale 8)
+  pub write_not_written : NeverLeaves bcube_write.Post (room_of 4 1 4 & q lends 0 ∷ 4 ∷ 7 ∷ [] & b lends_mut stale 8 & tt) third (stale 8)
   -- the buffer touched on refusal: the hops before the one that is refused
-  pub write_touched : NeverLeaves bcube_write.Post (room_of 4 1 4 & q lends 0 ∷ 1 ∷ 5 ∷ 0 ∷ 7 ∷ [] & b lends stale 8 & tt) third (0x01 ∷ 0x41 ∷ stale 6)
+  pub write_touched : NeverLeaves bcube_write.Post (room_of 4 1 4 & q lends 0 ∷ 1 ∷ 5 ∷ 0 ∷ 7 ∷ [] & b lends_mut stale 8 & tt) third (0x01 ∷ 0x41 ∷ stale 6)
   -- N as n to the power k + 1: 0, 8, 11, 3 of (4,1,2)
-  pub written_in_the_full_room : NeverLeaves bcube_write.Post (room_of 4 1 2 & q lends 0 ∷ 8 ∷ 11 ∷ 3 ∷ [] & b lends stale 8 & tt) third (array (0x42 ∷ 0x03 ∷ 0x40 ∷ []))
+  pub written_in_the_full_room : NeverLeaves bcube_write.Post (room_of 4 1 2 & q lends 0 ∷ 8 ∷ 11 ∷ 3 ∷ [] & b lends_mut stale 8 & tt) third (array (0x42 ∷ 0x03 ∷ 0x40 ∷ []))
   -- 29 at hop 2, earlier hop 1, 00, 01, 03 of (4,1): the earlier byte zero
-  pub write_earlier_byte_zero : Never bcube_write.Post (room_of 4 1 4 & q lends 0 ∷ 1 ∷ 3 ∷ [] & b lends stale 8 & tt) (word (refused_at 29 1 2) 0)
+  pub write_earlier_byte_zero : Never bcube_write.Post (room_of 4 1 4 & q lends 0 ∷ 1 ∷ 3 ∷ [] & b lends_mut stale 8 & tt) (word (refused_at 29 1 2) 0)
   -- its halves exchanged, so that the hop is told as a route
-  pub write_earlier_halves_exchanged : Never bcube_write.Post (room_of 4 1 4 & q lends 0 ∷ 1 ∷ 3 ∷ [] & b lends stale 8 & tt) (record { word = 16777216 * 16 + (65536 * 2 + (256 * 1 + 29)) })
+  pub write_earlier_halves_exchanged : Never bcube_write.Post (room_of 4 1 4 & q lends 0 ∷ 1 ∷ 3 ∷ [] & b lends_mut stale 8 & tt) (record { word = 16777216 * 16 + (65536 * 2 + (256 * 1 + 29)) })
   -- the byte of the hop and the byte of the earlier one exchanged
-  pub write_hop_bytes_exchanged : Never bcube_write.Post (room_of 4 1 4 & q lends 0 ∷ 1 ∷ 3 ∷ [] & b lends stale 8 & tt) (record { word = 16777216 * 2 + (65536 * 1 + (256 * 1 + 29)) })
+  pub write_hop_bytes_exchanged : Never bcube_write.Post (room_of 4 1 4 & q lends 0 ∷ 1 ∷ 3 ∷ [] & b lends_mut stale 8 & tt) (record { word = 16777216 * 2 + (65536 * 1 + (256 * 1 + 29)) })
   -- the earlier hop told as a value
-  pub write_earlier_as_value : Never bcube_write.Post (room_of 4 1 4 & q lends 0 ∷ 1 ∷ 3 ∷ [] & b lends stale 8 & tt) (word (refused_at 29 1 2) 1)
+  pub write_earlier_as_value : Never bcube_write.Post (room_of 4 1 4 & q lends 0 ∷ 1 ∷ 3 ∷ [] & b lends_mut stale 8 & tt) (word (refused_at 29 1 2) 1)
   -- ---- bcube_reverse
   -- read from the destination: c1, from 1011 of (8,3), changes nothing
-  pub reverse_read_from_destination : Never bcube_reverse.Post (room_of 8 3 8 & 1 & 521 & q lends array (0xc1 ∷ 0x41 ∷ []) & b lends stale 8 & tt) (word (refused_at 10 1 1) 0)
+  pub reverse_read_from_destination : Never bcube_reverse.Post (room_of 8 3 8 & 1 & 521 & q lends array (0xc1 ∷ 0x41 ∷ []) & b lends_mut stale 8 & tt) (word (refused_at 10 1 1) 0)
   -- the hops told in the value
-  pub reverse_hops_told : Never bcube_reverse.Post (room_of 8 3 8 & 1 & 521 & q lends array (0xc1 ∷ 0x41 ∷ []) & b lends stale 8 & tt) (word none 2)
+  pub reverse_hops_told : Never bcube_reverse.Post (room_of 8 3 8 & 1 & 521 & q lends array (0xc1 ∷ 0x41 ∷ []) & b lends_mut stale 8 & tt) (word none 2)
   -- the identity
-  pub reverse_is_identity : NeverLeaves bcube_reverse.Post (room_of 8 3 8 & 1 & 521 & q lends array (0xc1 ∷ 0x41 ∷ []) & b lends stale 8 & tt) fifth (array (0xc1 ∷ 0x41 ∷ []))
+  pub reverse_is_identity : NeverLeaves bcube_reverse.Post (room_of 8 3 8 & 1 & 521 & q lends array (0xc1 ∷ 0x41 ∷ []) & b lends_mut stale 8 & tt) fifth (array (0xc1 ∷ 0x41 ∷ []))
   -- the bytes turned round, and not the servers
-  pub reverse_bytes_turned_round : NeverLeaves bcube_reverse.Post (room_of 8 3 8 & 1 & 521 & q lends array (0xc1 ∷ 0x41 ∷ []) & b lends stale 8 & tt) fifth (array (0x41 ∷ 0xc1 ∷ []))
+  pub reverse_bytes_turned_round : NeverLeaves bcube_reverse.Post (room_of 8 3 8 & 1 & 521 & q lends array (0xc1 ∷ 0x41 ∷ []) & b lends_mut stale 8 & tt) fifth (array (0x41 ∷ 0xc1 ∷ []))
   -- the buffer left as it was lent
-  pub reverse_not_written : NeverLeaves bcube_reverse.Post (room_of 8 3 8 & 1 & 521 & q lends array (0xc1 ∷ 0x41 ∷ []) & b lends stale 8 & tt) fifth (stale 8)
+  pub reverse_not_written : NeverLeaves bcube_reverse.Post (room_of 8 3 8 & 1 & 521 & q lends array (0xc1 ∷ 0x41 ∷ []) & b lends_mut stale 8 & tt) fifth (stale 8)
   -- the buffer touched on refusal 5
-  pub reverse_touched : NeverLeaves bcube_reverse.Post (room_of 8 3 8 & 1 & 1 & q lends array (0xc1 ∷ 0x41 ∷ []) & b lends stale 8 & tt) fifth (replicate 8 0)
+  pub reverse_touched : NeverLeaves bcube_reverse.Post (room_of 8 3 8 & 1 & 1 & q lends array (0xc1 ∷ 0x41 ∷ []) & b lends_mut stale 8 & tt) fifth (replicate 8 0)
   -- new values in place of the old ones, in a room that is not full: 3001 to 3011 of (8,3,4) by c0 41 c3
-  pub reverse_bytes_turned_round_at_level_k : NeverLeaves bcube_reverse.Post (room_of 8 3 4 & 1537 & 1545 & q lends array (0xc0 ∷ 0x41 ∷ 0xc3 ∷ []) & b lends stale 8 & tt) fifth (array (0xc3 ∷ 0x41 ∷ 0xc0 ∷ []))
+  pub reverse_bytes_turned_round_at_level_k : NeverLeaves bcube_reverse.Post (room_of 8 3 4 & 1537 & 1545 & q lends array (0xc0 ∷ 0x41 ∷ 0xc3 ∷ []) & b lends_mut stale 8 & tt) fifth (array (0xc3 ∷ 0x41 ∷ 0xc0 ∷ []))
   -- the trace not turned round: the old values, first hop first
-  pub reverse_trace_not_turned_round : NeverLeaves bcube_reverse.Post (room_of 8 3 8 & 1 & 521 & q lends array (0xc1 ∷ 0x41 ∷ []) & b lends stale 8 & tt) fifth (array (0xc0 ∷ 0x40 ∷ []))
+  pub reverse_trace_not_turned_round : NeverLeaves bcube_reverse.Post (room_of 8 3 8 & 1 & 521 & q lends array (0xc1 ∷ 0x41 ∷ []) & b lends_mut stale 8 & tt) fifth (array (0xc0 ∷ 0x40 ∷ []))
   -- the byte of the last hop left out
-  pub reverse_last_hop_left_out : NeverLeaves bcube_reverse.Post (room_of 8 3 8 & 1 & 521 & q lends array (0xc1 ∷ 0x41 ∷ []) & b lends stale 8 & tt) fifth (array (0xc0 ∷ []))
+  pub reverse_last_hop_left_out : NeverLeaves bcube_reverse.Post (room_of 8 3 8 & 1 & 521 & q lends array (0xc1 ∷ 0x41 ∷ []) & b lends_mut stale 8 & tt) fifth (array (0xc0 ∷ []))
   -- the byte of the first hop left out
-  pub reverse_first_hop_left_out : NeverLeaves bcube_reverse.Post (room_of 8 3 8 & 1 & 521 & q lends array (0xc1 ∷ 0x41 ∷ []) & b lends stale 8 & tt) fifth (array (0x40 ∷ []))
+  pub reverse_first_hop_left_out : NeverLeaves bcube_reverse.Post (room_of 8 3 8 & 1 & 521 & q lends array (0xc1 ∷ 0x41 ∷ []) & b lends_mut stale 8 & tt) fifth (array (0x40 ∷ []))
   -- the zeros before the bytes, and not after
-  pub reverse_zeros_before : NeverLeaves bcube_reverse.Post (room_of 8 3 8 & 1 & 521 & q lends array (0xc1 ∷ 0x41 ∷ []) & b lends stale 8 & tt) fifth (replicate 6 0 ++ (0x40 ∷ 0xc0 ∷ []))
+  pub reverse_zeros_before : NeverLeaves bcube_reverse.Post (room_of 8 3 8 & 1 & 521 & q lends array (0xc1 ∷ 0x41 ∷ []) & b lends_mut stale 8 & tt) fifth (replicate 6 0 ++ (0x40 ∷ 0xc0 ∷ []))
   -- bytes past the way back left as they were lent
-  pub reverse_zeros_forgotten : NeverLeaves bcube_reverse.Post (room_of 8 3 8 & 1 & 521 & q lends array (0xc1 ∷ 0x41 ∷ []) & b lends stale 8 & tt) fifth (0x40 ∷ 0xc0 ∷ stale 6)
+  pub reverse_zeros_forgotten : NeverLeaves bcube_reverse.Post (room_of 8 3 8 & 1 & 521 & q lends array (0xc1 ∷ 0x41 ∷ []) & b lends_mut stale 8 & tt) fifth (0x40 ∷ 0xc0 ∷ stale 6)
   -- a zero byte taken for the end: 01 to 10 of (4,1) by 00 41, and not arrived
-  pub reverse_zero_byte_is_the_end : Never bcube_reverse.Post (room_of 4 1 4 & 1 & 4 & q lends array (0x00 ∷ 0x41 ∷ []) & b lends stale 8 & tt) (word (refused_at 13 1 8) 0)
+  pub reverse_zero_byte_is_the_end : Never bcube_reverse.Post (room_of 4 1 4 & 1 & 4 & q lends array (0x00 ∷ 0x41 ∷ []) & b lends_mut stale 8 & tt) (word (refused_at 13 1 8) 0)
   -- the same, with the bytes of no hop
-  pub reverse_nothing_before_a_zero_byte : NeverLeaves bcube_reverse.Post (room_of 4 1 4 & 1 & 4 & q lends array (0x00 ∷ 0x41 ∷ []) & b lends stale 8 & tt) fifth (array [])
+  pub reverse_nothing_before_a_zero_byte : NeverLeaves bcube_reverse.Post (room_of 4 1 4 & 1 & 4 & q lends array (0x00 ∷ 0x41 ∷ []) & b lends_mut stale 8 & tt) fifth (array [])
   -- a zero byte of the way back left out: 10 to 01 of (4,1) by 40 01, backwards 00 41
-  pub reverse_zero_byte_left_out : NeverLeaves bcube_reverse.Post (room_of 4 1 4 & 4 & 1 & q lends array (0x40 ∷ 0x01 ∷ []) & b lends stale 8 & tt) fifth (array (0x41 ∷ []))
+  pub reverse_zero_byte_left_out : NeverLeaves bcube_reverse.Post (room_of 4 1 4 & 4 & 1 & q lends array (0x40 ∷ 0x01 ∷ []) & b lends_mut stale 8 & tt) fifth (array (0x41 ∷ []))
   -- the way back cut to four bytes: eight hops from 00 to 20 of (4,1)
-  pub reverse_way_back_cut : NeverLeaves bcube_reverse.Post (room_of 4 1 4 & 0 & 8 & q lends eight_hops & b lends stale 8 & tt) fifth (array (0x43 ∷ 0x03 ∷ 0x42 ∷ 0x02 ∷ []))
+  pub reverse_way_back_cut : NeverLeaves bcube_reverse.Post (room_of 4 1 4 & 0 & 8 & q lends eight_hops & b lends_mut stale 8 & tt) fifth (array (0x43 ∷ 0x03 ∷ 0x42 ∷ 0x02 ∷ []))
   -- the buffer touched on refusal: the way back of the hops before it, 00 to 13 of (4,1) by 41 03 01
-  pub reverse_way_back_on_refusal : NeverLeaves bcube_reverse.Post (room_of 4 1 4 & 0 & 7 & q lends array (0x41 ∷ 0x03 ∷ 0x01 ∷ []) & b lends stale 8 & tt) fifth (array (0x00 ∷ 0x40 ∷ []))
+  pub reverse_way_back_on_refusal : NeverLeaves bcube_reverse.Post (room_of 4 1 4 & 0 & 7 & q lends array (0x41 ∷ 0x03 ∷ 0x01 ∷ []) & b lends_mut stale 8 & tt) fifth (array (0x00 ∷ 0x40 ∷ []))
   -- the bound of level k as n: 0 to 3 of (4,1,2) by 42 03 40
-  pub reversed_by_value_m : NeverLeaves bcube_reverse.Post (room_of 4 1 2 & 0 & 3 & q lends array (0x42 ∷ 0x03 ∷ 0x40 ∷ []) & b lends stale 8 & tt) fifth (array (0x42 ∷ 0x00 ∷ 0x40 ∷ []))
+  pub reversed_by_value_m : NeverLeaves bcube_reverse.Post (room_of 4 1 2 & 0 & 3 & q lends array (0x42 ∷ 0x03 ∷ 0x40 ∷ []) & b lends_mut stale 8 & tt) fifth (array (0x42 ∷ 0x00 ∷ 0x40 ∷ []))
   -- the bound of level 0 as m: byte 03 refused
-  pub reverse_by_value_3_refused : Never bcube_reverse.Post (room_of 4 1 2 & 0 & 3 & q lends array (0x03 ∷ []) & b lends stale 8 & tt) (word (refused_at 9 1 1) 0)
+  pub reverse_by_value_3_refused : Never bcube_reverse.Post (room_of 4 1 2 & 0 & 3 & q lends array (0x03 ∷ []) & b lends_mut stale 8 & tt) (word (refused_at 9 1 1) 0)
   -- N as n to the power k + 1: 8 to 0 of (4,1,2) by byte 40
-  pub reversed_in_the_full_room : NeverLeaves bcube_reverse.Post (room_of 4 1 2 & 8 & 0 & q lends array (0x40 ∷ []) & b lends stale 8 & tt) fifth (array (0x42 ∷ []))
+  pub reversed_in_the_full_room : NeverLeaves bcube_reverse.Post (room_of 4 1 2 & 8 & 0 & q lends array (0x40 ∷ []) & b lends_mut stale 8 & tt) fifth (array (0x42 ∷ []))
   -- 29 at hop 2, earlier hop 1, 00 by 01 to 03 of (4,1): the earlier byte zero
-  pub reverse_earlier_byte_zero : Never bcube_reverse.Post (room_of 4 1 4 & 0 & 3 & q lends switch_twice & b lends stale 8 & tt) (word (refused_at 29 1 2) 0)
+  pub reverse_earlier_byte_zero : Never bcube_reverse.Post (room_of 4 1 4 & 0 & 3 & q lends switch_twice & b lends_mut stale 8 & tt) (word (refused_at 29 1 2) 0)
   -- its halves exchanged, so that the hop is told as a route
-  pub reverse_earlier_halves_exchanged : Never bcube_reverse.Post (room_of 4 1 4 & 0 & 3 & q lends switch_twice & b lends stale 8 & tt) (record { word = 16777216 * 16 + (65536 * 2 + (256 * 1 + 29)) })
+  pub reverse_earlier_halves_exchanged : Never bcube_reverse.Post (room_of 4 1 4 & 0 & 3 & q lends switch_twice & b lends_mut stale 8 & tt) (record { word = 16777216 * 16 + (65536 * 2 + (256 * 1 + 29)) })
   -- the byte of the hop and the byte of the earlier one exchanged
-  pub reverse_hop_bytes_exchanged : Never bcube_reverse.Post (room_of 4 1 4 & 0 & 3 & q lends switch_twice & b lends stale 8 & tt) (record { word = 16777216 * 2 + (65536 * 1 + (256 * 1 + 29)) })
+  pub reverse_hop_bytes_exchanged : Never bcube_reverse.Post (room_of 4 1 4 & 0 & 3 & q lends switch_twice & b lends_mut stale 8 & tt) (record { word = 16777216 * 2 + (65536 * 1 + (256 * 1 + 29)) })
   -- the earlier hop told as a value
-  pub reverse_earlier_as_value : Never bcube_reverse.Post (room_of 4 1 4 & 0 & 3 & q lends switch_twice & b lends stale 8 & tt) (word (refused_at 29 1 2) 1)
+  pub reverse_earlier_as_value : Never bcube_reverse.Post (room_of 4 1 4 & 0 & 3 & q lends switch_twice & b lends_mut stale 8 & tt) (word (refused_at 29 1 2) 1)
   -- ---- bcube_check
   -- middle servers compared only: 00 to 03 of (4,1), the route 03 twice
   pub check_middle_servers_only : Never bcube_check.Post (room_of 4 1 4 & 0 & 3 & o lends healthy & q lends array (0x03 ∷ []) ++ array (0x03 ∷ []) & tt) (word none 0)
@@ -690,67 +690,67 @@ pub record Driver (o q b : Loan) : Type 0 where
   pub check_earlier_as_value : Never bcube_check.Post (room_of 4 1 4 & 0 & 7 & o lends healthy & q lends direct ++ array (0x02 ∷ 0x41 ∷ 0x03 ∷ []) & tt) (word (refused_at 15 2 3) 18)
   -- ---- bcube_build
   -- its room counted for routes: 00 to 13 of (4,1)
-  pub build_room_counted : Never bcube_build.Post (room_of 4 1 4 & 0 & 7 & b lends stale 32 & tt) (word none 4)
+  pub build_room_counted : Never bcube_build.Post (room_of 4 1 4 & 0 & 7 & b lends_mut stale 32 & tt) (word none 4)
   -- no routes from a server to itself, and no refusal
-  pub build_same_ends : Never bcube_build.Post (room_of 4 1 4 & 7 & 7 & b lends stale 32 & tt) (word none 0)
+  pub build_same_ends : Never bcube_build.Post (room_of 4 1 4 & 7 & 7 & b lends_mut stale 32 & tt) (word none 0)
   -- lower slots first
-  pub build_lower_slots_first : NeverLeaves bcube_build.Post (room_of 4 1 4 & 0 & 7 & b lends stale 32 & tt) fourth (filled 32 (joined (other ∷ direct ∷ [])))
+  pub build_lower_slots_first : NeverLeaves bcube_build.Post (room_of 4 1 4 & 0 & 7 & b lends_mut stale 32 & tt) fourth (filled 32 (joined (other ∷ direct ∷ [])))
   -- the buffer left as it was lent
-  pub build_not_written : NeverLeaves bcube_build.Post (room_of 4 1 4 & 0 & 7 & b lends stale 32 & tt) fourth (stale 32)
+  pub build_not_written : NeverLeaves bcube_build.Post (room_of 4 1 4 & 0 & 7 & b lends_mut stale 32 & tt) fourth (stale 32)
   -- bytes past the routes left as they were lent
-  pub build_zeros_forgotten : NeverLeaves bcube_build.Post (room_of 4 1 4 & 0 & 7 & b lends stale 32 & tt) fourth (joined (direct ∷ other ∷ stale 16 ∷ []))
+  pub build_zeros_forgotten : NeverLeaves bcube_build.Post (room_of 4 1 4 & 0 & 7 & b lends_mut stale 32 & tt) fourth (joined (direct ∷ other ∷ stale 16 ∷ []))
   -- the buffer touched on refusal 5
-  pub build_touched : NeverLeaves bcube_build.Post (room_of 4 1 4 & 7 & 7 & b lends stale 32 & tt) fourth (replicate 32 0)
+  pub build_touched : NeverLeaves bcube_build.Post (room_of 4 1 4 & 7 & 7 & b lends_mut stale 32 & tt) fourth (replicate 32 0)
   -- the detour at level k taken mod n: 3001 to 3011 of (8,3,4), from 3 to 4
-  pub build_detour_mod_n : NeverLeaves bcube_build.Post (room_of 8 3 4 & 1537 & 1545 & b lends stale 32 & tt) fourth
+  pub build_detour_mod_n : NeverLeaves bcube_build.Post (room_of 8 3 4 & 1537 & 1545 & b lends_mut stale 32 & tt) fourth
       (filled 32 (joined (array (0xc4 ∷ 0x41 ∷ 0xc3 ∷ []) ∷ array (0x81 ∷ 0x41 ∷ 0x80 ∷ []) ∷ array (0x41 ∷ []) ∷ array (0x02 ∷ 0x41 ∷ 0x01 ∷ []) ∷ [])))
   -- the detour at level 0 taken mod m: 0003 to 0013 of (8,3,4), from 3 to 0
-  pub build_detour_mod_m : NeverLeaves bcube_build.Post (room_of 8 3 4 & 3 & 11 & b lends stale 32 & tt) fourth
+  pub build_detour_mod_m : NeverLeaves bcube_build.Post (room_of 8 3 4 & 3 & 11 & b lends_mut stale 32 & tt) fourth
       (filled 32 (joined (array (0xc1 ∷ 0x41 ∷ 0xc0 ∷ []) ∷ array (0x81 ∷ 0x41 ∷ 0x80 ∷ []) ∷ array (0x41 ∷ []) ∷ array (0x00 ∷ 0x41 ∷ 0x03 ∷ []) ∷ [])))
   -- N as n to the power k + 1: 8 to 0 of (4,1,2)
-  pub build_in_the_full_room : Never bcube_build.Post (room_of 4 1 2 & 8 & 0 & b lends stale 32 & tt) (word none 2)
+  pub build_in_the_full_room : Never bcube_build.Post (room_of 4 1 2 & 8 & 0 & b lends_mut stale 32 & tt) (word none 2)
   -- ---- bcube_find
   -- the hops made up: the servers of 41 03 counted, 00 to 13 of (4,1)
-  pub find_servers_for_hops : Never bcube_find.Post (room_of 4 1 4 & 0 & 7 & o lends healthy & b lends stale 8 & tt) (word none 3)
+  pub find_servers_for_hops : Never bcube_find.Post (room_of 4 1 4 & 0 & 7 & o lends healthy & b lends_mut stale 8 & tt) (word none 3)
   -- an alternate that exists denied: 00 to 01 of (4,1), where the level-0 link of 00 is failed
-  pub find_denied : Never bcube_find.Post (room_of 4 1 4 & 0 & 1 & o lends failing 0 1 & b lends stale 8 & tt) (word none 0)
+  pub find_denied : Never bcube_find.Post (room_of 4 1 4 & 0 & 1 & o lends failing 0 1 & b lends_mut stale 8 & tt) (word none 0)
   -- the tie rule with the lower level first: 000 to 111 of (2,2)
-  pub find_lower_level_first : NeverLeaves bcube_find.Post (room_of 2 2 2 & 0 & 7 & o lends tied & b lends stale 8 & tt) fifth (array (0x01 ∷ 0x81 ∷ 0x41 ∷ []))
+  pub find_lower_level_first : NeverLeaves bcube_find.Post (room_of 2 2 2 & 0 & 7 & o lends tied & b lends_mut stale 8 & tt) fifth (array (0x01 ∷ 0x81 ∷ 0x41 ∷ []))
   -- the tie rule from the other end
-  pub find_tie_from_the_other_end : NeverLeaves bcube_find.Post (room_of 2 2 2 & 0 & 7 & o lends tied & b lends stale 8 & tt) fifth (array (0x41 ∷ 0x01 ∷ 0x81 ∷ []))
+  pub find_tie_from_the_other_end : NeverLeaves bcube_find.Post (room_of 2 2 2 & 0 & 7 & o lends tied & b lends_mut stale 8 & tt) fifth (array (0x41 ∷ 0x01 ∷ 0x81 ∷ []))
   -- the buffer left as it was lent
-  pub find_not_written : NeverLeaves bcube_find.Post (room_of 2 2 2 & 0 & 7 & o lends tied & b lends stale 8 & tt) fifth (stale 8)
+  pub find_not_written : NeverLeaves bcube_find.Post (room_of 2 2 2 & 0 & 7 & o lends tied & b lends_mut stale 8 & tt) fifth (stale 8)
   -- the buffer touched on refusal 5
-  pub find_touched : NeverLeaves bcube_find.Post (room_of 2 2 2 & 7 & 7 & o lends tied & b lends stale 8 & tt) fifth (replicate 8 0)
+  pub find_touched : NeverLeaves bcube_find.Post (room_of 2 2 2 & 7 & 7 & o lends tied & b lends_mut stale 8 & tt) fifth (replicate 8 0)
   -- a value from m to n - 1 tried at level k: 00 to 01 of (4,1,2), where only 42 01 40 of (4,1) is left
-  pub find_value_m_tried : NeverLeaves bcube_find.Post (room_of 4 1 2 & 0 & 1 & o lends cut_off & b lends stale 8 & tt) fifth (array (0x42 ∷ 0x01 ∷ 0x40 ∷ []))
+  pub find_value_m_tried : NeverLeaves bcube_find.Post (room_of 4 1 2 & 0 & 1 & o lends cut_off & b lends_mut stale 8 & tt) fifth (array (0x42 ∷ 0x01 ∷ 0x40 ∷ []))
   -- no value from m on tried at level 0: 00 to 03 of (4,1,2)
-  pub find_value_3_not_tried : Never bcube_find.Post (room_of 4 1 2 & 0 & 3 & o lends replicate 8 0 & b lends stale 8 & tt) (word none 0)
+  pub find_value_3_not_tried : Never bcube_find.Post (room_of 4 1 2 & 0 & 3 & o lends replicate 8 0 & b lends_mut stale 8 & tt) (word none 0)
   -- N as n to the power k + 1: 8 to 0 of (4,1,2) with sixteen bytes of table
-  pub find_in_the_full_room : Never bcube_find.Post (room_of 4 1 2 & 8 & 0 & o lends healthy & b lends stale 8 & tt) (word none 1)
+  pub find_in_the_full_room : Never bcube_find.Post (room_of 4 1 2 & 8 & 0 & o lends healthy & b lends_mut stale 8 & tt) (word none 1)
   -- the same of 0 to 1, servers of the room
-  pub find_over_full_table : Never bcube_find.Post (room_of 4 1 2 & 0 & 1 & o lends healthy & b lends stale 8 & tt) (word none 1)
+  pub find_over_full_table : Never bcube_find.Post (room_of 4 1 2 & 0 & 1 & o lends healthy & b lends_mut stale 8 & tt) (word none 1)
   -- ---- bcube_select, 00 to 13 of (4,1) with server 03 dead, where not said otherwise: 41 03, then 01 42 03 41
   -- 16 since one route is broken
-  pub select_sixteen_with_a_route : Never bcube_select.Post (room_of 4 1 4 & 0 & 7 & o lends failing 3 3 & b lends stale 32 & tt) (word (plain 16) 0)
+  pub select_sixteen_with_a_route : Never bcube_select.Post (room_of 4 1 4 & 0 & 7 & o lends failing 3 3 & b lends_mut stale 32 & tt) (word (plain 16) 0)
   -- an alternate that exists denied
-  pub select_denied : Never bcube_select.Post (room_of 4 1 4 & 0 & 7 & o lends failing 3 3 & b lends stale 32 & tt) (word none 1)
+  pub select_denied : Never bcube_select.Post (room_of 4 1 4 & 0 & 7 & o lends failing 3 3 & b lends_mut stale 32 & tt) (word none 1)
   -- lower slots first
-  pub select_lower_slots_first : NeverLeaves bcube_select.Post (room_of 4 1 4 & 0 & 7 & o lends failing 3 3 & b lends stale 32 & tt) fifth (filled 32 (joined (array (0x01 ∷ 0x42 ∷ 0x03 ∷ 0x41 ∷ []) ∷ direct ∷ [])))
+  pub select_lower_slots_first : NeverLeaves bcube_select.Post (room_of 4 1 4 & 0 & 7 & o lends failing 3 3 & b lends_mut stale 32 & tt) fifth (filled 32 (joined (array (0x01 ∷ 0x42 ∷ 0x03 ∷ 0x41 ∷ []) ∷ direct ∷ [])))
   -- the buffer left as it was lent
-  pub select_not_written : NeverLeaves bcube_select.Post (room_of 4 1 4 & 0 & 7 & o lends failing 3 3 & b lends stale 32 & tt) fifth (stale 32)
+  pub select_not_written : NeverLeaves bcube_select.Post (room_of 4 1 4 & 0 & 7 & o lends failing 3 3 & b lends_mut stale 32 & tt) fifth (stale 32)
   -- the buffer touched on refusal 16: 13 is dead
-  pub select_touched : NeverLeaves bcube_select.Post (room_of 4 1 4 & 0 & 7 & o lends failing 7 3 & b lends stale 32 & tt) fifth (replicate 32 0)
+  pub select_touched : NeverLeaves bcube_select.Post (room_of 4 1 4 & 0 & 7 & o lends failing 7 3 & b lends_mut stale 32 & tt) fifth (replicate 32 0)
   -- the detour at level k taken mod n: 10 to 13 of (4,1,2), from 1 to 2
-  pub select_detour_mod_n : NeverLeaves bcube_select.Post (room_of 4 1 2 & 4 & 7 & o lends replicate 8 0 & b lends stale 32 & tt) fifth (filled 32 (joined (array (0x42 ∷ 0x03 ∷ 0x41 ∷ []) ∷ array (0x03 ∷ []) ∷ [])))
+  pub select_detour_mod_n : NeverLeaves bcube_select.Post (room_of 4 1 2 & 4 & 7 & o lends replicate 8 0 & b lends_mut stale 32 & tt) fifth (filled 32 (joined (array (0x42 ∷ 0x03 ∷ 0x41 ∷ []) ∷ array (0x03 ∷ []) ∷ [])))
   -- a value from m to n - 1 tried at level k: 00 to 01 of (4,1,2), where only 42 01 40 of (4,1) is left
-  pub select_value_m_tried : NeverLeaves bcube_select.Post (room_of 4 1 2 & 0 & 1 & o lends cut_off & b lends stale 32 & tt) fifth (filled 32 (0x42 ∷ 0x01 ∷ 0x40 ∷ []))
+  pub select_value_m_tried : NeverLeaves bcube_select.Post (room_of 4 1 2 & 0 & 1 & o lends cut_off & b lends_mut stale 32 & tt) fifth (filled 32 (0x42 ∷ 0x01 ∷ 0x40 ∷ []))
   -- 16, since value 3 is not below m: 00 to 03 of (4,1,2)
-  pub select_sixteen_for_value_3 : Never bcube_select.Post (room_of 4 1 2 & 0 & 3 & o lends replicate 8 0 & b lends stale 32 & tt) (word (plain 16) 0)
+  pub select_sixteen_for_value_3 : Never bcube_select.Post (room_of 4 1 2 & 0 & 3 & o lends replicate 8 0 & b lends_mut stale 32 & tt) (word (plain 16) 0)
   -- N as n to the power k + 1: 8 to 0 of (4,1,2) with sixteen bytes of table
-  pub select_in_the_full_room : Never bcube_select.Post (room_of 4 1 2 & 8 & 0 & o lends healthy & b lends stale 32 & tt) (word none 2)
+  pub select_in_the_full_room : Never bcube_select.Post (room_of 4 1 2 & 8 & 0 & o lends healthy & b lends_mut stale 32 & tt) (word none 2)
   -- the same of 0 to 7, servers of the room
-  pub select_over_full_table : Never bcube_select.Post (room_of 4 1 2 & 0 & 7 & o lends healthy & b lends stale 32 & tt) (word none 2)
+  pub select_over_full_table : Never bcube_select.Post (room_of 4 1 2 & 0 & 7 & o lends healthy & b lends_mut stale 32 & tt) (word none 2)
   -- ---- bcube_pick, 00 to 13 of (4,1) where not said otherwise
   -- kept before fresh
   pub pick_kept_before_fresh : Never bcube_pick.Post (room_of 4 1 4 & 0 & 7 & o lends healthy & q lends direct & b lends other & tt) (word none 513)
@@ -859,13 +859,13 @@ pub record Driver (o q b : Loan) : Type 0 where
   pub parent_tree_as_route : Never bcube_parent.Post (room_of 2 3 2 & 0 & 3 & 10 & tt) (word (refused_at 0 3 0) 8)
   -- ---- bcube_tree
   -- the value in the low bytes of the word: the 16 servers of (4,1)
-  pub tree_value_low : Never bcube_tree.Post (room_of 4 1 4 & 0 & 0 & b lends stale 4096 & tt) (record { word = 16 })
+  pub tree_value_low : Never bcube_tree.Post (room_of 4 1 4 & 0 & 0 & b lends_mut stale 4096 & tt) (record { word = 16 })
   -- source or tree cut to 32 bits
-  pub tree_source_cut : Never bcube_tree.Post (room_of 4 1 4 & 4294967296 & 0 & b lends stale 4096 & tt) (word none 16)
-  pub tree_tree_cut : Never bcube_tree.Post (room_of 4 1 4 & 0 & 4294967296 & b lends stale 4096 & tt) (word none 16)
+  pub tree_source_cut : Never bcube_tree.Post (room_of 4 1 4 & 4294967296 & 0 & b lends_mut stale 4096 & tt) (word none 16)
+  pub tree_tree_cut : Never bcube_tree.Post (room_of 4 1 4 & 0 & 4294967296 & b lends_mut stale 4096 & tt) (word none 16)
   -- the refusal's number told as a value: 20
-  pub tree_number_as_value : Never bcube_tree.Post (room_of 4 1 4 & 0 & 2 & b lends stale 4096 & tt) (word none 20)
+  pub tree_number_as_value : Never bcube_tree.Post (room_of 4 1 4 & 0 & 2 & b lends_mut stale 4096 & tt) (word none 20)
   -- each byte of a number in a place of its own: the second of 4,294,967,295, at server 1, which hangs from 0
-  pub tree_in_bytes : NeverLeavesAt bcube_tree.Post (room_of 4 1 4 & 0 & 0 & b lends stale 4096 & tt) fourth 1 255
+  pub tree_in_bytes : NeverLeavesAt bcube_tree.Post (room_of 4 1 4 & 0 & 0 & b lends_mut stale 4096 & tt) fourth 1 255
   -- the bytes of a number the other way round: at 11, which hangs from 01
-  pub tree_bytes_turned_round : NeverLeavesAt bcube_tree.Post (room_of 4 1 4 & 0 & 0 & b lends stale 4096 & tt) fourth 5 16777216
+  pub tree_bytes_turned_round : NeverLeavesAt bcube_tree.Post (room_of 4 1 4 & 0 & 0 & b lends_mut stale 4096 & tt) fourth 5 16777216

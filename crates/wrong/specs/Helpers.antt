@@ -17,7 +17,7 @@ use Rattle.links.proofs.clear.Reads as clear
 use Rattle.links.proofs.room_refusal.Reads as room-refusal
 use Rattle.path.proofs.level_of.Reads as level-of
 use Rattle.path.proofs.value_of.Reads as value_of_lem
-use Rattle.wrong.specs.Never.{Never, NeverLeaves, Loan, ◌&◌, ◌lends◌}
+use Rattle.wrong.specs.Never.{Never, NeverLeaves, Loan, ◌&◌, ◌lends◌, ◌lends_mut◌}
 use Rattle.wrong.specs.Examples.{healthy, failing}
 
 abbrev pub a_side : ℕ → ℕ → ℕ → Side
@@ -111,14 +111,14 @@ pub record Helpers (o : Loan) : Type 0 where
   pub number_4096_taken : Never side-at.Post (full_room 8 3 & 0 & 4096 & tt) (a_side 32768 1 8)
   -- ---- mark
   -- nothing marked
-  pub marks_nothing : NeverLeaves mark.Post (o lends failing 3 1 & 3 & 1 & tt) (λ x. x.0.now) (failing 3 1)
+  pub marks_nothing : NeverLeaves mark.Post (o lends_mut failing 3 1 & 3 & 1 & tt) (λ x. x.0.now) (failing 3 1)
   -- marked again, the bit added again
-  pub marked_twice : NeverLeaves mark.Post (o lends failing 3 2 & 3 & 1 & tt) (λ x. x.0.now) (failing 3 4)
+  pub marked_twice : NeverLeaves mark.Post (o lends_mut failing 3 2 & 3 & 1 & tt) (λ x. x.0.now) (failing 3 4)
   -- ---- clear
   -- nothing cleared
-  pub clears_nothing : NeverLeaves clear.Post (o lends failing 3 3 & 3 & 0 & tt) (λ x. x.0.now) (failing 3 3)
+  pub clears_nothing : NeverLeaves clear.Post (o lends_mut failing 3 3 & 3 & 0 & tt) (λ x. x.0.now) (failing 3 3)
   -- cleared again, the bit taken away again
-  pub cleared_twice : NeverLeaves clear.Post (o lends failing 3 2 & 3 & 0 & tt) (λ x. x.0.now) (failing 3 1)
+  pub cleared_twice : NeverLeaves clear.Post (o lends_mut failing 3 2 & 3 & 0 & tt) (λ x. x.0.now) (failing 3 1)
   -- ---- room_refusal
   -- 6 not tested: a table of 15 bytes
   pub short_table_taken : Never room-refusal.Post (full_room 4 1 & o lends replicate 15 0 & 0 & 3 & tt) 0

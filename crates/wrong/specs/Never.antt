@@ -1,9 +1,10 @@
 -- What it is for a wrong answer to be refuted: the contract, as the prover reads it from the source, never allows it.
 use Rattle.std.specs.Prelude.{ℕ, ◌≡◌, List, get_or}
-use Rattle.std.specs.Borrow.{GName, Bor}
+use Rattle.std.specs.Borrow.{GName, Bor, MutBor}
 
 infixr 20 ◌&◌
 infix 35 ◌lends◌
+infix 35 ◌lends_mut◌
 -- the contract `post` never allows the result r at the arguments a, whatever the lifetimes κ and the parameters at exit x
 abbrev pub Never : {K A R X : Type 0} → (K → A → R → X → Type 0) → A → R → Type 0
 Never {K} {A} {R} {X} post a r = (κ : K) (x : X) → post κ a r x → ⊥
@@ -35,20 +36,24 @@ pub record Loan : Type 0 where
   pub place : ℕ × ℕ
   pub name : GName
 
--- a buffer of these bytes, lent
+-- a buffer of these bytes, lent to be read
 abbrev pub ◌lends◌ : Loan → List ℕ → Bor (List ℕ)
-o lends bs = record { ref_ptr = o.place; ghost_name = o.name; now = bs }
+o lends bs = record { ref_ptr = o.place; now = bs }
+
+-- a buffer of these bytes, lent to be written; such a loan has a ghost name
+abbrev pub ◌lends_mut◌ : Loan → List ℕ → MutBor (List ℕ)
+o lends_mut bs = record { ref_ptr = o.place; ghost_name = o.name; now = bs }
 
 -- ---- a buffer at exit, by which parameter it is
 
-abbrev pub second : {A B : Type 0} → A × (Bor (List ℕ) × B) → List ℕ
+abbrev pub second : {A B : Type 0} → A × (MutBor (List ℕ) × B) → List ℕ
 second x = x.1.0.now
 
-abbrev pub third : {A B C : Type 0} → A × (B × (Bor (List ℕ) × C)) → List ℕ
+abbrev pub third : {A B C : Type 0} → A × (B × (MutBor (List ℕ) × C)) → List ℕ
 third x = x.1.1.0.now
 
-abbrev pub fourth : {A B C D : Type 0} → A × (B × (C × (Bor (List ℕ) × D))) → List ℕ
+abbrev pub fourth : {A B C D : Type 0} → A × (B × (C × (MutBor (List ℕ) × D))) → List ℕ
 fourth x = x.1.1.1.0.now
 
-abbrev pub fifth : {A B C D E : Type 0} → A × (B × (C × (D × (Bor (List ℕ) × E)))) → List ℕ
+abbrev pub fifth : {A B C D E : Type 0} → A × (B × (C × (D × (MutBor (List ℕ) × E)))) → List ℕ
 fifth x = x.1.1.1.1.0.now
