@@ -46,7 +46,7 @@ use Rattle.pick.proofs.Promises.{empty_exactly}
 use Rattle.step.specs.declared.Step.{Step}
 use Rattle.step.specs.Steps.{step_refusal, with_place, no_step, delivery, forwarded, step_answer}
 use Rattle.demands.specs.Tests.{Refused, Exactly}
-use Rattle.demands.specs.Demand1.{of_aHop, at-hop, no_arrival, server_again, switch_again, meeting, PartsOf, WalkedOf, ReadingOf, WritingOf, FoundOf, SelectionOf, PlaceOf, StepOf, RefusalOf, HopOf, EveryCall}
+use Rattle.demands.specs.Demand1.{of_a_hop, at-hop, no_arrival, server_again, switch_again, meeting, PartsOf, WalkedOf, ReadingOf, WritingOf, FoundOf, SelectionOf, PlaceOf, StepOf, RefusalOf, HopOf, EveryCall}
 use Rattle.demands.specs.Meetings.{Earlier, server, switch, no-hop, Meet, at_switch, at_server}
 use Rattle.demands.specs.Refusals.{FailsWith, shape_tests, level_tests, server_tests, pair_tests, link_tests, parent_tests, value_tests, port_tests, made_tests, parts_tests, places_tests, table_tests, table_link_tests, table_server_tests, counted_link_tests, counted_server_tests, summary_tests, entries_tests, ends_tests, room_tests, array_tests, lay_tests, check_tests, select_tests, pick_tests, end_of, hop_tests, read_tests, write_tests, servers_tests, given_tests, step_tests, Stops, hop_fails, never_arrives, goes_on, Reads, Writes, Checks, Steps}
 use Rattle.demands.proofs.Chains.{back, all, one-listed, fails, fails_in}
@@ -65,7 +65,7 @@ alone m F r h = refuses (λ x. x) (λ x. x) (λ x. refl) m F r h (λ n. refl)
 -- ---- reading
 
 -- F are the numbers of a hop but 28 and 29, B all numbers of the call
-module _ (s : Shape) (t F B : List ℕ) (hops : all of_aHop F ≡ true) (some : all (λ x. is_in x B) (F ++ (28 ∷ 29 ∷ 13 ∷ 14 ∷ [])) ≡ true) (numbers : (met used : List ℕ) (a b : ℕ) → OneOf (F ++ (28 ∷ 29 ∷ [])) (fault s t met used a b)) where
+module _ (s : Shape) (t F B : List ℕ) (hops : all of_a_hop F ≡ true) (some : all (λ x. is_in x B) (F ++ (28 ∷ 29 ∷ 13 ∷ 14 ∷ [])) ≡ true) (numbers : (met used : List ℕ) (a b : ℕ) → OneOf (F ++ (28 ∷ 29 ∷ [])) (fault s t met used a b)) where
   -- a number of the call
   among : {n : ℕ} → is_in n (F ++ (28 ∷ 29 ∷ 13 ∷ 14 ∷ [])) ≡ true → OneOf B n
   among {n} e = listed (all-at (λ x. is_in x B) (F ++ (28 ∷ 29 ∷ 13 ∷ 14 ∷ [])) n some e)
@@ -86,7 +86,7 @@ module _ (s : Shape) (t F B : List ℕ) (hops : all of_aHop F ≡ true) (some : 
       go {n} k (no-hop x y) =
           let w = fails (λ z. z) (read_tests s t vs b) (fault s t vs (switches_of s vs) (end_of vs) b) n refl (read_number s t vs b) k in
           let z = apart_in F n x y (subst (λ (f : ℕ). is_in f (F ++ (28 ∷ 29 ∷ [])) ≡ true) (sym w.1) (some_of (numbers vs (switches_of s vs) (end_of vs) b) w.0)) in
-          (among (in_left n F (28 ∷ 29 ∷ 13 ∷ 14 ∷ []) z), at-hop (all-at of_aHop F n hops z) p q h.way.some few)
+          (among (in_left n F (28 ∷ 29 ∷ 13 ∷ 14 ∷ []) z), at-hop (all-at of_a_hop F n hops z) p q h.way.some few)
   stops_of m i p q l (never_arrives h) = (among (in_right 13 F (28 ∷ 29 ∷ 13 ∷ 14 ∷ []) refl), no_arrival p q)
   stops_of {a} {d} {bs} m i p q l (goes_on {p = j} h) = (
     among (in_right 14 F (28 ∷ 29 ∷ 13 ∷ 14 ∷ []) refl),

@@ -12,7 +12,7 @@ use Rattle.lists.specs.Lists.{is_in}
 use Rattle.refusals.specs.declared.Refusal.{Refusal}
 use Rattle.refusals.specs.Refusals.{none, plain, refused_at, answer, OneOf, nought, listed}
 use Rattle.demands.specs.Tests.{Tests, Refused, Whole, Hold, Others}
-use Rattle.demands.specs.Demand1.{of_the_whole, of_aHop, RefusalForm, whole, at-hop, Refuses}
+use Rattle.demands.specs.Demand1.{of_the_whole, of_a_hop, RefusalForm, whole, at-hop, Refuses}
 use Rattle.demands.proofs.Chains.{or_right, all, numbers_of}
 
 -- ---- numbers
@@ -59,8 +59,8 @@ some_of (nought e) n = absurd (n e)
 some_of (listed e) n = e
 
 -- a number of a hop, at route i and hop h
-pub hop_of : {m : ℕ} (F B : List ℕ) (r i h : ℕ) → all of_aHop F ≡ true → all (λ x. is_in x B) F ≡ true → is_in r F ≡ true → 1 ≤ i → i ≤ m → 1 ≤ h → h ≤ 8 → Of m B (refused_at r i h)
-hop_of F B r i h low u e p q x y = (listed (all-at (λ z. is_in z B) F r u e), at-hop (all-at of_aHop F r low e) p q x y)
+pub hop_of : {m : ℕ} (F B : List ℕ) (r i h : ℕ) → all of_a_hop F ≡ true → all (λ x. is_in x B) F ≡ true → is_in r F ≡ true → 1 ≤ i → i ≤ m → 1 ≤ h → h ≤ 8 → Of m B (refused_at r i h)
+hop_of F B r i h low u e p q x y = (listed (all-at (λ z. is_in z B) F r u e), at-hop (all-at of_a_hop F r low e) p q x y)
 
 -- a chain gives what each of its tests gives, or its end
 pub chain_of : (refused : ℕ → Refusal) (m : ℕ) (F : List ℕ) (A : Tests) (Else : Refusal → Type 0) (r : Refusal) → ((n : ℕ) → is_in n (numbers_of A) ≡ true → Of m F (refused n)) → (Hold A → Else r → Of m F r) → Refused refused A Else r → Of m F r

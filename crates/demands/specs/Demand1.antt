@@ -47,15 +47,15 @@ abbrev pub of_the_whole : ℕ → Bool
 of_the_whole r = leb r 7 || ((leb 16 r && leb r 18) || ((leb 20 r && leb r 22) || (eqb r 26 || eqb r 30)))
 
 -- 8 to 11, 14, 19 and 23 arise at a hop
-abbrev pub of_aHop : ℕ → Bool
-of_aHop r = (leb 8 r && leb r 11) || (eqb r 14 || (eqb r 19 || eqb r 23))
+abbrev pub of_a_hop : ℕ → Bool
+of_a_hop r = (leb 8 r && leb r 11) || (eqb r 14 || (eqb r 19 || eqb r 23))
 
 -- the form of a refusal of m routes, by rule 8.3: routes and hops count from 1; both are zero for a refusal of the whole; for 13 the
 -- hop is 8; 28 names an earlier hop of the same route, from 0 on, 29 one from 1 on, 15 an earlier route and its hop, and no other number
 -- names an earlier route or hop. Which number is given, and at which routes and hops, is said exactly in Refusals.
 pub data RefusalForm (m : ℕ) : Refusal → Type 0 where
   whole : {r : ℕ} → of_the_whole r ≡ true → RefusalForm m (plain r)
-  at-hop : {r i h : ℕ} → of_aHop r ≡ true → 1 ≤ i → i ≤ m → 1 ≤ h → h ≤ 8 → RefusalForm m (refused_at r i h)
+  at-hop : {r i h : ℕ} → of_a_hop r ≡ true → 1 ≤ i → i ≤ m → 1 ≤ h → h ≤ 8 → RefusalForm m (refused_at r i h)
   no_arrival : {i : ℕ} → 1 ≤ i → i ≤ m → RefusalForm m (refused_at 13 i 8)
   server_again : {i g h : ℕ} → 1 ≤ i → i ≤ m → g < h → h ≤ 8 → RefusalForm m (with_earlier 0 g (refused_at 28 i h))
   switch_again : {i g h : ℕ} → 1 ≤ i → i ≤ m → 1 ≤ g → g < h → h ≤ 8 → RefusalForm m (with_earlier 0 g (refused_at 29 i h))

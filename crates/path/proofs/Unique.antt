@@ -9,9 +9,9 @@ use Rattle.path.proofs.hops.hop_of.Reads as hop_of
 use Rattle.path.proofs.hops.hop_of.Kinds as hop_of_kinds
 use Rattle.path.proofs.hops.level_of.Reads as level-of
 use Rattle.path.proofs.hops.level_of.Kinds as level_of_kinds
-use Rattle.path.proofs.hops.value_of.Reads as value_of_lem
+use Rattle.path.proofs.hops.value_of.Reads as value-of
 use Rattle.path.proofs.hops.value_of.Kinds as value_of_kinds
-use Rattle.path.proofs.repeats.place_in.Reads as IsPlace-in
+use Rattle.path.proofs.repeats.place_in.Reads as place-in
 use Rattle.path.proofs.repeats.place_in.Kinds as place_in_kinds
 use Rattle.path.proofs.walks.walk.Reads as walk
 use Rattle.path.proofs.walks.walk.Kinds as walk_kinds
@@ -28,7 +28,7 @@ hop_of-unique κs a x y s t e f = e ∙ sym f
 pub level_of-unique : Determined 0 level_of_kinds.ps level_of_kinds.r level-of.Post
 level_of-unique κs a x y s t e f = e ∙ sym f
 
-pub value_of-unique : Determined 0 value_of_kinds.ps value_of_kinds.r value_of_lem.Post
+pub value_of-unique : Determined 0 value_of_kinds.ps value_of_kinds.r value-of.Post
 value_of-unique κs a x y s t e f = e ∙ sym f
 
 pub walk-unique : Determined 2 walk_kinds.ps walk_kinds.r walk.Post
@@ -43,7 +43,7 @@ reverse_path-unique κs a x y s t e f = e ∙ sym f
 pub write_path-unique : Determined 1 write_path_kinds.ps write_path_kinds.r write_path.Post
 write_path-unique κs a x y s t e f = e ∙ sym f
 
-pub place_in-unique : Determined 1 place_in_kinds.ps place_in_kinds.r IsPlace-in.Post
+pub place_in-unique : Determined 1 place_in_kinds.ps place_in_kinds.r place-in.Post
 place_in-unique κs a x y s t e f = e ∙ sym f
 
 pub byte_of-unique : Determined 0 byte_of_kinds.ps byte_of_kinds.r byte_of.Post

@@ -16,7 +16,7 @@ use Rattle.links.proofs.mark.Reads as mark
 use Rattle.links.proofs.clear.Reads as clear
 use Rattle.links.proofs.room_refusal.Reads as room-refusal
 use Rattle.path.proofs.level_of.Reads as level-of
-use Rattle.path.proofs.value_of.Reads as value_of_lem
+use Rattle.path.proofs.value_of.Reads as value-of
 use Rattle.wrong.specs.Never.{Never, NeverLeaves, Loan, ◌&◌, ◌lends◌, ◌lends_mut◌}
 use Rattle.wrong.specs.Examples.{healthy, failing}
 
@@ -139,6 +139,6 @@ pub record Helpers (o : Loan) : Type 0 where
   pub level_not_moved : Never level-of.Post (0xc1 & tt) 0xc0
   -- ---- value_of
   -- the high bits
-  pub value_in_high_bits : Never value_of_lem.Post (0xc1 & tt) 0x03
+  pub value_in_high_bits : Never value-of.Post (0xc1 & tt) 0x03
   -- the whole byte
-  pub byte_for_value : Never value_of_lem.Post (0x41 & tt) 0x41
+  pub byte_for_value : Never value-of.Post (0x41 & tt) 0x41

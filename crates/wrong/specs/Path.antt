@@ -17,7 +17,7 @@ use Rattle.path.specs.Answers.{no_hop, a_hop, no_walk, walked, reading, no_writi
 use Rattle.path.proofs.byte_of.Reads as byte_of
 use Rattle.path.proofs.parts_of.Reads as parts_of
 use Rattle.path.proofs.hop_of.Reads as hop_of
-use Rattle.path.proofs.place_in.Reads as IsPlace-in
+use Rattle.path.proofs.place_in.Reads as place-in
 use Rattle.path.proofs.walk.Reads as walk
 use Rattle.path.proofs.read_path.Reads as read_path
 use Rattle.path.proofs.write_path.Reads as write_path
@@ -145,21 +145,21 @@ pub record Path (o q : Loan) : Type 0 where
   pub any_old_on_refusal : (s : Shape) (a b : ℕ) (y : Hop) → y.refusal.number ≢ 0 → y.old ≢ 0 → Never hop_of.Post (s & a & b & tt) y
   -- ---- place_in
   -- the last not looked at
-  pub last_not_looked_at : Never IsPlace-in.Post (q lends 0 ∷ 4 ∷ 7 ∷ [] & 7 & tt) 3
+  pub last_not_looked_at : Never place-in.Post (q lends 0 ∷ 4 ∷ 7 ∷ [] & 7 & tt) 3
   -- the first not looked at
-  pub first_not_looked_at : Never IsPlace-in.Post (q lends 0 ∷ 4 ∷ 7 ∷ [] & 0 & tt) 3
+  pub first_not_looked_at : Never place-in.Post (q lends 0 ∷ 4 ∷ 7 ∷ [] & 0 & tt) 3
   -- counted from 1
-  pub place_from_1 : Never IsPlace-in.Post (q lends 0 ∷ 4 ∷ 7 ∷ [] & 4 & tt) 2
+  pub place_from_1 : Never place-in.Post (q lends 0 ∷ 4 ∷ 7 ∷ [] & 4 & tt) 2
   -- the last of two places
-  pub last_of_two_places : Never IsPlace-in.Post (q lends 4 ∷ 7 ∷ 4 ∷ [] & 4 & tt) 2
+  pub last_of_two_places : Never place-in.Post (q lends 4 ∷ 7 ∷ 4 ∷ [] & 4 & tt) 2
   -- what is not there told at place 0
-  pub missing_at_0 : Never IsPlace-in.Post (q lends 4 ∷ 7 ∷ [] & 0 & tt) 0
+  pub missing_at_0 : Never place-in.Post (q lends 4 ∷ 7 ∷ [] & 0 & tt) 0
   -- one place more than the list has
-  pub past_the_end : Never IsPlace-in.Post (q lends 4 ∷ 7 ∷ [] & 0 & tt) 3
+  pub past_the_end : Never place-in.Post (q lends 4 ∷ 7 ∷ [] & 0 & tt) 3
   -- of any list: a place where something else stands, one after another that has it, one past the length
-  pub any_place_of_another : (xs : List ℕ) (x p : ℕ) → p < length xs → get_or xs p 0 ≢ x → Never IsPlace-in.Post (q lends xs & x & tt) p
-  pub any_later_place : (xs : List ℕ) (x i p : ℕ) → i < length xs → get_or xs i 0 ≡ x → i < p → Never IsPlace-in.Post (q lends xs & x & tt) p
-  pub any_place_past_the_length : (xs : List ℕ) (x p : ℕ) → length xs < p → Never IsPlace-in.Post (q lends xs & x & tt) p
+  pub any_place_of_another : (xs : List ℕ) (x p : ℕ) → p < length xs → get_or xs p 0 ≢ x → Never place-in.Post (q lends xs & x & tt) p
+  pub any_later_place : (xs : List ℕ) (x i p : ℕ) → i < length xs → get_or xs i 0 ≡ x → i < p → Never place-in.Post (q lends xs & x & tt) p
+  pub any_place_past_the_length : (xs : List ℕ) (x p : ℕ) → length xs < p → Never place-in.Post (q lends xs & x & tt) p
   -- ---- ends_refusal
   -- a server taken for its own destination
   pub same_ends_taken : Never ends-refusal.Post (full_room 4 1 & 7 & 7 & tt) 0
