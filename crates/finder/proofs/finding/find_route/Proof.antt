@@ -11,6 +11,6 @@ find_route_spec =
     (tie.spec
     (λ c κs. search rules)
     (λ c κs. search rules)
-    (λ c. refused-answer _ c.before.before.room_refusal-refusal.ensures c.before.if-refusal-ne0.true _ c.no_route.ensures)
-    (λ c κs. sym c.before.room_refusal-refusal.ensures ∙ c.if-refusal-ne0.false)
+    (λ c. search refused-answer)
+    (λ c κs. search rules)
     (λ c. c.search.ensures))

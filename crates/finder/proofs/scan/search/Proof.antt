@@ -38,7 +38,7 @@ ended : (c : tie.Left-scan invariant-loop-v decreases-loop-v invariant-loop-leve
 ended c =
     ⊎_elim
     (λ w. rw (w.back-is, w.queue-is, w.tail-is) (ended-all c.before.scan.invariant (omega arith)))
-    (λ w. rw (w.back-is, w.queue-is, w.tail-is) (ended-found w.loop-v.invariant w.loop-v-test.true w.visit-tail.ensures w.if-back-destination.true))
+    (λ w. rw (w.back-is, w.queue-is, w.tail-is) (ended-found w.loop-v.invariant w.loop-v-test.true w.visit-tail.ensures (search rules)))
     c.scan-test.branch-raw
 
 pub search_spec : {M : Type 1} → statement M
