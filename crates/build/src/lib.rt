@@ -1,4 +1,6 @@
 // The built routes of two servers, and the set that holds routes.
+#![tactic(auto)]
+
 ghost use Rattle.std.specs.Prelude.{◌≡◌};
 ghost use Rattle.build.specs.Sets.{empty_set, added};
 

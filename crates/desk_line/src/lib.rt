@@ -1,6 +1,8 @@
 // The lines of the programs `desk` and `tree`: numbers read from a line of text, and the texts that answer
 // it. Every call takes every input.
 // answers.rt: what the desk answers to an input
+#![tactic(auto)]
+
 mod answers;
 // lines.rt: the first line of an input, and its parts
 mod lines;

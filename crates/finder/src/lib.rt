@@ -1,5 +1,7 @@
 // The search for the alternate: the least route over the live links of a failed-link table. Every
 // call takes every input: it answers, or refuses by number.
+#![tactic(auto)]
+
 use refusals::Refusal;
 // answers.rt: the answer where there is no route
 mod answers;

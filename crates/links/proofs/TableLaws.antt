@@ -6,7 +6,7 @@ use mathlib.Core.Bool.{Bool, true, false, not, and_comm}
 use mathlib.Core.List.{List, [], ◌∷◌}
 use native.Mathlib.Omega.{arith}
 use native.Mathlib.Decide.{ℕ_discrete}
-use native.Mathlib.Nat.{one-le-pow, lt_of_lt_of_le, pow-le-pow_right}
+use native.Mathlib.Nat.{one-le-pow}
 use lib.Dec.{eqb, lit<}
 use lib.ListN.{length, get_or, set, replicate, length-set, length-replicate}
 use lib.Seq.{get_or-set_same, get_or-set_other, set-get_or, ext_get_or}

@@ -1,6 +1,8 @@
 // The failed-link table: asked, tested, and one link of it changed. One byte for each server, whose bit of a
 // level says that the server's link there is failed. Every call takes every input. What a driver marks and
 // clears it does by `summary`, which keeps the count of each switch beside it.
+#![tactic(auto)]
+
 use refusals::Refusal;
 // bits.rt: the bits of a byte
 mod bits;

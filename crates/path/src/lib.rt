@@ -1,4 +1,6 @@
 // Path bytes: one hop, and whole arrays read, written and reversed.
+#![tactic(auto)]
+
 use refusals::Refusal;
 // bytes.rt: one path byte by itself
 mod bytes;

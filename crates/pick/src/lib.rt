@@ -1,4 +1,6 @@
 // Picking a usable route from a fresh list and a kept one.
+#![tactic(auto)]
+
 use refusals::Refusal;
 // lengths.rt: what is tested before any reading
 mod lengths;

@@ -1,5 +1,7 @@
 // Refusals: why a call did not answer, by number. Every number of the library stands here, and what
 // a call makes of its tests.
+#![tactic(auto)]
+
 ghost use Rattle.std.specs.Prelude.{◌≡◌};
 ghost use Rattle.refusals.specs.Refusals.{none, plain, refused_at, of_route, with_earlier};
 

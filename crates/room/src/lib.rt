@@ -1,5 +1,7 @@
 // The room: shapes, addresses and switches of a BCube room. Every call takes every input: it
 // answers, or refuses by number.
+#![tactic(auto)]
+
 ghost use Rattle.std.specs.Prelude.{◌≡◌};
 ghost use Rattle.room.specs.Shapes.{shape_of, full_room};
 

@@ -1,4 +1,6 @@
 // Selection: the built routes that no failed link breaks, and alternates for the others.
+#![tactic(auto)]
+
 use build::RouteSet;
 use refusals::Refusal;
 // alternates.rt: the alternate for a slot

@@ -1,4 +1,6 @@
 // One forwarding step: where a packet goes next, by its path bytes and its server's neighbour table.
+#![tactic(auto)]
+
 use refusals::Refusal;
 // next.rt: the next hop
 mod next;

@@ -1,6 +1,8 @@
 // The summary beside the failed-link table: an entry of one byte for each switch, level after level and by
 // number, which counts the servers that hang on the switch by a failed link. Marking and clearing carry it
 // along, and it says which switch is dead. Every call takes every input.
+#![tactic(auto)]
+
 use refusals::Refusal;
 // changes.rt: one link changed, and the entry of its switch with it
 mod changes;

@@ -1,5 +1,7 @@
 // Checking a list of routes from any maker.
 // checks.rt: a list checked
+#![tactic(auto)]
+
 mod checks;
 // pairs.rt: every two routes held against each other
 mod pairs;

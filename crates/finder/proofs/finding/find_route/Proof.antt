@@ -1,6 +1,5 @@
 -- `finder::finding::find_route` meets its contract. Assumes nothing.
 use borrow.Author.Rules.{rules}
-use mathlib.Core.Path.{sym, ◌∙◌}
 use Rattle.finder.proofs.Finish.{refused-answer}
 use Rattle.finder.proofs.finding.find_route.Statement.{statement}
 use Rattle.finder.proofs.finding.find_route.Tie as tie

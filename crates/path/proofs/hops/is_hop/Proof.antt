@@ -1,5 +1,5 @@
 -- `path::hops::is_hop` meets its contract. Assumes nothing.
-use Rattle.refusals.proofs.ChainLaws.{at-most_fails, at-most_holds, below_fails, below_holds}
+use Rattle.refusals.proofs.ChainLaws.{at-most_fails, at-most_holds, below_fails}
 use Rattle.path.proofs.hops.is_hop.Statement.{statement}
 use Rattle.path.proofs.hops.is_hop.Tie as tie
 

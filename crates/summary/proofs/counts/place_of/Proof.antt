@@ -1,5 +1,4 @@
 -- `summary::counts::place_of` meets its contract. Assumes nothing.
-use borrow.Author.Rules.{rules}
 use Rattle.summary.proofs.PlaceLaws.{switch-before, place-fits, place-made}
 use Rattle.summary.proofs.counts.place_of.Statement.{statement}
 use Rattle.summary.proofs.counts.place_of.Tie as tie
