@@ -5,7 +5,7 @@ use first_line::read_line;
 use std::io;
 
 fn main(rt: HostRuntime) -> io::Result<()> {
-    let input = read_line(&rt)?;
+    let input = read_line(&rt);
     let read = input.bytes;
     let count = input.count;
     let text = desk_line::answer_line(&read[..count]);

@@ -25,7 +25,7 @@ fn print_lines(rt: &impl Print, asked: TreeQuestion) -> io::Result<()> {
 }
 
 fn main(rt: HostRuntime) -> io::Result<()> {
-    let input = read_line(&rt)?;
+    let input = read_line(&rt);
     let read = input.bytes;
     let count = input.count;
     print_lines(&rt, tree_question_of(&read[..count]))
