@@ -1,7 +1,10 @@
 // The first line of standard input, for the programs that answer one. What is read no contract can say.
-ghost use Rattle.io.specs.Counts.{IsPrefixLen};
+#![tactic(auto)]
 
-use libc::STDIN_FILENO;
+ghost use Rattle.first_line.specs.Counts.{IsPrefixLen};
+
+use std::io;
+use std::io::Read;
 
 // The first bytes of the input, and how many: one more than a line may have, so that a longer line
 // is seen.
@@ -11,15 +14,17 @@ pub struct Input {
     pub count: usize,
 }
 
-// Reads up to the first newline, the end of the input or 65 bytes.
-pub fn read_line() -> Input
+// Reads up to the first newline, the end of the input or 65 bytes, a byte at a time, so that what follows stays in the input.
+// A read that fails counts as the end.
+pub fn read_line(rt: &impl io::Input) -> Input
     ensures { IsPrefixLen result.count result.bytes }
 {
+    let mut reader = rt.reader();
     let mut bytes: [u8; 65] = [0; 65];
     let mut count: usize = 0;
     while count < 65 {
         let mut byte: [u8; 1] = [0; 1];
-        if io::read_full(STDIN_FILENO, &mut byte) == 0 {
+        if reader.read(&mut byte).unwrap_or(0) == 0 {
             return Input { bytes, count };
         }
         bytes[count] = byte[0];

@@ -1,44 +1,47 @@
 // Lines of text and numbers on standard output. What is written is compared with stored output: a
-// contract cannot speak of it, and says that there is no answer.
-ghost use Rattle.std.specs.Prelude.{◌≡◌};
+// contract cannot speak of it, and says that there is no answer but an error, where writing fails.
+#![tactic(auto)]
+
+ghost use Rattle.std.specs.Prelude.{◌≡◌, IfOk};
 
 use refusals::Refusal;
 use room::{Number, Shape};
+use std::io;
 
-pub fn text(t: &[u8])
-    ensures { result ≡ tt }
+pub fn text(rt: &impl Print, t: &[u8]) -> io::Result<()>
+    ensures { IfOk result (λ done. done ≡ tt) }
 {
-    io::write_all(1, t);
+    rt.write_all(t)
 }
 
-pub fn number(n: usize)
-    ensures { result ≡ tt }
+pub fn number(rt: &impl Print, n: usize) -> io::Result<()>
+    ensures { IfOk result (λ done. done ≡ tt) }
 {
-    io::print_decimal(1, n as u64);
+    print!(rt; "{n}")
 }
 
 // A number with a space before it.
-pub fn item(n: usize)
-    ensures { result ≡ tt }
+pub fn item(rt: &impl Print, n: usize) -> io::Result<()>
+    ensures { IfOk result (λ done. done ≡ tt) }
 {
-    text(b" ");
-    number(n);
+    text(rt, b" ")?;
+    number(rt, n)
 }
 
 // "NAME (n,k)" of a full room, "NAME (n,k,m)" of any other.
-pub fn question(name: &[u8], shape: Shape)
-    ensures { result ≡ tt }
+pub fn question(rt: &impl Print, name: &[u8], shape: Shape) -> io::Result<()>
+    ensures { IfOk result (λ done. done ≡ tt) }
 {
-    text(name);
-    text(b" (");
-    number(shape.n);
-    text(b",");
-    number(shape.k);
+    text(rt, name)?;
+    text(rt, b" (")?;
+    number(rt, shape.n)?;
+    text(rt, b",")?;
+    number(rt, shape.k)?;
     if shape.m != shape.n {
-        text(b",");
-        number(shape.m);
+        text(rt, b",")?;
+        number(rt, shape.m)?;
     }
-    text(b")");
+    text(rt, b")")
 }
 
 // Whether a refusal names an earlier hop, as 15, 28 and 29 do; an earlier route or hop that is not zero is always shown.
@@ -59,56 +62,56 @@ fn names_earlier(refusal: Refusal) -> bool {
 }
 
 // "earlier hop HOP" with a space before it, and the earlier route before the hop where it is not zero.
-fn earlier_item(refusal: Refusal)
-    ensures { result ≡ tt }
+fn earlier_item(rt: &impl Print, refusal: Refusal) -> io::Result<()>
+    ensures { IfOk result (λ done. done ≡ tt) }
 {
-    text(b" earlier");
+    text(rt, b" earlier")?;
     if refusal.earlier_route != 0 {
-        text(b" route");
-        item(refusal.earlier_route);
+        text(rt, b" route")?;
+        item(rt, refusal.earlier_route)?;
     }
-    text(b" hop");
-    item(refusal.earlier_hop);
+    text(rt, b" hop")?;
+    item(rt, refusal.earlier_hop)
 }
 
 // "refused NUMBER" with a space before it, route and hop where they are not zero, and the earlier hop where one is named.
-pub fn refused_item(refusal: Refusal)
-    ensures { result ≡ tt }
+pub fn refused_item(rt: &impl Print, refusal: Refusal) -> io::Result<()>
+    ensures { IfOk result (λ done. done ≡ tt) }
 {
-    text(b" refused");
-    item(refusal.number);
+    text(rt, b" refused")?;
+    item(rt, refusal.number)?;
     if refusal.route != 0 {
-        text(b" route");
-        item(refusal.route);
-        text(b" hop");
-        item(refusal.hop);
+        text(rt, b" route")?;
+        item(rt, refusal.route)?;
+        text(rt, b" hop")?;
+        item(rt, refusal.hop)?;
     }
     if names_earlier(refusal) {
-        earlier_item(refusal);
+        earlier_item(rt, refusal)?;
     }
+    Ok(())
 }
 
 // "= refused NUMBER", with the places that the refusal names.
-pub fn refused(refusal: Refusal)
-    ensures { result ≡ tt }
+pub fn refused(rt: &impl Print, refusal: Refusal) -> io::Result<()>
+    ensures { IfOk result (λ done. done ≡ tt) }
 {
-    text(b" =");
-    refused_item(refusal);
-    text(b"\n");
+    text(rt, b" =")?;
+    refused_item(rt, refusal)?;
+    text(rt, b"\n")
 }
 
 // "= VALUE", or the refusal.
-pub fn answer(x: Number)
-    ensures { result ≡ tt }
+pub fn answer(rt: &impl Print, x: Number) -> io::Result<()>
+    ensures { IfOk result (λ done. done ≡ tt) }
 {
     let refusal = x.refusal;
     if refusal.number != 0 {
-        refused(refusal);
-        return;
+        return refused(rt, refusal);
     }
-    text(b" =");
-    item(x.value);
-    text(b"\n");
+    text(rt, b" =")?;
+    item(rt, x.value)?;
+    text(rt, b"\n")
 }
 
 fn wide(x: u8) -> u64 {
@@ -116,54 +119,57 @@ fn wide(x: u8) -> u64 {
 }
 
 // A number as two hex digits, or as many as it takes, with a space before it.
-pub fn hex(n: usize)
-    ensures { result ≡ tt }
+pub fn hex(rt: &impl Print, n: usize) -> io::Result<()>
+    ensures { IfOk result (λ done. done ≡ tt) }
 {
-    text(b" ");
-    io::print_hex(1, n as u64, 2);
+    text(rt, b" ")?;
+    print!(rt; "{n:02x}")
 }
 
 // The bytes of a slice as hex, with a space before them; "-" where there are none.
-pub fn bytes(b: &[u8])
-    ensures { result ≡ tt }
+pub fn bytes(rt: &impl Print, b: &[u8]) -> io::Result<()>
+    ensures { IfOk result (λ done. done ≡ tt) }
 {
-    text(b" ");
+    text(rt, b" ")?;
     if b.len() == 0 {
-        text(b"-");
+        text(rt, b"-")?;
     }
     let mut i: usize = 0;
     while i < b.len() {
-        io::print_hex(1, wide(b[i]), 2);
+        print!(rt; "{:02x}", wide(b[i]))?;
         i += 1;
     }
+    Ok(())
 }
 
-pub fn end()
-    ensures { result ≡ tt }
+pub fn end(rt: &impl Print) -> io::Result<()>
+    ensures { IfOk result (λ done. done ≡ tt) }
 {
-    text(b"\n");
+    text(rt, b"\n")
 }
 
 // The first numbers of nine, each with a space before it.
-pub fn items(numbers: [usize; 9], count: usize)
-    ensures { result ≡ tt }
+pub fn items(rt: &impl Print, numbers: [usize; 9], count: usize) -> io::Result<()>
+    ensures { IfOk result (λ done. done ≡ tt) }
 {
     let mut i: usize = 0;
     while i < 9 {
         if i < count {
-            item(numbers[i]);
+            item(rt, numbers[i])?;
         }
         i += 1;
     }
+    Ok(())
 }
 
 // Every number of a slice, with a space before it.
-pub fn all(numbers: &[usize])
-    ensures { result ≡ tt }
+pub fn all(rt: &impl Print, numbers: &[usize]) -> io::Result<()>
+    ensures { IfOk result (λ done. done ≡ tt) }
 {
     let mut i: usize = 0;
     while i < numbers.len() {
-        item(numbers[i]);
+        item(rt, numbers[i])?;
         i += 1;
     }
+    Ok(())
 }

@@ -1,19 +1,28 @@
 // One forwarding step, with one entry of the neighbour table filled.
 use room::Shape;
+use std::io;
 use step::Step;
 
 // The largest index that a step can be given.
 const MOST: usize = 18446744073709551615;
 
 // The six bytes of a MAC as hex.
-fn mac(answer: Step) {
+fn mac(rt: &impl Print, answer: Step) -> io::Result<()> {
     let bytes = answer.mac;
-    print::text(b" mac");
-    print::bytes(&bytes);
+    print::text(rt, b" mac")?;
+    print::bytes(rt, &bytes)
 }
 
 // A step with a table whose entry 65 is filled, the path byte 41.
-fn step_row(shape: Shape, here: usize, destination: usize, index: usize, path: &[u8], flag: u8) {
+fn step_row(
+    rt: &impl Print,
+    shape: Shape,
+    here: usize,
+    destination: usize,
+    index: usize,
+    path: &[u8],
+    flag: u8,
+) -> io::Result<()> {
     let mut table = [0u8; 2048];
     let entry = [2u8, 16, 32, 48, 64, 80, 1, flag];
     table[520] = entry[0];
@@ -24,80 +33,91 @@ fn step_row(shape: Shape, here: usize, destination: usize, index: usize, path: &
     table[525] = entry[5];
     table[526] = entry[6];
     table[527] = entry[7];
-    print::question(b"step", shape);
-    print::item(here);
-    print::item(destination);
-    print::item(index);
-    print::bytes(path);
-    print::item(2048);
-    print::item(65);
-    print::bytes(&entry);
-    answered(step::step_once(shape, here, destination, index, path, &table));
+    print::question(rt, b"step", shape)?;
+    print::item(rt, here)?;
+    print::item(rt, destination)?;
+    print::item(rt, index)?;
+    print::bytes(rt, path)?;
+    print::item(rt, 2048)?;
+    print::item(rt, 65)?;
+    print::bytes(rt, &entry)?;
+    answered(
+        rt,
+        step::step_once(shape, here, destination, index, path, &table),
+    )
 }
 
 // All that a step answers: what is not answered at a refusal or a delivery is zero.
-pub(crate) fn answered(answer: Step) {
+pub(crate) fn answered(rt: &impl Print, answer: Step) -> io::Result<()> {
     let refusal = answer.refusal;
-    print::text(b" =");
+    print::text(rt, b" =")?;
     if refusal.number != 0 {
-        print::refused_item(refusal);
+        print::refused_item(rt, refusal)?;
     }
     if answer.delivered {
-        print::text(b" delivered");
+        print::text(rt, b" delivered")?;
     }
-    print::text(b" next");
-    print::item(answer.next);
-    print::text(b" index");
-    print::item(answer.index);
-    mac(answer);
-    print::text(b" port");
-    print::item(answer.port as usize);
-    print::text(b" level");
-    print::item(answer.level);
-    print::text(b" old");
-    print::item(answer.old);
-    print::end();
+    print::text(rt, b" next")?;
+    print::item(rt, answer.next)?;
+    print::text(rt, b" index")?;
+    print::item(rt, answer.index)?;
+    mac(rt, answer)?;
+    print::text(rt, b" port")?;
+    print::item(rt, answer.port as usize)?;
+    print::text(rt, b" level")?;
+    print::item(rt, answer.level)?;
+    print::text(rt, b" old")?;
+    print::item(rt, answer.old)?;
+    print::end(rt)
 }
 
 // A step taken, a delivery with any index, and every refusal in its order.
-pub(crate) fn steps() {
+pub(crate) fn steps(rt: &impl Print) -> io::Result<()> {
     let four = Shape::full(4, 1);
-    step_row(four, 0, 7, 0, b"\x41\x03\0\0\0\0\0\0", 1);
-    step_row(Shape::full(8, 3), 513, 521, 1, b"\xc1\x41\0\0\0\0\0\0", 1);
-    step_row(four, 7, 7, 0, b"\x41\x03\0\0\0\0\0\0", 0);
-    step_row(four, 7, 7, 8, b"\x41\x03\0\0\0\0\0\0", 1);
-    step_row(four, 7, 7, MOST, b"\xff\xff\xff\xff\xff\xff\xff\xff", 1);
-    step_row(Shape::full(9, 3), 0, 0, 0, b"", 1);
-    step_row(four, 16, 0, 0, b"", 1);
-    step_row(four, 0, 16, 0, b"", 1);
-    step_row(four, 7, 7, 0, b"\x41\x03\0\0\0\0\0", 1);
-    step_row(four, 0, 7, 8, b"\x41\x03\0\0\0\0\0\0", 1);
-    step_row(four, 0, 7, MOST, b"\x41\x03\0\0\0\0\0\0", 1);
-    step_row(four, 0, 7, 2, b"\x41\x03\x80\0\0\0\0\0", 1);
-    step_row(four, 0, 7, 7, b"\x41\x03\0\0\0\0\0\x44", 1);
-    step_row(four, 4, 7, 0, b"\x41\x03\0\0\0\0\0\0", 1);
-    step_row(four, 4, 7, 0, b"\x41\x03\0\0\0\0\0\0", 0);
-    step_row(four, 0, 7, 0, b"\x41\x03\0\0\0\0\0\0", 0);
-    step_row(four, 0, 7, 0, b"\x41\x03\0\0\0\0\0\0", 2);
-    step_row(four, 0, 7, 0, b"\x41\x03\0\0\0\0\0\0", 255);
-    step_row(four, 0, 7, 1, b"\x41\x03\0\0\0\0\0\0", 1);
+    step_row(rt, four, 0, 7, 0, b"\x41\x03\0\0\0\0\0\0", 1)?;
+    step_row(
+        rt,
+        Shape::full(8, 3),
+        513,
+        521,
+        1,
+        b"\xc1\x41\0\0\0\0\0\0",
+        1,
+    )?;
+    step_row(rt, four, 7, 7, 0, b"\x41\x03\0\0\0\0\0\0", 0)?;
+    step_row(rt, four, 7, 7, 8, b"\x41\x03\0\0\0\0\0\0", 1)?;
+    step_row(rt, four, 7, 7, MOST, b"\xff\xff\xff\xff\xff\xff\xff\xff", 1)?;
+    step_row(rt, Shape::full(9, 3), 0, 0, 0, b"", 1)?;
+    step_row(rt, four, 16, 0, 0, b"", 1)?;
+    step_row(rt, four, 0, 16, 0, b"", 1)?;
+    step_row(rt, four, 7, 7, 0, b"\x41\x03\0\0\0\0\0", 1)?;
+    step_row(rt, four, 0, 7, 8, b"\x41\x03\0\0\0\0\0\0", 1)?;
+    step_row(rt, four, 0, 7, MOST, b"\x41\x03\0\0\0\0\0\0", 1)?;
+    step_row(rt, four, 0, 7, 2, b"\x41\x03\x80\0\0\0\0\0", 1)?;
+    step_row(rt, four, 0, 7, 7, b"\x41\x03\0\0\0\0\0\x44", 1)?;
+    step_row(rt, four, 4, 7, 0, b"\x41\x03\0\0\0\0\0\0", 1)?;
+    step_row(rt, four, 4, 7, 0, b"\x41\x03\0\0\0\0\0\0", 0)?;
+    step_row(rt, four, 0, 7, 0, b"\x41\x03\0\0\0\0\0\0", 0)?;
+    step_row(rt, four, 0, 7, 0, b"\x41\x03\0\0\0\0\0\0", 2)?;
+    step_row(rt, four, 0, 7, 0, b"\x41\x03\0\0\0\0\0\0", 255)?;
+    step_row(rt, four, 0, 7, 1, b"\x41\x03\0\0\0\0\0\0", 1)
 }
 
 // A step at level k, a delivery, and the edges of 26, 4, 8, 9 and 10.
-pub(crate) fn half_filled() {
+pub(crate) fn half_filled(rt: &impl Print) -> io::Result<()> {
     let half = Shape::new(4, 1, 2);
     let wide = Shape::new(64, 1, 2);
-    step_row(half, 0, 7, 0, b"\x41\x03\0\0\0\0\0\0", 1);
-    step_row(wide, 63, 127, 0, b"\x41\0\0\0\0\0\0\0", 1);
-    step_row(half, 7, 7, 0, b"\x42\0\0\0\0\0\0\0", 1);
-    step_row(half, 0, 7, 0, b"\x42\x03\0\0\0\0\0\0", 1);
-    step_row(half, 0, 7, 1, b"\x41\x43\0\0\0\0\0\0", 1);
-    step_row(half, 0, 7, 0, b"\x04\x03\0\0\0\0\0\0", 1);
-    step_row(half, 0, 7, 0, b"\x03\x41\0\0\0\0\0\0", 1);
-    step_row(half, 4, 7, 0, b"\x41\x03\0\0\0\0\0\0", 1);
-    step_row(wide, 0, 127, 0, b"\x7f\0\0\0\0\0\0\0", 1);
-    step_row(Shape::new(64, 0, 2), 0, 1, 0, b"\x41\0\0\0\0\0\0\0", 1);
-    step_row(half, 8, 0, 0, b"", 1);
-    step_row(half, 0, 8, 0, b"", 1);
-    step_row(Shape::new(4, 1, 1), 8, 8, 0, b"", 1);
+    step_row(rt, half, 0, 7, 0, b"\x41\x03\0\0\0\0\0\0", 1)?;
+    step_row(rt, wide, 63, 127, 0, b"\x41\0\0\0\0\0\0\0", 1)?;
+    step_row(rt, half, 7, 7, 0, b"\x42\0\0\0\0\0\0\0", 1)?;
+    step_row(rt, half, 0, 7, 0, b"\x42\x03\0\0\0\0\0\0", 1)?;
+    step_row(rt, half, 0, 7, 1, b"\x41\x43\0\0\0\0\0\0", 1)?;
+    step_row(rt, half, 0, 7, 0, b"\x04\x03\0\0\0\0\0\0", 1)?;
+    step_row(rt, half, 0, 7, 0, b"\x03\x41\0\0\0\0\0\0", 1)?;
+    step_row(rt, half, 4, 7, 0, b"\x41\x03\0\0\0\0\0\0", 1)?;
+    step_row(rt, wide, 0, 127, 0, b"\x7f\0\0\0\0\0\0\0", 1)?;
+    step_row(rt, Shape::new(64, 0, 2), 0, 1, 0, b"\x41\0\0\0\0\0\0\0", 1)?;
+    step_row(rt, half, 8, 0, 0, b"", 1)?;
+    step_row(rt, half, 0, 8, 0, b"", 1)?;
+    step_row(rt, Shape::new(4, 1, 1), 8, 8, 0, b"", 1)
 }

@@ -1,16 +1,20 @@
 // The worked numbers of built and selected routes, and every refusal's edge, one line a question.
+#![tactic(auto)]
+
 // routes.rt: built routes
 mod routes;
 // selections.rt: selection
 mod selections;
 
-fn main() {
-    routes::built();
-    routes::half_filled();
-    routes::pairs();
-    routes::half_filled_pairs();
-    selections::sixteen();
-    selections::far();
-    selections::half_filled();
-    selections::half_filled_deep();
+use std::io;
+
+fn main(rt: HostRuntime) -> io::Result<()> {
+    routes::built(&rt)?;
+    routes::half_filled(&rt)?;
+    routes::pairs(&rt)?;
+    routes::half_filled_pairs(&rt)?;
+    selections::sixteen(&rt)?;
+    selections::far(&rt)?;
+    selections::half_filled(&rt)?;
+    selections::half_filled_deep(&rt)
 }

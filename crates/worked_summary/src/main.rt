@@ -1,4 +1,6 @@
 // The worked numbers of the summary beside the failed-link table, and every refusal's edge, one line a question.
+#![tactic(auto)]
+
 // large.rt: the rooms with the most switches, their buffers by their lengths alone
 mod large;
 // marks.rt: links, and servers whole, marked and cleared
@@ -10,19 +12,21 @@ mod rows;
 // tables.rt: tables counted afresh, and their first dead switch
 mod tables;
 
-fn main() {
-    marks::half_filled();
-    marks::half_filled_wrong();
-    marks::four();
-    marks::eight();
-    marks::levels();
-    tables::half_filled();
-    tables::full();
-    tables::levels();
-    refused::order();
-    refused::lengths();
-    refused::tables();
-    refused::entries();
-    refused::elsewhere();
-    large::lengths();
+use std::io;
+
+fn main(rt: HostRuntime) -> io::Result<()> {
+    marks::half_filled(&rt)?;
+    marks::half_filled_wrong(&rt)?;
+    marks::four(&rt)?;
+    marks::eight(&rt)?;
+    marks::levels(&rt)?;
+    tables::half_filled(&rt)?;
+    tables::full(&rt)?;
+    tables::levels(&rt)?;
+    refused::order(&rt)?;
+    refused::lengths(&rt)?;
+    refused::tables(&rt)?;
+    refused::entries(&rt)?;
+    refused::elsewhere(&rt)?;
+    large::lengths(&rt)
 }

@@ -1,6 +1,7 @@
 // Trees written whole, into numbers that are all 7 before.
 use crate::parents::MOST;
 use room::Shape;
+use std::io;
 
 // A number of a tree, as a server is numbered.
 pub(crate) fn wide(x: u32) -> usize {
@@ -8,14 +9,15 @@ pub(crate) fn wide(x: u32) -> usize {
 }
 
 // The numbers from one place to before another, each with a space before it.
-fn numbers(parents: [u32; 4096], from: usize, to: usize) {
+fn numbers(rt: &impl Print, parents: [u32; 4096], from: usize, to: usize) -> io::Result<()> {
     let mut place = from;
     while place < to {
         if place < 4096 {
-            print::item(wide(parents[place]));
+            print::item(rt, wide(parents[place]))?;
         }
         place += 1;
     }
+    Ok(())
 }
 
 // How many of the numbers from a place on are a given one.
@@ -33,73 +35,81 @@ fn holding(parents: [u32; 4096], from: usize, number: u32) -> usize {
 
 // The servers of the room, the numbers from one place to before another, and how many zeros are past the last server.
 // Where the tree is refused, how many numbers are still 7.
-fn tree_row(shape: Shape, source: usize, tree: usize, from: usize, to: usize) {
-    print::question(b"tree", shape);
-    print::item(source);
-    print::item(tree);
-    print::item(from);
-    print::item(to);
-    print::text(b" =");
+fn tree_row(
+    rt: &impl Print,
+    shape: Shape,
+    source: usize,
+    tree: usize,
+    from: usize,
+    to: usize,
+) -> io::Result<()> {
+    print::question(rt, b"tree", shape)?;
+    print::item(rt, source)?;
+    print::item(rt, tree)?;
+    print::item(rt, from)?;
+    print::item(rt, to)?;
+    print::text(rt, b" =")?;
     let mut parents = [7u32; 4096];
     let answer = trees::write_tree(shape, source, tree, &mut parents);
     let refusal = answer.refusal;
     if refusal.number != 0 {
-        print::refused_item(refusal);
-        print::text(b" kept");
-        print::item(holding(parents, 0, 7));
+        print::refused_item(rt, refusal)?;
+        print::text(rt, b" kept")?;
+        print::item(rt, holding(parents, 0, 7))?;
     } else {
-        print::item(answer.value);
-        print::text(b" numbers");
-        numbers(parents, from, to);
-        print::text(b" zeros");
-        print::item(holding(parents, answer.value, 0));
+        print::item(rt, answer.value)?;
+        print::text(rt, b" numbers")?;
+        numbers(rt, parents, from, to)?;
+        print::text(rt, b" zeros")?;
+        print::item(rt, holding(parents, answer.value, 0))?;
     }
-    print::end();
+    print::end(rt)
 }
 
 // A row for each tree of a source, its numbers from the first to before a place.
-fn all_trees(shape: Shape, source: usize, to: usize) {
+fn all_trees(rt: &impl Print, shape: Shape, source: usize, to: usize) -> io::Result<()> {
     let mut tree: usize = 0;
     while tree < 4 {
         if tree <= shape.k {
-            tree_row(shape, source, tree, 0, to);
+            tree_row(rt, shape, source, tree, 0, to)?;
         }
         tree += 1;
     }
+    Ok(())
 }
 
 // Small rooms, with two numbers past the last server. In (2,1) two pairs of servers are in both trees, once in each direction.
-pub(crate) fn small() {
-    all_trees(Shape::full(4, 1), 0, 18);
-    all_trees(Shape::new(4, 1, 2), 5, 10);
-    all_trees(Shape::full(2, 1), 0, 6);
-    all_trees(Shape::full(2, 3), 0, 18);
-    all_trees(Shape::new(3, 2, 2), 17, 20);
-    all_trees(Shape::new(64, 0, 3), 2, 5);
+pub(crate) fn small(rt: &impl Print) -> io::Result<()> {
+    all_trees(rt, Shape::full(4, 1), 0, 18)?;
+    all_trees(rt, Shape::new(4, 1, 2), 5, 10)?;
+    all_trees(rt, Shape::full(2, 1), 0, 6)?;
+    all_trees(rt, Shape::full(2, 3), 0, 18)?;
+    all_trees(rt, Shape::new(3, 2, 2), 17, 20)?;
+    all_trees(rt, Shape::new(64, 0, 3), 2, 5)
 }
 
 // The first and the last servers of large rooms, and what is past them.
-pub(crate) fn large() {
-    tree_row(Shape::new(8, 3, 4), 2047, 3, 2040, 2050);
-    tree_row(Shape::new(12, 3, 2), 3455, 2, 3450, 3458);
-    tree_row(Shape::full(8, 3), 0, 1, 0, 20);
-    tree_row(Shape::full(8, 3), 4095, 0, 4080, 4096);
-    tree_row(Shape::full(64, 1), 4032, 1, 4030, 4034);
-    tree_row(Shape::full(64, 0), 63, 0, 60, 66);
+pub(crate) fn large(rt: &impl Print) -> io::Result<()> {
+    tree_row(rt, Shape::new(8, 3, 4), 2047, 3, 2040, 2050)?;
+    tree_row(rt, Shape::new(12, 3, 2), 3455, 2, 3450, 3458)?;
+    tree_row(rt, Shape::full(8, 3), 0, 1, 0, 20)?;
+    tree_row(rt, Shape::full(8, 3), 4095, 0, 4080, 4096)?;
+    tree_row(rt, Shape::full(64, 1), 4032, 1, 4030, 4034)?;
+    tree_row(rt, Shape::full(64, 0), 63, 0, 60, 66)
 }
 
 // With all that can be refused, then with less and less: 1, 2, 26, 3, 4, 20. The numbers stay as they were lent.
-pub(crate) fn refused() {
+pub(crate) fn refused(rt: &impl Print) -> io::Result<()> {
     let four = Shape::full(4, 1);
-    tree_row(Shape::new(1, 4, 0), MOST, MOST, 0, 0);
-    tree_row(Shape::new(2, 4, 0), MOST, MOST, 0, 0);
-    tree_row(Shape::new(64, 3, 65), MOST, MOST, 0, 0);
-    tree_row(Shape::full(64, 3), MOST, MOST, 0, 0);
-    tree_row(four, MOST, MOST, 0, 0);
-    tree_row(four, 15, MOST, 0, 0);
-    tree_row(four, 16, 2, 0, 0);
-    tree_row(four, 15, 2, 0, 0);
-    tree_row(Shape::new(4, 1, 2), 8, 1, 0, 0);
-    tree_row(Shape::new(4, 1, 1), 0, 0, 0, 0);
-    tree_row(Shape::full(2, 0), 1, 1, 0, 0);
+    tree_row(rt, Shape::new(1, 4, 0), MOST, MOST, 0, 0)?;
+    tree_row(rt, Shape::new(2, 4, 0), MOST, MOST, 0, 0)?;
+    tree_row(rt, Shape::new(64, 3, 65), MOST, MOST, 0, 0)?;
+    tree_row(rt, Shape::full(64, 3), MOST, MOST, 0, 0)?;
+    tree_row(rt, four, MOST, MOST, 0, 0)?;
+    tree_row(rt, four, 15, MOST, 0, 0)?;
+    tree_row(rt, four, 16, 2, 0, 0)?;
+    tree_row(rt, four, 15, 2, 0, 0)?;
+    tree_row(rt, Shape::new(4, 1, 2), 8, 1, 0, 0)?;
+    tree_row(rt, Shape::new(4, 1, 1), 0, 0, 0, 0)?;
+    tree_row(rt, Shape::full(2, 0), 1, 1, 0, 0)
 }
