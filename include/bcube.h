@@ -88,9 +88,9 @@
  * bytes of stack it takes at most, beside its return address: tests/c/stack measures that, and it is written here
  * rounded up to 64. docs/PERFORMANCE.md has the instructions.
  *
- * WHERE IT RUNS. In user space, on x86-64. For a kernel the library would have to be compiled again, without
- * SSE registers and without a red zone, and with a stack for the searches. bcube_step uses neither of the
- * two and calls nothing: tests/c/stack holds it to that. */
+ * WHERE IT RUNS. In user space, on x86-64-v2 (processors with SSE4.2). For a kernel the library would have to be
+ * compiled again, without SSE registers and without a red zone, and with a stack for the searches. bcube_step uses
+ * neither of the two and calls nothing: tests/c/stack holds it to that. */
 #ifndef BCUBE_H
 #define BCUBE_H
 
