@@ -10,7 +10,7 @@
  *         $(PKG_CONFIG_PATH=target/bcube/lib/pkgconfig pkg-config --cflags --libs --static bcube)
  *     target/driver
  *
- * (tests/c/run does the same, and on Arm by a cross compiler and an emulator.) What each call takes and
+ * (tests/c/run does the same.) What each call takes and
  * answers stands in include/bcube.h; examples/driver.stdout is what the program prints. */
 #include "bcube.h"
 

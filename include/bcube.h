@@ -88,9 +88,9 @@
  * bytes of stack it takes at most, beside its return address: tests/c/stack measures that, and it is written here
  * rounded up to 64. docs/PERFORMANCE.md has the instructions.
  *
- * WHERE IT RUNS. In user space, on x86-64. For a kernel the library would have to be compiled again, without
- * SSE registers and without a red zone, and with a stack for the searches. bcube_step uses neither of the
- * two and calls nothing: tests/c/stack holds it to that. */
+ * WHERE IT RUNS. In user space, on x86-64-v2 (processors with SSE4.2). For a kernel the library would have to be
+ * compiled again, without SSE registers and without a red zone, and with a stack for the searches. bcube_step uses
+ * neither of the two and calls nothing: tests/c/stack holds it to that. */
 #ifndef BCUBE_H
 #define BCUBE_H
 
@@ -314,7 +314,7 @@ BCUBE_RESULT bcube_answer bcube_neighbour(bcube_room room, uint64_t server, uint
 
 /* Whether two servers are neighbours: they differ in one digit only. Refuses 1, 2, 26, 3, 4. Value: the level at
  * which they differ, plus 1; 0 where they are no neighbours (a server is not its own).
- * Cost: constant; 128 bytes of stack. */
+ * Cost: constant; 192 bytes of stack. */
 BCUBE_RESULT bcube_answer bcube_between(bcube_room room, uint64_t one, uint64_t other);
 
 /* ---- the failed-link table (of N bytes, as above) */
@@ -343,13 +343,13 @@ BCUBE_RESULT bcube_answer bcube_clear(bcube_room room, uint64_t server, uint64_t
 /* Marks all links of a server, levels 0 to k, as failed: the server is dead. Refuses 1, 2, 26, 3, 4, 6, 30 (the length
  * of the summary, or the entry of one of the server's k+1 switches). Value: 0. The server's byte of the table and those
  * entries are as after marking each link; no other byte and no other entry changes.
- * Cost: the table, and the servers of k+1 switches; 320 bytes of stack. */
+ * Cost: the table, and the servers of k+1 switches; 256 bytes of stack. */
 BCUBE_RESULT bcube_answer bcube_mark_all(bcube_room room, uint64_t server, uint8_t *table, size_t table_len,
                                          uint8_t *summary, size_t summary_len);
 
 /* Clears all links of a server of their marks. Refuses 1, 2, 26, 3, 4, 6, 30 (as bcube_mark_all). Value: 0. The
  * server's byte of the table and those entries are as after clearing each link; no other byte and no other entry
- * changes. Cost: the table, and the servers of k+1 switches; 320 bytes of stack. */
+ * changes. Cost: the table, and the servers of k+1 switches; 256 bytes of stack. */
 BCUBE_RESULT bcube_answer bcube_clear_all(bcube_room room, uint64_t server, uint8_t *table, size_t table_len,
                                           uint8_t *summary, size_t summary_len);
 
@@ -419,7 +419,7 @@ BCUBE_BUFFER(6) BCUBE_RESULT bcube_answer bcube_read(bcube_room room, uint64_t s
 
 /* Writes a route as path bytes: the servers in order, the source first, servers_len of them (2 to 9).
  * Refuses 1, 2, 26, 3, 22, 4 (any of them), 5 (the first is the last); then hop by hop 23, 28, 29.
- * Value: 0. Written: the 8 path bytes, zeros after the last hop. Cost: constant; 256 bytes of stack. */
+ * Value: 0. Written: the 8 path bytes, zeros after the last hop. Cost: constant; 320 bytes of stack. */
 BCUBE_BUFFER(4) BCUBE_RESULT bcube_answer bcube_write(bcube_room room, const uint64_t *servers, size_t servers_len,
                                                       uint8_t path[8]);
 
@@ -460,7 +460,7 @@ BCUBE_BUFFER(6) BCUBE_RESULT bcube_answer bcube_find(bcube_room room, uint64_t s
  * Refuses 1, 2, 26, 3, 4 (either end), 5, 6; and last 16, when no route at all of eight hops or fewer crosses
  * only live links. Value: how many arrays are written, 1 to k+1. Written: the arrays in slot order, closed
  * up; zeros after them.
- * Cost: the table, and a search for each broken route; 45824 bytes of stack. */
+ * Cost: the table, and a search for each broken route; 45888 bytes of stack. */
 BCUBE_BUFFER(6) BCUBE_RESULT bcube_answer bcube_select(bcube_room room, uint64_t source, uint64_t destination,
                                                        const uint8_t *table, size_t table_len, uint8_t routes[32]);
 

@@ -18,7 +18,8 @@ def read_slowly(pause):
         fcntl.fcntl(write, SET_PIPE_SIZE, 4096)
     except OSError:
         pass
-    child = subprocess.Popen([program], stdin=subprocess.PIPE, stdout=write)
+    # a program that stops there says why on standard error
+    child = subprocess.Popen([program], stdin=subprocess.PIPE, stdout=write, stderr=subprocess.DEVNULL)
     os.close(write)
     child.stdin.write(line)
     child.stdin.close()

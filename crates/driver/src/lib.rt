@@ -1,7 +1,5 @@
-// The static library for the driver in C: a room, numbers and buffers in, numbers out. A slice is passed
-// as a pointer and a length, an array as a pointer, a struct by value in one register or two; usize is
-// C's uint64_t. Every call takes every input: it answers, or refuses by number and leaves every buffer as
-// it was lent.
+// The calls for the driver in C, which the static library `driver_c` exports: a room, numbers and buffers in, numbers out.
+// Every call takes every input: it answers, or refuses by number and leaves every buffer as it was lent.
 // marks.rt: the failed-link table, marked and cleared with its summary
 mod marks;
 // parents.rt: the parent of a server in a spanning tree, and a tree whole

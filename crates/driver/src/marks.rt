@@ -10,8 +10,7 @@ use crate::words::result_word;
 use crate::{Answer, Room};
 
 // 1 where the link of a server at a level is failed, else 0. Refusals 1, 2, 26, 3, 4, 20, 6.
-#[unsafe(no_mangle)]
-pub extern "C" fn bcube_failed_link(room: Room, server: usize, level: usize, table: &[u8]) -> Answer
+pub fn bcube_failed_link(room: Room, server: usize, level: usize, table: &[u8]) -> Answer
     ensures { result ≡ asked_word (failed_answer (shape_in room) table.now server level) }
 {
     let shape = shape_in(room);
@@ -24,8 +23,7 @@ pub extern "C" fn bcube_failed_link(room: Room, server: usize, level: usize, tab
 
 // Marks the link of a server at a level as failed, and its switch counts it. Refusals 1, 2, 26, 3, 4, 20, 6, 30;
 // the value is 0.
-#[unsafe(no_mangle)]
-pub extern "C" fn bcube_mark(
+pub fn bcube_mark(
     room: Room,
     server: usize,
     level: usize,
@@ -41,8 +39,7 @@ pub extern "C" fn bcube_mark(
 
 // Clears the link of a server at a level, and its switch counts it no more. Refusals 1, 2, 26, 3, 4, 20, 6, 30;
 // the value is 0.
-#[unsafe(no_mangle)]
-pub extern "C" fn bcube_clear(
+pub fn bcube_clear(
     room: Room,
     server: usize,
     level: usize,
@@ -57,13 +54,7 @@ pub extern "C" fn bcube_clear(
 }
 
 // Marks all links of a server as failed, and its switches count them. Refusals 1, 2, 26, 3, 4, 6, 30; the value is 0.
-#[unsafe(no_mangle)]
-pub extern "C" fn bcube_mark_all(
-    room: Room,
-    server: usize,
-    table: &mut [u8],
-    summary: &mut [u8],
-) -> Answer
+pub fn bcube_mark_all(room: Room, server: usize, table: &mut [u8], summary: &mut [u8]) -> Answer
     ensures { (result ≡ word (server_answer (shape_in room) table.old summary.old server) 0) × (table.new ≡ server_table true (shape_in room) table.old summary.old server) × (summary.new ≡ server_summary true (shape_in room) table.old summary.old server) }
 {
     let shape = shape_in(room);
@@ -72,13 +63,7 @@ pub extern "C" fn bcube_mark_all(
 }
 
 // Clears all links of a server, and its switches count none of them. Refusals 1, 2, 26, 3, 4, 6, 30; the value is 0.
-#[unsafe(no_mangle)]
-pub extern "C" fn bcube_clear_all(
-    room: Room,
-    server: usize,
-    table: &mut [u8],
-    summary: &mut [u8],
-) -> Answer
+pub fn bcube_clear_all(room: Room, server: usize, table: &mut [u8], summary: &mut [u8]) -> Answer
     ensures { (result ≡ word (server_answer (shape_in room) table.old summary.old server) 0) × (table.new ≡ server_table false (shape_in room) table.old summary.old server) × (summary.new ≡ server_summary false (shape_in room) table.old summary.old server) }
 {
     let shape = shape_in(room);

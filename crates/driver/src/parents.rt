@@ -9,8 +9,7 @@ use crate::words::result_word;
 use crate::{Answer, Room};
 
 // The parent of a server in a tree of a source. Refusals 1, 2, 26, 3, 4, 20, 5.
-#[unsafe(no_mangle)]
-pub extern "C" fn bcube_parent(room: Room, source: usize, tree: usize, server: usize) -> Answer
+pub fn bcube_parent(room: Room, source: usize, tree: usize, server: usize) -> Answer
     ensures { result ≡ number_word (parent_answer (shape_in room) source tree server) }
 {
     let answer = trees::parent_of(shape_in(room), source, tree, server);
@@ -19,13 +18,7 @@ pub extern "C" fn bcube_parent(room: Room, source: usize, tree: usize, server: u
 
 // The parent of each server in a tree of a source, into 4,096 numbers: 4,294,967,295 at the source, and zeros past the
 // last server; the value is how many servers the room has. Refusals 1, 2, 26, 3, 4, 20.
-#[unsafe(no_mangle)]
-pub extern "C" fn bcube_tree(
-    room: Room,
-    source: usize,
-    tree: usize,
-    parents: &mut [u32; 4096],
-) -> Answer
+pub fn bcube_tree(room: Room, source: usize, tree: usize, parents: &mut [u32; 4096]) -> Answer
     ensures { (result ≡ number_word (tree_answer (shape_in room) source tree)) × (parents.new ≡ tree_left (shape_in room) source tree parents.old) }
 {
     let shape = shape_in(room);

@@ -11,8 +11,7 @@ use crate::words::result_word;
 use crate::{Answer, Room};
 
 // The path byte of a level and a value. Refusals 1, 2, 26, 3, 20, 21.
-#[unsafe(no_mangle)]
-pub extern "C" fn bcube_path_byte(room: Room, level: usize, value: usize) -> Answer
+pub fn bcube_path_byte(room: Room, level: usize, value: usize) -> Answer
     ensures { result ≡ number_word (byte_answer (shape_in room) level value) }
 {
     let answer = path::byte_of(shape_in(room), level, value);
@@ -21,8 +20,7 @@ pub extern "C" fn bcube_path_byte(room: Room, level: usize, value: usize) -> Ans
 
 // The level and the value of a path byte, in one value: 256 times the level, plus the value.
 // Refusals 1, 2, 26, 3, then 8, 9 at a hop.
-#[unsafe(no_mangle)]
-pub extern "C" fn bcube_path_byte_parts(room: Room, byte: usize) -> Answer
+pub fn bcube_path_byte_parts(room: Room, byte: usize) -> Answer
     ensures { result ≡ parts_word (parts_answer (shape_in room) byte) }
 {
     let parts = path::parts_of(shape_in(room), byte);
@@ -32,8 +30,7 @@ pub extern "C" fn bcube_path_byte_parts(room: Room, byte: usize) -> Answer
 // The hop by a byte from a server, in one value: the next server, and 65,536 times the path byte of the way
 // back, which is 64 times the level plus the value that the hop replaces. Refusals 1, 2, 26, 3, 4, then
 // 8, 9, 10 at a hop.
-#[unsafe(no_mangle)]
-pub extern "C" fn bcube_hop_of(room: Room, server: usize, byte: usize) -> Answer
+pub fn bcube_hop_of(room: Room, server: usize, byte: usize) -> Answer
     ensures { result ≡ hop_word (hop_answer (shape_in room) server byte) }
 {
     let hop = path::hop_of(shape_in(room), server, byte);
@@ -42,8 +39,7 @@ pub extern "C" fn bcube_hop_of(room: Room, server: usize, byte: usize) -> Answer
 
 // The servers that an array meets, source first, into nine places with zeros past them; the value is
 // their count. Refusals 1, 2, 26, 3, 4, 5, 7, then 8, 9, 10, 28, 29, 13, 14 at a hop.
-#[unsafe(no_mangle)]
-pub extern "C" fn bcube_read(
+pub fn bcube_read(
     room: Room,
     source: usize,
     destination: usize,
@@ -65,8 +61,7 @@ pub extern "C" fn bcube_read(
 
 // The path bytes of servers in turn, source first, into eight bytes with zeros past them.
 // Refusals 1, 2, 26, 3, 22, 4, 5, then 23, 28, 29 at a hop.
-#[unsafe(no_mangle)]
-pub extern "C" fn bcube_write(room: Room, servers: &[usize], path: &mut [u8; 8]) -> Answer
+pub fn bcube_write(room: Room, servers: &[usize], path: &mut [u8; 8]) -> Answer
     ensures { (result ≡ writing_word (write_answer (shape_in room) servers.now)) × (path.new ≡ writing_left path.old (write_answer (shape_in room) servers.now)) }
 {
     let writing = path::write_path(shape_in(room), servers);
@@ -81,8 +76,7 @@ pub extern "C" fn bcube_write(room: Room, servers: &[usize], path: &mut [u8; 8])
 
 // The path bytes of the route backwards, from the destination, into eight bytes.
 // Refusals 1, 2, 26, 3, 4, 5, 7, then 8, 9, 10, 28, 29, 13, 14 at a hop.
-#[unsafe(no_mangle)]
-pub extern "C" fn bcube_reverse(
+pub fn bcube_reverse(
     room: Room,
     source: usize,
     destination: usize,
@@ -104,8 +98,7 @@ pub extern "C" fn bcube_reverse(
 
 // Checks a list of arrays, one after another, as routes from source to destination over the live
 // links of the table. Refusals 1, 2, 26, 3 to 7; 8 to 11, 28, 29, 13, 14 at a route and hop; 15 at two.
-#[unsafe(no_mangle)]
-pub extern "C" fn bcube_check(
+pub fn bcube_check(
     room: Room,
     source: usize,
     destination: usize,

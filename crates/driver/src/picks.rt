@@ -10,8 +10,7 @@ use crate::{Answer, Room};
 
 // Which list holds the first usable route, and at which place: the value is 256 times the list, 1 the
 // fresh and 2 the kept one, plus the place, counted from 1. Refusals 1, 2, 26, 3 to 7, 16.
-#[unsafe(no_mangle)]
-pub extern "C" fn bcube_pick(
+pub fn bcube_pick(
     room: Room,
     source: usize,
     destination: usize,

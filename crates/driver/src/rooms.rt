@@ -13,8 +13,7 @@ use crate::{Answer, Room};
 use refusals::Refusal;
 
 // Whether a room can have this shape. Refusals 1, 2, 26, 3; the value is 0.
-#[unsafe(no_mangle)]
-pub extern "C" fn bcube_shape(room: Room) -> Answer
+pub fn bcube_shape(room: Room) -> Answer
     ensures { result ≡ word (plain (shape_refusal (shape_in room))) 0 }
 {
     let number = room::shape_refusal(shape_in(room));
@@ -22,8 +21,7 @@ pub extern "C" fn bcube_shape(room: Room) -> Answer
 }
 
 // The number of servers of a room. Refusals 1, 2, 26, 3.
-#[unsafe(no_mangle)]
-pub extern "C" fn bcube_servers(room: Room) -> Answer
+pub fn bcube_servers(room: Room) -> Answer
     ensures { result ≡ number_word (servers_answer (shape_in room)) }
 {
     let answer = room::servers_of(shape_in(room));
@@ -31,8 +29,7 @@ pub extern "C" fn bcube_servers(room: Room) -> Answer
 }
 
 // What the digit of a level is below. Refusals 1, 2, 26, 3, 20.
-#[unsafe(no_mangle)]
-pub extern "C" fn bcube_bound(room: Room, level: usize) -> Answer
+pub fn bcube_bound(room: Room, level: usize) -> Answer
     ensures { result ≡ number_word (bound_answer (shape_in room) level) }
 {
     let answer = room::bound_of(shape_in(room), level);
@@ -40,8 +37,7 @@ pub extern "C" fn bcube_bound(room: Room, level: usize) -> Answer
 }
 
 // How many switches a level has. Refusals 1, 2, 26, 3, 20.
-#[unsafe(no_mangle)]
-pub extern "C" fn bcube_switches(room: Room, level: usize) -> Answer
+pub fn bcube_switches(room: Room, level: usize) -> Answer
     ensures { result ≡ number_word (switches_answer (shape_in room) level) }
 {
     let answer = room::switches_of(shape_in(room), level);
@@ -49,8 +45,7 @@ pub extern "C" fn bcube_switches(room: Room, level: usize) -> Answer
 }
 
 // The digits of a server, digit 0 first and zeros above k. Refusals 1, 2, 26, 3, 4; the value is 0.
-#[unsafe(no_mangle)]
-pub extern "C" fn bcube_digits(room: Room, server: usize, digits: &mut [usize; 4]) -> Answer
+pub fn bcube_digits(room: Room, server: usize, digits: &mut [usize; 4]) -> Answer
     ensures { (result ≡ digits_word (digits_answer (shape_in room) server)) × (digits.new ≡ digits_left digits.old (digits_answer (shape_in room) server)) }
 {
     let answer = room::digits_of(shape_in(room), server);
@@ -64,8 +59,7 @@ pub extern "C" fn bcube_digits(room: Room, server: usize, digits: &mut [usize; 4
 }
 
 // The digit of a server at a level. Refusals 1, 2, 26, 3, 4, 20.
-#[unsafe(no_mangle)]
-pub extern "C" fn bcube_digit(room: Room, server: usize, level: usize) -> Answer
+pub fn bcube_digit(room: Room, server: usize, level: usize) -> Answer
     ensures { result ≡ number_word (digit_answer (shape_in room) server level) }
 {
     let shape = shape_in(room);
@@ -74,8 +68,7 @@ pub extern "C" fn bcube_digit(room: Room, server: usize, level: usize) -> Answer
 }
 
 // The server that has these digits, digit 0 first and zeros above k. Refusals 1, 2, 26, 3, 21.
-#[unsafe(no_mangle)]
-pub extern "C" fn bcube_address(room: Room, d0: usize, d1: usize, d2: usize, d3: usize) -> Answer
+pub fn bcube_address(room: Room, d0: usize, d1: usize, d2: usize, d3: usize) -> Answer
     ensures { result ≡ number_word (address_answer (shape_in room) (d0 ∷ d1 ∷ d2 ∷ d3 ∷ [])) }
 {
     let places = [d0, d1, d2, d3];
@@ -84,8 +77,7 @@ pub extern "C" fn bcube_address(room: Room, d0: usize, d1: usize, d2: usize, d3:
 }
 
 // The number of the switch of a server at a level. Refusals 1, 2, 26, 3, 4, 20.
-#[unsafe(no_mangle)]
-pub extern "C" fn bcube_switch(room: Room, server: usize, level: usize) -> Answer
+pub fn bcube_switch(room: Room, server: usize, level: usize) -> Answer
     ensures { result ≡ switch_word (switch_answer (shape_in room) server level) }
 {
     let shape = shape_in(room);
@@ -94,8 +86,7 @@ pub extern "C" fn bcube_switch(room: Room, server: usize, level: usize) -> Answe
 }
 
 // The server at a port of the switch of this number at a level. Refusals 1, 2, 26, 3, 20, 21.
-#[unsafe(no_mangle)]
-pub extern "C" fn bcube_server_at(room: Room, level: usize, number: usize, port: usize) -> Answer
+pub fn bcube_server_at(room: Room, level: usize, number: usize, port: usize) -> Answer
     ensures { result ≡ number_word (server_at_answer (shape_in room) level number port) }
 {
     let answer = room::server_at(shape_in(room), level, number, port);
@@ -103,8 +94,7 @@ pub extern "C" fn bcube_server_at(room: Room, level: usize, number: usize, port:
 }
 
 // The neighbour of a server at a level that has the value there. Refusals 1, 2, 26, 3, 4, 20, 21.
-#[unsafe(no_mangle)]
-pub extern "C" fn bcube_neighbour(room: Room, server: usize, level: usize, value: usize) -> Answer
+pub fn bcube_neighbour(room: Room, server: usize, level: usize, value: usize) -> Answer
     ensures { result ≡ number_word (neighbour_answer (shape_in room) server level value) }
 {
     let shape = shape_in(room);
@@ -114,8 +104,7 @@ pub extern "C" fn bcube_neighbour(room: Room, server: usize, level: usize, value
 
 // The level at which two servers are neighbours, counted from 1, or 0 where they are not.
 // Refusals 1, 2, 26, 3, 4.
-#[unsafe(no_mangle)]
-pub extern "C" fn bcube_between(room: Room, one: usize, other: usize) -> Answer
+pub fn bcube_between(room: Room, one: usize, other: usize) -> Answer
     ensures { result ≡ between_word (between_answer (shape_in room) one other) }
 {
     let shape = shape_in(room);

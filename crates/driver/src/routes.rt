@@ -11,13 +11,7 @@ use crate::{Answer, Room};
 
 // The built routes of two servers, slots k down to 0, into 32 bytes with zeros past them; the value is
 // their count. Refusals 1, 2, 26, 3, 4, 5.
-#[unsafe(no_mangle)]
-pub extern "C" fn bcube_build(
-    room: Room,
-    source: usize,
-    destination: usize,
-    routes: &mut [u8; 32],
-) -> Answer
+pub fn bcube_build(room: Room, source: usize, destination: usize, routes: &mut [u8; 32]) -> Answer
     ensures { (result ≡ building_word (build_answer (shape_in room) source destination)) × (routes.new ≡ building_left routes.old (build_answer (shape_in room) source destination)) }
 {
     let shape = shape_in(room);
@@ -32,8 +26,7 @@ pub extern "C" fn bcube_build(
 
 // The alternate, the least route over live links, into eight bytes; the value is its hops, 0 with zeros
 // where there is no route. Refusals 1, 2, 26, 3, 4, 5, 6.
-#[unsafe(no_mangle)]
-pub extern "C" fn bcube_find(
+pub fn bcube_find(
     room: Room,
     source: usize,
     destination: usize,
@@ -53,8 +46,7 @@ pub extern "C" fn bcube_find(
 
 // The routes selected around failed links, in slot order, into 32 bytes with zeros past them; the value
 // is their count. Refusals 1, 2, 26, 3, 4, 5, 6, 16.
-#[unsafe(no_mangle)]
-pub extern "C" fn bcube_select(
+pub fn bcube_select(
     room: Room,
     source: usize,
     destination: usize,

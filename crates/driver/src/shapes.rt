@@ -6,8 +6,7 @@ use crate::Room;
 use room::Shape;
 
 // The version of the library: 10,000 times the first number, 100 times the second, and the third.
-#[unsafe(no_mangle)]
-pub extern "C" fn bcube_version() -> u64
+pub fn bcube_version() -> u64
     ensures { result ≡ 50100 }
 {
     50100
@@ -35,8 +34,7 @@ fn room_of(n: usize, k: usize, m: usize) -> Room
 
 // The full room of n ports a switch and levels 0 to k. A number above 255 counts as 255, which is
 // refused like it.
-#[unsafe(no_mangle)]
-pub extern "C" fn bcube_room_of(n: usize, k: usize) -> Room
+pub fn bcube_room_of(n: usize, k: usize) -> Room
     ensures { result ≡ room_of n k n }
 {
     room_of(n, k, n)
@@ -44,8 +42,7 @@ pub extern "C" fn bcube_room_of(n: usize, k: usize) -> Room
 
 // The room of n ports a switch and levels 0 to k whose digit k has m values. A number above 255 counts
 // as 255, which is refused like it.
-#[unsafe(no_mangle)]
-pub extern "C" fn bcube_filled_room(n: usize, k: usize, m: usize) -> Room
+pub fn bcube_filled_room(n: usize, k: usize, m: usize) -> Room
     ensures { result ≡ room_of n k m }
 {
     room_of(n, k, m)

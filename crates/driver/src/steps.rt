@@ -25,8 +25,7 @@ fn mac_number(mac: [u8; 6]) -> u64
 
 // One step of a packet at the server `here`, whose neighbour table is lent; the index is the NHI. Refusals
 // 1, 2, 26, 3, 4, 17, 7; away from the destination 18, then 8, 9, 10, 19.
-#[unsafe(no_mangle)]
-pub extern "C" fn bcube_step(
+pub fn bcube_step(
     room: Room,
     here: usize,
     destination: usize,

@@ -1,0 +1,23 @@
+// Picking a usable route from a fresh list and a kept one.
+ghost use Rattle.std.specs.Prelude.{◌≡◌};
+ghost use Rattle.pick.specs.Places.{place_answer};
+ghost use Rattle.driver.specs.Rooms.{shape_in};
+ghost use Rattle.driver.specs.Words.{place_word};
+
+use driver::{Answer, Room};
+
+// Which list holds the first usable route, and at which place: the value is 256 times the list, 1 the
+// fresh and 2 the kept one, plus the place, counted from 1. Refusals 1, 2, 26, 3 to 7, 16.
+#[unsafe(no_mangle)]
+pub extern "C" fn bcube_pick(
+    room: Room,
+    source: usize,
+    destination: usize,
+    table: &[u8],
+    fresh: &[u8],
+    kept: &[u8],
+) -> Answer
+    ensures { result ≡ place_word (place_answer (shape_in room) table.now source destination fresh.now kept.now) }
+{
+    driver::bcube_pick(room, source, destination, table, fresh, kept)
+}
