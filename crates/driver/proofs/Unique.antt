@@ -1,4 +1,4 @@
--- Each exported function's contract determines its answer and the buffer left behind: whatever meets it on some arguments is the one
+-- Each call's contract determines its answer and the buffer left behind: whatever meets it on some arguments is the one
 -- answer to them.
 use mathlib.Core.Path.{◌≡◌, ◌∙◌, sym, ap}
 use borrow.Fn.Kinds.{Dens, ended_of, res_t}

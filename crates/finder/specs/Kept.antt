@@ -1,4 +1,4 @@
--- What the search keeps in its two tables. `back` has a key for each server found and `noParent` for the others; `queue` has the servers in the order in which they were found.
+-- What the search keeps in its two tables. `back` has a key for each server found and `no_parent` for the others; `queue` has the servers in the order in which they were found.
 use Rattle.std.specs.Prelude.{ℕ, suc, ◌<◌, ◌≤◌, ◌≡◌, Bool, true, false, List, [], ◌∷◌, length, get_or, eqb}
 use Rattle.finder.specs.State.{State}
 
@@ -10,7 +10,7 @@ unfoldable pub one_more_unless : Bool → ℕ → ℕ
 one_more_unless true m = m
 one_more_unless false m = suc m
 
--- how many entries are not `noParent`
+-- how many entries are not `no_parent`
 unfoldable pub occupied : List ℕ → ℕ
 occupied [] = 0
 occupied (x ∷ xs) = one_more_unless (eqb x no_parent) (occupied xs)
