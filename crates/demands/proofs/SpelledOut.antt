@@ -18,7 +18,6 @@ use Rattle.room.specs.Addresses.{digit}
 use Rattle.trees.specs.Answers.{parent_answer}
 use Rattle.summary.specs.Answers.{link_answer, dead_answer}
 use Rattle.path.specs.Routes.{level_of, value_of}
-use Rattle.path.specs.Walks.{walk}
 use Rattle.path.specs.Answers.{hop_answer, walk_answer}
 use Rattle.verdict.specs.Checks.{check_answer}
 use Rattle.step.specs.Steps.{flag_at, step_answer}
@@ -28,7 +27,6 @@ use Rattle.demands.specs.Refusals.{shape_tests, server_tests, pair_tests, hop_te
 use Rattle.demands.proofs.Chains.{front, all, others, chain_means, fails_in, numbers_of}
 use Rattle.demands.proofs.Refusing.{all-at, other-numbers}
 use Rattle.demands.proofs.ComesAgain.{twenty_eight, twenty_nine, write_twenty_eight, write_twenty_nine}
-use Rattle.demands.proofs.Places.{check_list}
 use Rattle.demands.proofs.Exactly.{refused-exactly}
 
 twenty_six : (s : Shape) → (shape_refusal s ≡ 26) ↔ (Hold ((1, (2 ≤ s.n) × (s.n ≤ 64)) ∷ (2, s.k ≤ 3) ∷ []) × ((2 ≤ s.m) × (s.m ≤ s.n) → ⊥))

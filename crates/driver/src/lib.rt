@@ -1,6 +1,8 @@
 // The calls for the driver in C, which the static library `driver_c` exports: a room, numbers and buffers in, numbers out.
 // Every call takes every input: it answers, or refuses by number and leaves every buffer as it was lent.
 // marks.rt: the failed-link table, marked and cleared with its summary
+#![tactic(auto)]
+
 mod marks;
 // parents.rt: the parent of a server in a spanning tree, and a tree whole
 mod parents;

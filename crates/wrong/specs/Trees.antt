@@ -19,7 +19,7 @@ use Rattle.driver.specs.Rooms.{shape_in}
 use Rattle.driver.specs.Words.{refusal_in, value_in}
 use Rattle.driver.proofs.bcube_parent.Reads as bcube_parent_reads
 use Rattle.driver.proofs.bcube_tree.Reads as bcube_tree_reads
-use Rattle.wrong.specs.Never.{NeverLeaves, NeverLeavesAt, NeverTells, NeverSo, Loan, fourth, ◌&◌, ◌lends◌, ◌lends_mut◌}
+use Rattle.wrong.specs.Never.{NeverLeaves, NeverLeavesAt, NeverTells, NeverSo, Loan, fourth, ◌&◌, ◌lends_mut◌}
 use Rattle.wrong.specs.Examples.{stale}
 use Rattle.wrong.specs.Again.{room_for}
 
