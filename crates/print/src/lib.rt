@@ -1,5 +1,6 @@
 // Lines of text and numbers on standard output. What is written is compared with stored output: a
-// contract cannot speak of it, and says that there is no answer but an error, where writing fails.
+// contract cannot speak of it, and says that there is no answer. An error is that of the write that failed, and of nothing
+// else; a call is lent nothing that it could change, so an error leaves nothing but what was written before it.
 #![tactic(auto)]
 
 ghost use Rattle.std.specs.Prelude.{◌≡◌, IfOk};
