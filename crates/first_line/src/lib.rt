@@ -1,7 +1,7 @@
 // The first line of standard input, for the programs that answer one. What is read no contract can say.
 #![tactic(auto)]
 
-ghost use Rattle.first_line.specs.Counts.{IsPrefixLen};
+ghost use Rattle.io.specs.Counts.{IsPrefixLen};
 
 use std::io;
 use std::io::Read;
