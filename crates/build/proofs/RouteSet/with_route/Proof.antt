@@ -8,9 +8,9 @@ pub with_route_spec : {M : Type 1} → statement M
 with_route_spec =
     tie.close
     (tie.spec
-    -- returns: the set is full
+    -- returns-then-count-ge-MOST_ROUTES: the set is full
     (λ c. search added_full)
-    -- mul-placed-at, placed-at-requires, add-self, returns-2: it is not
+    -- overflow_mul-count, placed_at-bytes-requires, overflow_add-self, returns: it is not
     (λ c. search rules)
     (λ c κs. search rules)
     (λ c. search rules)

@@ -9,7 +9,7 @@ unfolding byte_of
 byte_of_spec =
     tie.close
     (tie.spec
-    -- mul-result, add-result, cast-result, returns
+    -- overflow_mul-result, overflow_add-result, overflow_cast-result, returns
     (λ c. search rules)
     (λ c. search rules)
     (λ c. search rules)

@@ -8,8 +8,8 @@ pub level_after_spec : {M : Type 1} → statement M
 level_after_spec =
     tie.close
     (tie.spec
-    -- returns: from 0 round to k
+    -- returns-then-level-eq0: from 0 round to k
     (λ c. search next-round)
-    -- sub-result, returns-2: one down
+    -- overflow_sub-result, returns: one down
     (λ c. search rules)
     (λ c. search next_down))

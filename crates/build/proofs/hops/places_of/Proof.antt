@@ -10,6 +10,6 @@ pub places_of_spec : {M : Type 1} → statement M
 places_of_spec =
     tie.close
     (tie.spec
-    -- digits-of-requires, returns
+    -- digits_of-requires, returns
     (λ c κs. search rules)
     (λ c. ap (λ (x : Digits). x.places) (digits-answered c.before.before.requires _ c.before.digits_of.ensures)))

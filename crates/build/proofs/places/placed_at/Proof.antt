@@ -22,15 +22,15 @@ placed_at_spec =
     (tie.spec
     invariant-loop-j
     decreases-loop-j
-    -- loop-holds
+    -- loop-j-init
     (λ c. (omega arith, paste-zero c.args.bytes c.args.place c.args.route))
-    -- array-read-all, add-all, array-write-all, add-j, loop-less: one byte
+    -- bounds-route-j, overflow_add-all, bounds-all-place, overflow_add-j, loop-j-smaller: one byte
     (λ c. search rules)
     (λ c. search rules)
     (λ c. search rules)
     (λ c. search rules)
     (λ c. search rules)
-    -- loop-again
+    -- loop-j-preserved
     (λ c.
     let a = c.before.before.args in
     let g = c.before.loop-j in

@@ -20,16 +20,16 @@ all_routes_spec =
     (tie.spec
     invariant-loop-place
     decreases-loop-place
-    -- places-of-requires, places-of-requires-2: the digits of the ends
+    -- places_of-from-requires, places_of-to-requires: the digits of the ends
     (λ c κs. (ends_of _ _ _ c.requires).source)
     (λ c κs. (ends_of _ _ _ c.before.requires).destination)
-    -- new-requires, loop-holds
+    -- new-set-requires, loop-place-init
     (λ c κs. search rules)
     (λ c. search gather_start)
-    -- route-bytes-requires, with-route-requires: the route of one slot
+    -- route_bytes-route-requires, with_route-more-requires: the route of one slot
     (λ c κs. search (places_small, arith))
     (λ c κs. search rules)
-    -- add-place, loop-less, loop-again
+    -- overflow_add-place, loop-place-smaller, loop-place-preserved
     (λ c. omega arith)
     (λ c. search rules)
     (λ c.

@@ -13,11 +13,11 @@ unfolding build_answer
 build_routes_spec =
     tie.close
     (tie.spec
-    -- ends-refusal-requires, no-building-requires, returns: 1, 2, 26, 3 to 5
+    -- ends_refusal-refusal-requires, no_building-requires, returns-then-refusal-ne0: 1, 2, 26, 3 to 5
     (λ c κs. search rules)
     (λ c κs. search rules)
     (λ c. search answer-refused)
-    -- none-requires, all-routes-requires, returns-2: the routes
+    -- none-requires, all_routes-requires, returns: the routes
     (λ c κs. search rules)
     (λ c κs. sym c.before.before.ends_refusal-refusal.ensures ∙ c.before.if-refusal-ne0.false)
     (λ c.

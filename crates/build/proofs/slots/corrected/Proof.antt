@@ -24,7 +24,7 @@ corrected_spec =
     (tie.spec
     invariant-loop-left
     decreases-loop-left
-    -- add-left, loop-holds
+    -- overflow_add-left, loop-left-init
     (λ c. let p = c.requires in omega arith)
     (λ c.
     let a = c.args in
@@ -36,12 +36,12 @@ corrected_spec =
       blank = p.4;
       same = ap (λ (m : ℕ). take a.count a.made ++ fixing a.k a.from a.to m a.first) (add-one a.k);
     })
-    -- mul-value, array-read-value, mul-if1, array-read-if1: the level's digit of both ends
+    -- offset_bounds-to-level, bounds-to-level, offset_bounds-from-level, bounds-from-level: the level's digit of both ends
     (λ c. let g = c.before.loop-left.invariant in omega (arith, c.before.before.requires.0, g.level))
     (λ c. let g = c.before.loop-left.invariant in omega (arith, c.before.before.requires.0, g.level))
     (λ c. let g = c.before.loop-left.invariant in omega (arith, c.before.before.requires.0, g.level))
     (λ c. let g = c.before.loop-left.invariant in omega (arith, c.before.before.requires.0, g.level))
-    -- byte-of-requires, array-write-bytes, add-hops: they differ, and a hop corrects it
+    -- byte_of-requires, bounds-bytes-hops, overflow_add-hops: they differ, and a hop corrects it
     (λ c κs.
     let p = c.before.before.before.requires in
     let a = c.before.before.before.args in
@@ -51,7 +51,7 @@ corrected_spec =
     (omega (arith, p.0, g.level), p.2.at o.level (omega (arith, m, p.0, g.level))))
     (λ c. let g = c.before.before.before.loop-left.invariant in omega arith)
     (λ c. let g = c.before.before.before.loop-left.invariant in omega arith)
-    -- level-after-requires, sub-left, loop-less, loop-again: the next level
+    -- level_after-level-requires, overflow_sub-left, loop-left-smaller, loop-left-preserved: the next level
     (λ c κs. search rules)
     (λ c. search rules)
     (λ c. search rules)

@@ -13,15 +13,15 @@ pub route_bytes_spec : {M : Type 1} → statement M
 route_bytes_spec =
     tie.close
     (tie.spec
-    -- mul-own, array-read-own, mul-if1, array-read-if1: the slot's digit of both ends
+    -- offset_bounds-from-slot, bounds-from-slot, offset_bounds-to-slot, bounds-to-slot: the slot's digit of both ends
     (λ c. search rules)
     (λ c. search rules)
     (λ c. search rules)
     (λ c. search rules)
-    -- corrected-requires, returns: they differ
+    -- corrected-requires, returns-then-own-to: they differ
     (λ c κs. search rules)
     (λ c. search direct-bytes)
-    -- value-after-requires, mul-beside, array-write-beside: they do not, and the route goes to the digit after
+    -- value_after-other-requires, offset_bounds-beside-slot, bounds-beside-slot: they do not, and the route goes to the digit after
     (λ c κs.
     let a = c.before.args in
     let p = c.before.requires in
@@ -29,13 +29,13 @@ route_bytes_spec =
     (p.0, p.1, p.2.at a.slot (omega (arith, m, p.0.levels, p.1))))
     (λ c. search rules)
     (λ c. search rules)
-    -- byte-of-requires, array-write-made: the byte of that hop
+    -- byte_of-requires, bounds-made-0: the byte of that hop
     (λ c κs.
     let a = c.before.before.args in
     let v = c.before.before.requires.0 in
     omega (arith, c.value_after-other.ensures, plus_lt v a.slot (get_or a.from a.slot 0), bound_le v a.slot))
     (λ c. search rules)
-    -- level-after-requires, corrected-requires-2, returns-2: and on from the level after
+    -- level_after-first-requires, corrected-requires-2, returns: and on from the level after
     (λ c κs. search rules)
     (λ c κs.
     let a = c.before.before.before.before.args in

@@ -8,11 +8,11 @@ pub answer_line_spec : {M : Type 1} → statement M
 answer_line_spec =
     tie.close
     (tie.spec
-    -- question-of-requires, full-requires, built-text-requires, returns: a question
+    -- question_of-asked-requires, full-shape-requires, built_text-requires, returns-then-asked: a question
     (λ c κs. search rules)
     (λ c κs. search rules)
     (λ c κs. search rules)
     (λ c. search desk_asked)
-    -- input-text-requires, returns-2: anything else
+    -- input_text-requires, returns: anything else
     (λ c κs. search rules)
     (λ c. search desk_other))

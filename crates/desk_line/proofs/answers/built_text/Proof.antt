@@ -8,11 +8,11 @@ pub built_text_spec : {M : Type 1} → statement M
 built_text_spec =
     tie.close
     (tie.spec
-    -- build-routes-requires
+    -- build_routes-built-requires
     (λ c κs. search rules)
-    -- refused-text-requires, returns: a refusal
+    -- refused_text-requires, returns-then-number-ne0: a refusal
     (λ c κs. search built-few)
     (λ c. search text-refused)
-    -- routes-text-requires, returns-2: the built routes
+    -- routes_text-requires, returns: the built routes
     (λ c κs. search (built_ends, built-routes))
     (λ c. search text-built))

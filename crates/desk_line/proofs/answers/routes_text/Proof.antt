@@ -18,10 +18,10 @@ routes_text_spec =
     (tie.spec
     invariant-loop-place
     decreases-loop-place
-    -- no-text-requires, loop-holds
+    -- no_text-text-requires, loop-place-init
     (λ c κs. search rules)
     (λ c. search print_start)
-    -- with-place-requires, add-place, loop-less, loop-again: the line of one place
+    -- with_place-next-requires, overflow_add-place, loop-place-smaller, loop-place-preserved: the line of one place
     (λ c κs. search (print_room, arith))
     (λ c. omega arith)
     (λ c. omega arith)

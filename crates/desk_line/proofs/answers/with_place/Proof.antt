@@ -12,18 +12,18 @@ pub with_place_spec : {M : Type 1} → statement M
 with_place_spec =
     tie.close
     (tie.spec
-    -- mul-start, add-end, sub-route: the place of the route's eight bytes
+    -- overflow_mul-start, overflow_add-end, slice_bounds-route-count: the place of the route's eight bytes
     (λ c. let h : c.args.place ≤ 3 = search place-small in omega arith)
     (λ c. let h : c.args.place ≤ 3 = search place-small in omega arith)
     (λ c. search rules)
-    -- part-route-start, part-route-end: they lie in the set
+    -- slice_bounds-route-start, slice_bounds-route-end: they lie in the set
     (λ c. search rules)
     (λ c.
     let a = c.args in
     let h : a.place ≤ 3 = search place-small in
     let l : length a.routes.bytes ≡ 32 = search set_long in
     search rules)
-    -- read-path-requires, sub-with-route, with-route-requires, returns: the route read
+    -- read_path-read-requires, overflow_sub-read, with_route-requires, returns: the route read
     (λ c κs. search rules)
     (λ c. let h : 1 ≤ c.read_path-read.result.count = search read_some in omega arith)
     (λ c κs. search (part_long, read-few))

@@ -20,14 +20,14 @@ length_before_spec =
     (tie.spec
     invariant-loop-i
     decreases-loop-i
-    -- loop-holds, shared-slice-read-if1
+    -- loop-i-init, bounds-text-i
     (λ c. omega arith)
     (λ c. omega arith)
-    -- returns: the byte is here
+    -- returns-then-text-i: the byte is here
     (λ c. search (before_here, arith))
-    -- add-i, loop-less, loop-again
+    -- overflow_add-i, loop-i-smaller, loop-i-preserved
     (λ c. omega arith)
     (λ c. omega arith)
     (λ c. (omega arith, search (before_on, arith)))
-    -- returns-2: it is nowhere
+    -- returns: it is nowhere
     (λ c. search (before-end, arith)))

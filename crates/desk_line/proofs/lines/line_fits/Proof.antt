@@ -9,10 +9,10 @@ pub line_fits_spec : {M : Type 1} → statement M
 line_fits_spec =
     tie.close
     (tie.spec
-    -- length-before-requires
+    -- length_before-end-requires
     (λ c κs. search rules)
-    -- add-result, returns: a newline ends the line
+    -- overflow_add-result, returns-then-end-input: a newline ends the line
     (λ c. search rules)
     (λ c. search (fits_with, arith))
-    -- returns-2: none does
+    -- returns: none does
     (λ c. search (fits_without, arith)))

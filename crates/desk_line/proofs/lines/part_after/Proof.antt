@@ -9,15 +9,15 @@ pub part_after_spec : {M : Type 1} → statement M
 part_after_spec =
     tie.close
     (tie.spec
-    -- length-before-requires
+    -- length_before-end-requires
     (λ c κs. search rules)
-    -- add-start, sub-result, part-result-start, part-result-end, returns: what follows the byte
+    -- overflow_add-start, slice_bounds-result-count, slice_bounds-result-start, slice_bounds-result-end, returns-then-end-text: what follows the byte
     (λ c. search rules)
     (λ c. search rules)
     (λ c. search rules)
     (λ c. search rules)
     (λ c. search (found_after, arith))
-    -- sub-result-2, part-result-start-2, part-result-end-2, returns-2: nothing
+    -- slice_bounds-result-count-2, slice_bounds-result-start-2, slice_bounds-result-end-2, returns: nothing
     (λ c. search found_le)
     (λ c. search found_le)
     (λ c. search rules)

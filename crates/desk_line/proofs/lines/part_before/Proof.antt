@@ -8,7 +8,7 @@ pub part_before_spec : {M : Type 1} → statement M
 part_before_spec =
     tie.close
     (tie.spec
-    -- length-before-requires, slice-aggregate-result, returns
+    -- length_before-end-requires, slice_bounds-result-end, returns
     (λ c κs. search rules)
     (λ c. search found-long)
     (λ c. search found_before))

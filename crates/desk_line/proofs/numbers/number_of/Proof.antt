@@ -21,28 +21,28 @@ number_of_spec =
     (tie.spec
     invariant-loop-i
     decreases-loop-i
-    -- no-word-requires, returns: no byte
+    -- no_word-requires, returns-then-word-eq0: no byte
     (λ c κs. search rules)
     (λ c. search (word_empty, arith))
-    -- loop-holds, shared-slice-read-byte
+    -- loop-i-init, bounds-word-i
     (λ c. (omega arith, omega arith, search (word_some, arith)))
     (λ c. omega arith)
-    -- no-word-requires-2, returns-2: a byte below the digits
+    -- no_word-requires-then-byte-lt48, returns-then-byte-lt48: a byte below the digits
     (λ c κs. search rules)
     (λ c. search (read_low, arith))
-    -- no-word-requires-3, returns-3: a byte above them
+    -- no_word-requires-then-byte-gt57, returns-then-byte-gt57: a byte above them
     (λ c κs. search rules)
     (λ c. search (read_high, arith))
-    -- mul-value, cast-value, add-value: one digit more
+    -- overflow_mul-value, overflow_cast-value, overflow_add-value: one digit more
     (λ c. omega arith)
     (λ c. omega arith)
     (λ c. omega arith)
-    -- no-word-requires-4, returns-4: above 65,535
+    -- no_word-requires-then-value-gt-MOST_NUMBER, returns-then-value-gt-MOST_NUMBER: above 65,535
     (λ c κs. search rules)
     (λ c. search (read-large, arith))
-    -- add-i, loop-less, loop-again
+    -- overflow_add-i, loop-i-smaller, loop-i-preserved
     (λ c. omega arith)
     (λ c. omega arith)
     (λ c. (omega arith, omega arith, search (read_more, arith)))
-    -- returns-5
+    -- returns
     (λ c. search (read-end, arith)))

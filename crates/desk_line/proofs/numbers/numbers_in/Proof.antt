@@ -8,12 +8,12 @@ pub numbers_in_spec : {M : Type 1} → statement M
 numbers_in_spec =
     tie.close
     (tie.spec
-    -- line-fits-requires
+    -- line_fits-requires
     (λ c κs. search rules)
-    -- part-before-requires, numbers-of-requires, returns: the line is short enough
+    -- part_before-requires, numbers_of-requires, returns-then-line_fits: the line is short enough
     (λ c κs. search rules)
     (λ c κs. search rules)
     (λ c. search numbers_fit)
-    -- no-numbers-requires, returns-2: it is not
+    -- no_numbers-requires, returns: it is not
     (λ c κs. search rules)
     (λ c. search numbers-long))

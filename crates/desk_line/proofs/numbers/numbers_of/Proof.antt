@@ -19,26 +19,26 @@ numbers_of_spec =
     (tie.spec
     invariant-loop-place
     decreases-loop-place
-    -- loop-holds
+    -- loop-place-init
     (λ c. words_start _ _)
-    -- part-before-requires, number-of-requires: a word
+    -- part_before-requires, number_of-word-requires: a word
     (λ c κs. search rules)
     (λ c κs. search rules)
-    -- no-numbers-requires, returns: it is no number
+    -- no_numbers-requires, returns-then-not-word: it is no number
     (λ c κs. search rules)
     (λ c. search (words_stop, not-true, arith))
-    -- mul-values, array-write-values, part-after-requires, add-place, loop-less, loop-again: its value is kept
+    -- offset_bounds-values-place, bounds-values-place, part_after-next-requires, overflow_add-place, loop-place-smaller, loop-place-preserved: its value is kept
     (λ c. omega arith)
     (λ c. omega arith)
     (λ c κs. search rules)
     (λ c. omega arith)
     (λ c. omega arith)
     (λ c. search (words_next, not-false, arith))
-    -- number-of-requires-2, no-numbers-requires-2, returns-2: the last word is no number
+    -- number_of-last-requires, no_numbers-requires-then-not-last, returns-then-not-last: the last word is no number
     (λ c κs. search rules)
     (λ c κs. search rules)
     (λ c. search (last_stop, not-true, arith))
-    -- mul-values-2, array-write-values-2, returns-3: all are
+    -- offset_bounds-values-place-2, bounds-values-place-2, returns: all are
     (λ c. omega arith)
     (λ c. omega arith)
     (λ c. search (last_read, not-false, arith)))

@@ -8,7 +8,7 @@ pub tree_question_of_spec : {M : Type 1} → statement M
 tree_question_of_spec =
     tie.close
     (tie.spec
-    -- numbers-in-requires, element-copy-out of the five values, returns
+    -- numbers_in-read-requires, bounds-read-0 to bounds-read-4, returns
     (λ c κs. search rules)
     (λ c. search rules)
     (λ c. search rules)

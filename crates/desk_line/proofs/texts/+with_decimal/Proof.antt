@@ -26,12 +26,12 @@ pub +with_decimal_spec : {M : Type 1} → statement M
 +with_decimal_spec =
     close μ-with-decimal
     (λ t. with_decimal_lts.spec (with_byte_reads.Asked, with_byte_reads.Learnt, below t, with_decimal.Post) (at t) with_decimal.Post
-    -- cast-with-byte, add-with-byte, with-byte-requires, returns: one digit
+    -- overflow_cast-number, overflow_add-number, with_byte-requires, returns-then-number-lt10: one digit
     (λ c. omega arith)
     (λ c. omega arith)
     (λ c κs. search (digit_room, arith))
     (λ c. search (digit-made, arith))
-    -- with-decimal-requires, cast-with-byte-2, add-with-byte-2, with-byte-requires-2, returns-2: the digits before the last, and it
+    -- with_decimal-high-requires, overflow_cast-number-2, overflow_add-number-2, with_byte-requires-2, returns: the digits before the last, and it
     (λ c κs. (omega arith, search (high_room, arith)))
     (λ c. omega arith)
     (λ c. omega arith)

@@ -8,10 +8,10 @@ pub hex_digit_spec : {M : Type 1} → statement M
 hex_digit_spec =
     tie.close
     (tie.spec
-    -- add-result, returns: below 10
+    -- overflow_add-result, returns-then-x-lt10: below 10
     (λ c. omega arith)
     (λ c. hex-small _ (omega arith))
-    -- sub-result, add-result-2, returns-2: a letter
+    -- overflow_sub-result, overflow_add-result-2, returns: a letter
     (λ c. omega arith)
     (λ c. omega arith)
     (λ c. hex-large _ (omega arith)))

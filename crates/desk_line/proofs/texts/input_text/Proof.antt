@@ -9,7 +9,7 @@ pub input_text_spec : {M : Type 1} → statement M
 input_text_spec =
     tie.close
     (tie.spec
-    -- no_text-requires, with-word-requires, returns
+    -- no_text-requires, with_word-requires, returns
     (λ c κs. search rules)
     (λ c κs. first-room _ c.no_text.ensures (omega arith))
     (λ c. search first_word))

@@ -9,9 +9,9 @@ pub refused_text_spec : {M : Type 1} → statement M
 refused_text_spec =
     tie.close
     (tie.spec
-    -- no_text-requires, with-word-requires: "refused "
+    -- no_text-requires, with_word-word-requires: "refused "
     (λ c κs. search rules)
     (λ c κs. first-room _ c.no_text.ensures (omega arith))
-    -- with-count-requires, returns: the number
+    -- with_count-requires, returns: the number
     (λ c κs. search (refused-room, first_word))
     (λ c. search (refused-made, first_word)))

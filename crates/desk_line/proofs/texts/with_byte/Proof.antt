@@ -8,7 +8,7 @@ pub with_byte_spec : {M : Type 1} → statement M
 with_byte_spec =
     tie.close
     (tie.spec
-    -- array-write-bytes, add-t8 (the length), returns
+    -- bounds-bytes-length, overflow_add-result, returns
     (λ c. let h = room-length c.before.requires in omega arith)
     (λ c. let h = room-length c.before.requires in omega arith)
     (λ c. put_byte _ _ c.before.requires))

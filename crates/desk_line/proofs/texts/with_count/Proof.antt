@@ -8,7 +8,7 @@ pub with_count_spec : {M : Type 1} → statement M
 with_count_spec =
     tie.close
     (tie.spec
-    -- with-decimal-requires, with-byte-requires, returns: the number, and the newline
+    -- with_decimal-number-requires, with_byte-requires, returns: the number, and the newline
     (λ c κs. search rules)
     (λ c κs. search count_room)
     (λ c. search text-then))

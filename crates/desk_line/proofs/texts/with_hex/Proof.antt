@@ -21,16 +21,16 @@ with_hex_spec =
     (tie.spec
     invariant-loop-i
     decreases-loop-i
-    -- loop-holds
+    -- loop-i-init
     (λ c. (omega arith, hex-start c.before.requires))
-    -- shared-slice-read-byte, hex-digit-requires, with-byte-requires: the high digit
+    -- bounds-bytes-i, hex_digit-requires, with_byte-half-requires: the high digit
     (λ c. omega arith)
     (λ c κs. omega (arith, c.shared_slice_known-in-loop-i-1.given c.before.before.loop-i.i))
     (λ c κs. search (hex-room, arith))
-    -- hex-digit-requires-2, with-byte-requires-2: the low digit
+    -- hex_digit-requires-in-loop-i, with_byte-next-requires: the low digit
     (λ c κs. omega arith)
     (λ c κs. search (half_room, arith))
-    -- add-i, loop-less, loop-again
+    -- overflow_add-i, loop-i-smaller, loop-i-preserved
     (λ c. omega arith)
     (λ c. omega arith)
     (λ c. (omega arith, search (hex-step, arith)))

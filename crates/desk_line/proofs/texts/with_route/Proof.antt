@@ -8,7 +8,7 @@ pub with_route_spec : {M : Type 1} → statement M
 with_route_spec =
     tie.close
     (tie.spec
-    -- with-hex-requires, with-byte-requires, with-count-requires: the bytes, a space, the hops
+    -- with_hex-hex-requires, with_byte-gap-requires, with_count-requires: the bytes, a space, the hops
     (λ c κs. search (room_less, arith))
     (λ c κs. search route-hex)
     (λ c κs. search route-room)

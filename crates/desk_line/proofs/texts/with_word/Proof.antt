@@ -21,12 +21,12 @@ with_word_spec =
     (tie.spec
     invariant-loop-i
     decreases-loop-i
-    -- loop-holds
+    -- loop-i-init
     (λ c. (omega arith, word-start c.before.requires))
-    -- shared-slice-read-with-byte, with-byte-requires: one byte
+    -- bounds-word-i, with_byte-next-requires: one byte
     (λ c. omega arith)
     (λ c κs. search (word_room, arith))
-    -- add-i, loop-less, loop-again
+    -- overflow_add-i, loop-i-smaller, loop-i-preserved
     (λ c. omega arith)
     (λ c. omega arith)
     (λ c. (omega arith, search (word-step, arith)))

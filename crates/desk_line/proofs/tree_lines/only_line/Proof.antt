@@ -8,8 +8,8 @@ pub only_line_spec : {M : Type 1} → statement M
 only_line_spec =
     tie.close
     (tie.spec
-    -- returns: the first place
+    -- returns-then-place-eq0: the first place
     (λ c. search only-first)
-    -- no-text-requires, returns-2: any other
+    -- no_text-requires, returns: any other
     (λ c κs. search rules)
     (λ c. search only-past))

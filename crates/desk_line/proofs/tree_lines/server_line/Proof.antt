@@ -8,11 +8,11 @@ pub server_line_spec : {M : Type 1} → statement M
 server_line_spec =
     tie.close
     (tie.spec
-    -- no-text-requires, with-server-requires, with-byte-requires: the server, and a space
+    -- no_text-requires, with_server-own-requires, with_byte-gap-requires: the server, and a space
     (λ c κs. search rules)
     (λ c κs. search own_room)
     (λ c κs. search own-space)
-    -- with-parent-requires, with-byte-requires-2, returns: its parent, and the newline
+    -- with_parent-parent-requires, with_byte-requires, returns: its parent, and the newline
     (λ c κs. search gap-room)
     (λ c κs. search both_room)
     (λ c. search line_made))

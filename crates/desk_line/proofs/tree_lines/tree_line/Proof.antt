@@ -10,20 +10,20 @@ pub tree_line_spec : {M : Type 1} → statement M
 tree_line_spec =
     tie.close
     (tie.spec
-    -- input-text-requires, only-line-requires, returns: no line that is taken
+    -- input_text-requires, only_line-requires, returns-then-not-asked: no line that is taken
     (λ c κs. search rules)
     (λ c κs. search whole_of)
     (λ c. search (line_input, not-true))
-    -- new-requires, link-refusal-requires, refused-text-requires, only-line-requires-2, returns-2: a refusal
+    -- new-shape-requires, link_refusal-refusal-requires, refused_text-requires, only_line-requires-then-refusal-ne0, returns-then-refusal-ne0: a refusal
     (λ c κs. search rules)
     (λ c κs. search rules)
     (λ c κs. search (number_small, not-false))
     (λ c κs. search whole_of)
     (λ c. search (line_refused, not-false))
-    -- server-count-requires, server-line-requires, returns-3: a server's line
+    -- server_count-requires, server_line-requires, returns-then-place-server_count: a server's line
     (λ c κs. search rules)
     (λ c κs. search (tree-link, place-server, not-false))
     (λ c. search (line-server, not-false))
-    -- no-text-requires, returns-4: past the last
+    -- no_text-requires, returns: past the last
     (λ c κs. search rules)
     (λ c. search (line-past, not-false, arith)))

@@ -16,19 +16,19 @@ with_digits_spec =
     (tie.spec
     invariant-loop-level
     decreases-loop-level
-    -- sub-level, loop-holds
+    -- overflow_sub-level, loop-level-init
     (λ c. omega arith)
     (λ c. search (digits-start, arith))
-    -- mul-with-decimal, shared-slice-read-with-decimal, with-decimal-requires, with-byte-requires: a digit, and a point
+    -- offset_bounds-digits-level, bounds-digits-level, with_decimal-digit-requires, with_byte-next-requires: a digit, and a point
     (λ c. omega arith)
     (λ c. omega arith)
     (λ c κs. search (digit-space, arith))
     (λ c κs. search (point-space, arith))
-    -- sub-level-2, loop-less, loop-again
+    -- overflow_sub-level-in-loop-level, loop-level-smaller, loop-level-preserved
     (λ c. omega arith)
     (λ c. omega arith)
     (λ c. search (digits-next, arith))
-    -- shared-slice-read-with-decimal-2, with-decimal-requires-2, returns: digit 0
+    -- bounds-digits-0, with_decimal-requires, returns: digit 0
     (λ c. omega arith)
     (λ c κs. search (digit-space_0, arith))
     (λ c. search (digits-end, arith)))

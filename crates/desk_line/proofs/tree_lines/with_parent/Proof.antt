@@ -8,10 +8,10 @@ pub with_parent_spec : {M : Type 1} → statement M
 with_parent_spec =
     tie.close
     (tie.spec
-    -- with_word-requires, returns: the source
+    -- with_word-requires, returns-then-source-server: the source
     (λ c κs. search dash-room)
     (λ c. search dash-made)
-    -- parent-of-requires, with-server-requires, returns-2: any other server
+    -- parent_of-parent-requires, with_server-requires, returns: any other server
     (λ c κs. search rules)
     (λ c κs. search (parent-room, parent-there))
     (λ c. search parent-made))

@@ -9,13 +9,13 @@ pub with_server_spec : {M : Type 1} → statement M
 with_server_spec =
     tie.close
     (tie.spec
-    -- digits-of-requires, add-count
+    -- digits_of-requires, overflow_add-count
     (λ c κs. search rules)
     (λ c. omega arith)
-    -- with-decimal-requires, with-byte-requires: the number, and a space
+    -- with_decimal-number-requires, with_byte-gap-requires: the number, and a space
     (λ c κs. search number-room)
     (λ c κs. search space-room)
-    -- array-share-prefix-places, slice-aggregate-with-digits, with-digits-requires, returns: the digits
+    -- slice_bounds-places-end, slice_bounds-with_digits-end, with_digits-requires, returns: the digits
     (λ c. search places_four)
     (λ c. search places_long)
     (λ c κs. search (digits-room, places_some))

@@ -11,10 +11,10 @@ pub bcube_mark_all_spec : {M : Type 1} → statement M
 bcube_mark_all_spec =
     tie.close
     (tie.spec
-    -- shape-in-requires, mark-server-requires
+    -- shape_in-shape-requires, mark_server-refusal-requires
     (λ c κs. search rules)
     (λ c κs. search rules)
-    -- result-word-requires, same-length, same-length-2, returns
+    -- result_word-requires, shape_of-table, shape_of-summary, returns
     (λ c κs. server-fits _ _ _ _ c.before.before.before.before.mark_server-refusal.ensures.0)
     (λ c. search rules)
     (λ c. search rules)

@@ -11,10 +11,10 @@ pub bcube_parent_spec : {M : Type 1} → statement M
 bcube_parent_spec =
     tie.close
     (tie.spec
-    -- shape-in-requires, parent-of-requires
+    -- shape_in-requires, parent_of-answer-requires
     (λ c κs. search rules)
     (λ c κs. search rules)
-    -- result-word-requires, returns
+    -- result_word-requires, returns
     (λ c κs. number_fits _ _ (parent-small _ _ _ _) c.parent_of-answer.ensures)
     (λ c.
     let a = c.before.before.before.args in

@@ -12,10 +12,10 @@ pub bcube_tree_spec : {M : Type 1} → statement M
 bcube_tree_spec =
     tie.close
     (tie.spec
-    -- shape-in-requires, write-tree-requires
+    -- shape_in-shape-requires, write_tree-answer-requires
     (λ c κs. search rules)
     (λ c κs. search rules)
-    -- result-word-requires, returns
+    -- result_word-requires, returns
     (λ c κs. number_fits _ _ (tree-small _ _ _) c.write_tree-answer.ensures.0)
     (λ c.
     let wrote = c.before in

@@ -12,7 +12,7 @@ pub bcube_check_spec : {M : Type 1} → statement M
 bcube_check_spec =
     tie.close
     (tie.spec
-    -- shape-in-requires, check-list-requires, result-word-requires
+    -- shape_in-shape-requires, check_list-refusal-requires, result_word-requires
     (λ c κs. search rules)
     (λ c κs. search rules)
     (λ c κs. told-fits (λ (x : Refusal). x) (λ (x : Refusal). 0) (check-small _ _ _ _ _) c.check_list-refusal.ensures)

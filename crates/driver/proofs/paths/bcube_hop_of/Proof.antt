@@ -14,15 +14,15 @@ unfolding byte_of
 bcube_hop_of_spec =
     tie.close
     (tie.spec
-    -- shape-in-requires, hop-of-requires
+    -- shape_in-requires, hop_of-hop-requires
     (λ c κs. search rules)
     (λ c κs. search rules)
-    -- mul-result-word, add-result-word, mul-result-word-2, add-result-word-2: the value fits
+    -- overflow_mul-hop, overflow_add-hop, overflow_mul-hop-2, overflow_add-hop-2: the value fits
     (λ c. let h = hop-found _ _ _ _ c.before.hop_of-hop.ensures in omega (arith, h.level))
     (λ c. let h = hop-found _ _ _ _ c.before.before.hop_of-hop.ensures in omega (arith, h.level, h.old))
     (λ c. let h = hop-found _ _ _ _ c.before.before.hop_of-hop.ensures in omega (arith, h.level, h.old))
     (λ c. let h = hop-found _ _ _ _ c.before.before.before.hop_of-hop.ensures in omega (arith, h.level, h.old, h.next))
-    -- result-word-requires, returns
+    -- result_word-requires, returns
     (λ c κs. (hop-found _ _ _ _ c.before.before.before.hop_of-hop.ensures).small)
     (λ c.
     let hop = c.before.before.before.before in

@@ -11,10 +11,10 @@ pub bcube_path_byte_spec : {M : Type 1} → statement M
 bcube_path_byte_spec =
     tie.close
     (tie.spec
-    -- shape-in-requires, byte-of-requires
+    -- shape_in-requires, byte_of-answer-requires
     (λ c κs. search rules)
     (λ c κs. search rules)
-    -- result-word-requires, returns
+    -- result_word-requires, returns
     (λ c κs. number_fits _ _ (byte_small _ _ _) c.byte_of-answer.ensures)
     (λ c.
     let a = c.before.before.before.args in

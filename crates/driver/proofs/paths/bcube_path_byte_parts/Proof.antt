@@ -12,13 +12,13 @@ pub bcube_path_byte_parts_spec : {M : Type 1} → statement M
 bcube_path_byte_parts_spec =
     tie.close
     (tie.spec
-    -- shape-in-requires, parts-of-requires
+    -- shape_in-requires, parts_of-parts-requires
     (λ c κs. search rules)
     (λ c κs. search rules)
-    -- mul-result-word, add-result-word: the value fits
+    -- overflow_mul-parts, overflow_add-parts: the value fits
     (λ c. let h = parts_found _ _ _ c.before.parts_of-parts.ensures in omega (arith, h.level))
     (λ c. let h = parts_found _ _ _ c.before.before.parts_of-parts.ensures in omega (arith, h.level, h.value))
-    -- result-word-requires, returns
+    -- result_word-requires, returns
     (λ c κs. (parts_found _ _ _ c.before.before.parts_of-parts.ensures).small)
     (λ c.
     let parts = c.before.before.before in

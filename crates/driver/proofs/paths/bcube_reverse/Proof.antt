@@ -13,18 +13,18 @@ pub bcube_reverse_spec : {M : Type 1} → statement M
 bcube_reverse_spec =
     tie.close
     (tie.spec
-    -- shape-in-requires, reverse-path-requires, result-word-requires
+    -- shape_in-shape-requires, reverse_path-turned-requires, result_word-result-requires
     (λ c κs. search rules)
     (λ c κs. search rules)
     (λ c κs. told-fits (λ (x : Writing). x.refusal) (λ (x : Writing). 0) (reverse-small _ _ _ _) c.reverse_path-turned.ensures)
-    -- returns: refused, and the buffer as it was lent
+    -- returns-then-turned-ne0: refused, and the buffer as it was lent
     (λ c.
     let found = c.before.before.before in
     let a = found.before.before.before.args in
     told-refused (λ (x : Writing). x.refusal) (λ (x : Writing). 0) (λ (s : Shape). reverse_answer s a.source a.destination a.path.now)
     found.reverse_path-turned.ensures found.before.shape_in-shape.ensures c.before.before.result_word-result.ensures
     (λ (x : Writing). x.bytes) _ c.if-turned-ne0.true)
-    -- returns-2: the answer, and what it puts into the buffer
+    -- returns: the answer, and what it puts into the buffer
     (λ c.
     let found = c.before.before.before.before in
     let a = found.before.before.before.args in

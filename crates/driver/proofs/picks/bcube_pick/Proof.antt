@@ -13,10 +13,10 @@ pub bcube_pick_spec : {M : Type 1} → statement M
 bcube_pick_spec =
     tie.close
     (tie.spec
-    -- shape-in-requires, pick-place-requires
+    -- shape_in-shape-requires, pick_place-place-requires
     (λ c κs. search rules)
     (λ c κs. search rules)
-    -- mul-result-word, add-result-word, result-word-requires: the list and the place fit
+    -- overflow_mul-place, overflow_add-place, result_word-requires: the list and the place fit
     (λ c. let h = pick_small _ _ _ _ _ _ _ c.before.pick_place-place.ensures in omega (arith, h.value))
     (λ c. let h = pick_small _ _ _ _ _ _ _ c.before.before.pick_place-place.ensures in omega (arith, h.value))
     (λ c κs. pick_small _ _ _ _ _ _ _ c.before.before.pick_place-place.ensures)

@@ -13,10 +13,10 @@ pub bcube_address_spec : {M : Type 1} → statement M
 bcube_address_spec =
     tie.close
     (tie.spec
-    -- shape-in-requires, address-of-requires
+    -- shape_in-requires, address_of-answer-requires
     (λ c κs. search rules)
     (λ c κs. search rules)
-    -- result-word-requires, returns
+    -- result_word-requires, returns
     (λ c κs. number_fits _ _ (address-small _ _ refl) c.address_of-answer.ensures)
     (λ c.
     let a = c.before.before.before.args in

@@ -10,10 +10,10 @@ pub bcube_between_spec : {M : Type 1} → statement M
 bcube_between_spec =
     tie.close
     (tie.spec
-    -- shape-in-requires, level-between-requires
+    -- shape_in-shape-requires, level_between-answer-requires
     (λ c κs. search rules)
     (λ c κs. search rules)
-    -- add-result-word, result-word-requires, returns: they are neighbours
+    -- overflow_add-answer, result_word-requires, returns-then-answer: they are neighbours
     (λ c. let h = between-level _ _ _ c.before.before.level_between-answer.ensures in omega arith)
     (λ c κs.
     let e = c.before.before.level_between-answer.ensures in
@@ -24,7 +24,7 @@ bcube_between_spec =
     let a = found.before.before.args in
     between_said (λ s. between_answer s a.one a.other)
     c.result_word.ensures c.before.before.if-answer.true found.level_between-answer.ensures found.before.shape_in-shape.ensures)
-    -- result-word-requires-2, returns-2: they are not
+    -- result_word-requires-2, returns: they are not
     (λ c κs. between-fits _ _ _ _ (omega arith) c.before.level_between-answer.ensures)
     (λ c.
     let found = c.before.before in

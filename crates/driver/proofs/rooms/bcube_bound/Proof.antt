@@ -11,10 +11,10 @@ pub bcube_bound_spec : {M : Type 1} → statement M
 bcube_bound_spec =
     tie.close
     (tie.spec
-    -- shape-in-requires, bound-of-requires
+    -- shape_in-requires, bound_of-answer-requires
     (λ c κs. search rules)
     (λ c κs. search rules)
-    -- result-word-requires, returns
+    -- result_word-requires, returns
     (λ c κs. number_fits _ _ (bound-small _ _) c.bound_of-answer.ensures)
     (λ c.
     let a = c.before.before.before.args in

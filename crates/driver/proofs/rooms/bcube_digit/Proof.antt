@@ -11,10 +11,10 @@ pub bcube_digit_spec : {M : Type 1} → statement M
 bcube_digit_spec =
     tie.close
     (tie.spec
-    -- shape-in-requires, digit-of-requires
+    -- shape_in-shape-requires, digit_of-answer-requires
     (λ c κs. search rules)
     (λ c κs. search rules)
-    -- result-word-requires, returns
+    -- result_word-requires, returns
     (λ c κs. number_fits _ _ (digit-small _ _ _) c.digit_of-answer.ensures)
     (λ c.
     let a = c.before.before.before.args in

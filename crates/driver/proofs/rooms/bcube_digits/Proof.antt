@@ -14,18 +14,18 @@ pub bcube_digits_spec : {M : Type 1} → statement M
 bcube_digits_spec =
     tie.close
     (tie.spec
-    -- shape-in-requires, digits-of-requires, result-word-requires
+    -- shape_in-requires, digits_of-answer-requires, result_word-result-requires
     (λ c κs. search rules)
     (λ c κs. search rules)
     (λ c κs. digits-fits _ _ _ (lit< tt) c.digits_of-answer.ensures)
-    -- returns: refused, and the buffer as it was lent
+    -- returns-then-answer-ne0: refused, and the buffer as it was lent
     (λ c.
     let found = c.before.before.before in
     let a = found.before.before.args in
     told-refused (λ (x : Digits). x.refusal) (λ (x : Digits). 0) (λ (s : Shape). digits_answer s a.server)
     found.digits_of-answer.ensures found.before.shape_in.ensures c.before.before.result_word-result.ensures
     (λ (x : Digits). x.places) _ c.if-answer-ne0.true)
-    -- returns-2: the answer, and what it puts into the buffer
+    -- returns: the answer, and what it puts into the buffer
     (λ c.
     let found = c.before.before.before.before in
     let a = found.before.before.args in

@@ -11,10 +11,10 @@ pub bcube_neighbour_spec : {M : Type 1} → statement M
 bcube_neighbour_spec =
     tie.close
     (tie.spec
-    -- shape-in-requires, neighbour-of-requires
+    -- shape_in-shape-requires, neighbour_of-answer-requires
     (λ c κs. search rules)
     (λ c κs. search rules)
-    -- result-word-requires, returns
+    -- result_word-requires, returns
     (λ c κs. number_fits _ _ (neighbour-small _ _ _ _) c.neighbour_of-answer.ensures)
     (λ c.
     let a = c.before.before.before.args in

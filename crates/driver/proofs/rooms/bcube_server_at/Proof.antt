@@ -11,10 +11,10 @@ pub bcube_server_at_spec : {M : Type 1} → statement M
 bcube_server_at_spec =
     tie.close
     (tie.spec
-    -- shape-in-requires, server-at-requires
+    -- shape_in-requires, server_at-answer-requires
     (λ c κs. search rules)
     (λ c κs. search rules)
-    -- result-word-requires, returns
+    -- result_word-requires, returns
     (λ c κs. number_fits _ _ (server-at-small _ _ _ _) c.server_at-answer.ensures)
     (λ c.
     let a = c.before.before.before.args in

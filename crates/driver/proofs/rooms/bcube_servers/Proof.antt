@@ -11,9 +11,9 @@ pub bcube_servers_spec : {M : Type 1} → statement M
 bcube_servers_spec =
     tie.close
     (tie.spec
-    -- shape-in-requires, servers-of-requires
+    -- shape_in-requires, servers_of-answer-requires
     (λ c κs. search rules)
     (λ c κs. search rules)
-    -- result-word-requires, returns
+    -- result_word-requires, returns
     (λ c κs. number_fits _ _ (servers-small _) c.servers_of-answer.ensures)
     (λ c. said number_word servers_answer c.result_word.ensures c.before.servers_of-answer.ensures c.before.before.shape_in.ensures))

@@ -13,11 +13,11 @@ pub bcube_shape_spec : {M : Type 1} → statement M
 bcube_shape_spec =
     tie.close
     (tie.spec
-    -- shape-in-requires, shape-refusal-requires, plain-requires
+    -- shape_in-requires, shape_refusal-number-requires, plain-requires
     (λ c κs. search rules)
     (λ c κs. search rules)
     (λ c κs. search rules)
-    -- result-word-requires, returns
+    -- result_word-requires, returns
     (λ c κs. plain_fits _ (one_le 255 refl (shape-numbers _)) (omega arith) c.before.shape_refusal-number.ensures c.plain.ensures)
     (λ c.
     plain_said shape_refusal c.result_word.ensures c.before.plain.ensures

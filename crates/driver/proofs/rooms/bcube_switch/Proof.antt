@@ -12,10 +12,10 @@ pub bcube_switch_spec : {M : Type 1} → statement M
 bcube_switch_spec =
     tie.close
     (tie.spec
-    -- shape-in-requires, switch-of-requires
+    -- shape_in-shape-requires, switch_of-answer-requires
     (λ c κs. search rules)
     (λ c κs. search rules)
-    -- result-word-requires, returns
+    -- result_word-requires, returns
     (λ c κs. told-fits (λ (x : Switch). x.refusal) (λ (x : Switch). x.number) (switch-small _ _ _) c.switch_of-answer.ensures)
     (λ c.
     let a = c.before.before.before.args in

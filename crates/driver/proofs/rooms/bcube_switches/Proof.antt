@@ -11,10 +11,10 @@ pub bcube_switches_spec : {M : Type 1} → statement M
 bcube_switches_spec =
     tie.close
     (tie.spec
-    -- shape-in-requires, switches-of-requires
+    -- shape_in-requires, switches_of-answer-requires
     (λ c κs. search rules)
     (λ c κs. search rules)
-    -- result-word-requires, returns
+    -- result_word-requires, returns
     (λ c κs. number_fits _ _ (switches-small _ _) c.switches_of-answer.ensures)
     (λ c.
     let a = c.before.before.before.args in

@@ -11,7 +11,7 @@ pub bcube_build_spec : {M : Type 1} → statement M
 bcube_build_spec =
     tie.close
     (tie.spec
-    -- shape-in-requires, build-routes-requires, result-word-requires
+    -- shape_in-shape-requires, build_routes-built-requires, result_word-requires
     (λ c κs. search rules)
     (λ c κs. search rules)
     (λ c κs. build-small _ _ _ _ c.before.before.before.build_routes-built.ensures)

@@ -11,7 +11,7 @@ pub bcube_find_spec : {M : Type 1} → statement M
 bcube_find_spec =
     tie.close
     (tie.spec
-    -- shape-in-requires, find-route-requires, result-word-requires
+    -- shape_in-shape-requires, find_route-found-requires, result_word-requires
     (λ c κs. search rules)
     (λ c κs. search rules)
     (λ c κs. find-small _ c.before.before.find_route-found.ensures)

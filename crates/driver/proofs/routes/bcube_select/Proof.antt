@@ -11,7 +11,7 @@ pub bcube_select_spec : {M : Type 1} → statement M
 bcube_select_spec =
     tie.close
     (tie.spec
-    -- shape-in-requires, select-routes-requires, result-word-requires
+    -- shape_in-shape-requires, select_routes-selected-requires, result_word-requires
     (λ c κs. search rules)
     (λ c κs. search rules)
     (λ c κs. select-small _ c.before.before.before.select_routes-selected.ensures)

@@ -9,7 +9,7 @@ pub at_most_255_spec : {M : Type 1} → statement M
 at_most_255_spec =
     tie.close
     (tie.spec
-    -- returns: the number
+    -- returns-then-x-le255: the number
     (λ c. (held_is _ (omega arith), omega arith))
-    -- returns-2: 255
+    -- returns: 255
     (λ c. (held-most _ (omega arith), lit≤ tt)))

@@ -7,7 +7,7 @@ pub bcube_filled_room_spec : {M : Type 1} → statement M
 bcube_filled_room_spec =
     tie.close
     (tie.spec
-    -- room-of-requires
+    -- room_of-requires
     (λ c κs. search rules)
     -- returns
     (λ c. c.room_of.ensures))

@@ -7,7 +7,7 @@ pub bcube_room_of_spec : {M : Type 1} → statement M
 bcube_room_of_spec =
     tie.close
     (tie.spec
-    -- room-of-requires
+    -- room_of-requires
     (λ c κs. search rules)
     -- returns
     (λ c. c.room_of.ensures))

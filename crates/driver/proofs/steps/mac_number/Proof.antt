@@ -11,7 +11,7 @@ pub mac_number_spec : {M : Type 1} → statement M
 mac_number_spec =
     tie.close
     (tie.spec
-    -- array-read-wide to wide-requires-6, mul-first to mul-last, add-first to add-result: each byte is read and widened, and the sums fit
+    -- bounds-mac-0 to wide-requires-6, overflow_mul-first to overflow_mul-last, overflow_add-first to overflow_add-result: each byte is read and widened, and the sums fit
     (λ c. search rules)
     (λ c κs. search rules)
     (λ c. search rules)

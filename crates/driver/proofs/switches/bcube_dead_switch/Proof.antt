@@ -9,10 +9,10 @@ pub bcube_dead_switch_spec : {M : Type 1} → statement M
 bcube_dead_switch_spec =
     tie.close
     (tie.spec
-    -- shape-in-requires, dead-switch-requires
+    -- shape_in-shape-requires, dead_switch-answer-requires
     (λ c κs. search rules)
     (λ c κs. search rules)
-    -- mul-result-word, add-result-word, add-result-word-2, result-word-requires, returns: one is found
+    -- overflow_mul-answer, overflow_add-answer, overflow_add-answer-then-answer, result_word-requires, returns-then-answer: one is found
     (λ c. search level-fits)
     (λ c. search found-fits)
     (λ c. search number_fits)
@@ -22,7 +22,7 @@ bcube_dead_switch_spec =
     let a = asked.before.before.before.before.args in
     dead_said (λ s. dead_answer s a.table.now a.summary.now)
     c.result_word.ensures c.before.before.before.if-answer.true asked.dead_switch-answer.ensures asked.before.shape_in-shape.ensures)
-    -- result-word-requires-2, returns-2: none is
+    -- result_word-requires-2, returns: none is
     (λ c κs. search none-fits)
     (λ c.
     let asked = c.before.before in

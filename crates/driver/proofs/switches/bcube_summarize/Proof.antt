@@ -10,10 +10,10 @@ pub bcube_summarize_spec : {M : Type 1} → statement M
 bcube_summarize_spec =
     tie.close
     (tie.spec
-    -- shape-in-requires, summarize-requires
+    -- shape_in-shape-requires, summarize-refusal-requires
     (λ c κs. search rules)
     (λ c κs. search rules)
-    -- result-word-requires, same-length, returns
+    -- result_word-requires, shape_of-summary, returns
     (λ c κs. fresh-fits _ _ _ c.before.before.summarize-refusal.ensures.0)
     (λ c. search rules)
     (λ c.

@@ -51,34 +51,34 @@ search_spec =
     decreases-loop-level
     invariant-scan
     decreases-scan
-    -- begin-requires, scan-holds: the tables with the source alone in them
+    -- begin-requires, scan-init: the tables with the source alone in them
     (λ c κs. let r = (room_of _ _ _ _ c.before.before.before.requires).0 in (omega (arith, r.source.below, r.source.valid.small), blank 4096 refl, refl))
     (λ c. search scan_starts)
-    -- mul-here, array-read-here, cast-here: the next server of the queue
+    -- offset_bounds-queue-head, bounds-queue-head, overflow_cast-here: the next server of the queue
     (λ c. omega arith)
     (λ c. omega arith)
     (λ c. omega (arith, here-small c.before.scan.invariant c.scan-test.true))
-    -- add-level, loop-holds, sub-level: its levels
+    -- overflow_add-level, loop-level-init, overflow_sub-level: its levels
     (λ c. omega arith)
     (λ c. search levels-start)
     (λ c. omega arith)
-    -- to-scan-requires, loop2-holds: the servers at its switch of a level
+    -- to_scan-side-requires, loop-v-init: the servers at its switch of a level
     (λ c κs. let h = c.before.before.loop-level.invariant in (here-link h c.before.loop-level-test.true, h.swept.long))
     (λ c. search values_start)
-    -- loop-less, loop-again: the level is done
+    -- loop-level-smaller, loop-level-preserved: the level is done
     (λ c. omega arith)
     (λ c. search level_ends)
-    -- mul-marks, add-marks, array-write-marks, mul-if1, array-read-if1: one server at the switch
+    -- overflow_mul-marks, overflow_add-marks, bounds-marks-w, offset_bounds-back-w, bounds-back-w: one server at the switch
     (λ c. let h = near c.before.loop-v.invariant c.loop-v-test.true in omega (arith, h.0, h.2))
     (λ c. let h = near c.before.loop-v.invariant c.loop-v-test.true in omega (arith, h.0, h.2))
     (λ c. let h = near c.before.loop-v.invariant c.loop-v-test.true in omega (arith, h.3))
     (λ c. let h = near c.before.loop-v.invariant c.loop-v-test.true in omega (arith, h.2))
     (λ c. let h = near c.before.loop-v.invariant c.loop-v-test.true in omega (arith, h.2))
-    -- visit-requires, mul-if2, array-read-if2: where it is not found yet
+    -- visit-tail-requires, offset_bounds-back-destination, bounds-back-destination: where it is not found yet
     (λ c κs. to_try c.before.before.before.before.loop-v.invariant c.before.before.before.loop-v-test.true c.before.before.if-back-w.true)
     (λ c. omega arith)
     (λ c. omega arith)
-    -- add-w, add-v, loop2-less, loop2-again: the next one
+    -- overflow_add-w, overflow_step-v, loop-v-smaller, loop-v-preserved: the next one
     (λ c. let h = near c.before.before.before.loop-v.invariant c.before.before.loop-v-test.true in omega (arith, h.2, h.4))
     (λ c. omega arith)
     (λ c. omega arith)
@@ -87,15 +87,15 @@ search_spec =
     (λ w. rw (w.back-is, w.queue-is, w.tail-is) (value-tried c.before.before.before.loop-v.invariant c.before.before.loop-v-test.true w.visit-tail.ensures))
     (λ w. rw (w.back-is, w.queue-is, w.tail-is) (value_seen c.before.before.before.loop-v.invariant c.before.before.loop-v-test.true w.if-back-w.false))
     c.before.if-back-w.branch-raw)
-    -- add-head, scan-less, scan-again: the next server of the queue
+    -- overflow_add-head, scan-smaller, scan-preserved: the next server of the queue
     (λ c. omega arith)
     (λ c. omega arith)
     (λ c. levels-end c.before.loop-level.invariant (omega arith))
-    -- mul-if3, array-read-if3, no-route-requires, returns: the destination is not found
+    -- offset_bounds-back-destination-2, bounds-back-destination-2, no_route-requires, returns-then-back-destination-2: the destination is not found
     (λ c. omega arith)
     (λ c. omega arith)
     (λ c κs. search rules)
     (λ c. let e = ended c.before.before in search none_found)
-    -- retrace-requires, returns-2: it is found
+    -- retrace-requires, returns: it is found
     (λ c κs. let e = ended c.before.before.before in search reached)
     (λ c. let e = ended c.before.before.before.before in search found-answer))

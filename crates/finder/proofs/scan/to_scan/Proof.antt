@@ -9,14 +9,14 @@ pub to_scan_spec : {M : Type 1} → statement M
 to_scan_spec =
     tie.close
     (tie.spec
-    -- mul-if1, add-if1, element-copy-out-if1: the mark is read
+    -- overflow_mul-server, overflow_add-server, bounds-marks-server: the mark is read
     (λ c. omega (arith, mark-inside c.before.requires.0))
     (λ c. omega (arith, mark-inside c.before.requires.0))
     (λ c. omega (arith, mark-inside c.before.requires.0))
-    -- is-live-requires, side-of-requires
+    -- is_live-requires, side_of-requires
     (λ c κs. search rules)
     (λ c κs. search rules)
-    -- returns: all servers; returns-2: the link is failed; returns-3: the switch has been scanned
+    -- returns-then-is_live: all servers; returns-else-is_live: the link is failed; returns-else-marks-server-eq0: the switch has been scanned
     (λ c. search sided_live)
     (λ c. search sided_dead)
     (λ c. search sided_marked))

@@ -9,9 +9,9 @@ pub visit_spec : {M : Type 1} → statement M
 visit_spec =
     tie.close
     (tie.spec
-    -- is-live-requires
+    -- is_live-requires
     (λ c κs. search rules)
-    -- mul-back, sub-back, mul-back-2, add-back, add-back-2, cast-back, mul-back-3, element-write-back: the key
+    -- overflow_mul-back, overflow_sub-back, overflow_mul-back-then-is_live, overflow_add-back, overflow_add-back-then-is_live, overflow_cast-back, offset_bounds-back-w, bounds-back-w: the key
     (λ c. search rules)
     (λ c. search rules)
     (λ c. search rules)
@@ -20,11 +20,11 @@ visit_spec =
     (λ c. search rules)
     (λ c. search rules)
     (λ c. search rules)
-    -- cast-queue, mul-queue, element-write-queue, add-result: the queue has room
+    -- overflow_cast-queue, offset_bounds-queue-tail, bounds-queue-tail, overflow_add-result: the queue has room
     (λ c. search rules)
     (λ c. search rules)
     (λ c. search vacant)
     (λ c. search rules)
-    -- returns: one server more; returns-2: the link is failed
+    -- returns-then-is_live: one server more; returns: the link is failed
     (λ c. search tried-new)
     (λ c. search tried_shut))

@@ -23,29 +23,29 @@ retrace_spec =
     (tie.spec
     invariant-loop-at
     decreases-loop-at
-    -- loop-holds
+    -- loop-at-init
     (λ c. tracing_starts 8 refl)
-    -- no-route-requires, returns: a ninth hop
+    -- no_route-requires, returns-then-hops-eq-MOST_HOPS: a ninth hop
     (λ c κs. search rules)
     (λ c. search tracing_over)
-    -- mul-key, element-copy-out-key: the key of the server
+    -- offset_bounds-back-at, bounds-back-at: the key of the server
     (λ c. omega (arith, reads_in c.before))
     (λ c. omega (arith, reads_in c.before.before))
-    -- cast-key, sub-front, mul-front, add-front, cast-front, front-requires: the byte that it holds
+    -- overflow_cast-key, overflow_sub-k, overflow_mul-k, overflow_add-k, overflow_cast-k, front-next-requires: the byte that it holds
     (λ c. omega (arith, reads_in c.before.before.before))
     (λ c. omega (arith, reads_in c.before.before.before))
     (λ c. omega (arith, reads_in c.before.before.before))
     (λ c. omega (arith, reads_in c.before.before.before))
     (λ c. omega (arith, reads_in c.before.before.before))
     (λ c κs. search rules)
-    -- mul-at, element-copy-out-at, cast-at: the server before
+    -- offset_bounds-queue-key, bounds-queue-key, overflow_cast-at: the server before
     (λ c. omega (arith, reads_in c.before.before.before.before))
     (λ c. omega (arith, reads_in c.before.before.before.before.before))
     (λ c. omega (arith, reads_in c.before.before.before.before.before.before))
-    -- add-hops, loop-less, loop-again
+    -- overflow_add-hops, loop-at-smaller, loop-at-preserved
     (λ c. omega arith)
     (λ c. omega arith)
     (λ c. search tracing_more)
-    -- none-requires, returns-2: the whole way
+    -- none-requires, returns: the whole way
     (λ c κs. search rules)
     (λ c. search tracing_ends))

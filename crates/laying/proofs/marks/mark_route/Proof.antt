@@ -8,14 +8,14 @@ pub mark_route_spec : {M : Type 1} → statement M
 mark_route_spec =
     tie.close
     (tie.spec
-    -- sub-last, sub-mark-servers, part-mark-servers-start, part-mark-servers-end: the middle servers
+    -- overflow_sub-last, slice_bounds-mark_servers-count, slice_bounds-mark_servers-start, slice_bounds-mark_servers-end: the middle servers
     (λ c. search rules)
     (λ c. search rules)
     (λ c. search rules)
     (λ c. search rules)
-    -- mark-servers-requires, mark-switches-requires
+    -- mark_servers-requires, mark_switches-requires
     (λ c κs. let p = c.before.before.before.before.requires in (middle-servers p.0, p.1))
     (λ c κs. search rules)
-    -- same-length, returns
+    -- shape_of-copy, returns
     (λ c. search rules)
     (λ c. search route-marks))

@@ -19,22 +19,22 @@ mark_servers_spec =
     (tie.spec
     invariant-loop-i
     decreases-loop-i
-    -- loop-holds
+    -- loop-i-init
     (λ c. search among-start)
-    -- mul-mark-server, shared-slice-read-mark-server, mark-server-requires: the next server
+    -- offset_bounds-servers-i, bounds-servers-i, mark_server-requires: the next server
     (λ c. omega arith)
     (λ c. omega arith)
     (λ c κs.
     let i = c.before.before.before in
     let servers = i.before.before.before.requires.0 in
     (servers i.loop-i.i (omega arith), i.loop-i.invariant.marks.table))
-    -- add-i, loop-less, loop-again
+    -- overflow_add-i, loop-i-smaller, loop-i-preserved
     (λ c. omega arith)
     (λ c. omega arith)
     (λ c.
     let marked = c.before.before in
     let i = marked.before.before.before.before.loop-i in
     among-step i.invariant (omega arith) _ refl marked.mark_server.ensures)
-    -- same-length, returns
+    -- shape_of-copy, returns
     (λ c. omega arith)
     (λ c. among-done c.before.loop-i.invariant (omega arith)))

@@ -18,10 +18,10 @@ mark_switch_spec =
     (tie.spec
     invariant-loop-value
     decreases-loop-value
-    -- side-of-requires, loop-holds: the servers at the switch
+    -- side_of-side-requires, loop-value-init: the servers at the switch
     (λ c κs. search rules)
     (λ c. side_start)
-    -- mark-requires, add-other, add-_value: one of them
+    -- mark-requires, overflow_add-other, overflow_step-value: one of them
     (λ c κs. search rules)
     (λ c.
     let marked = c.before.before in
@@ -30,9 +30,9 @@ mark_switch_spec =
     let n = side_near made.before.before.requires.0 made.side_of-side.ensures i.before.loop-value.invariant i.loop-value-test.true in
     omega arith)
     (λ c. omega arith)
-    -- loop-less, loop-again
+    -- loop-value-smaller, loop-value-preserved
     (λ c. omega arith)
     (λ c. search side_step)
-    -- same-length, returns
+    -- shape_of-copy, returns
     (λ c. omega arith)
     (λ c. let p = c.before.before.before.before.requires in side_done p.0 c.before.before.side_of-side.ensures c.before.loop-value.invariant p.1 (omega arith)))

@@ -19,22 +19,22 @@ mark_switches_spec =
     (tie.spec
     invariant-loop-i
     decreases-loop-i
-    -- loop-holds, add-loop
+    -- loop-i-init, overflow_add-i
     (λ c. (omega arith, search among-start))
     (λ c. omega arith)
-    -- mul-from, shared-slice-read-from: the server of a hop
+    -- offset_bounds-servers-i, bounds-servers-i: the server of a hop
     (λ c. omega arith)
     (λ c. omega arith)
-    -- add-level-between, mul-level-between, shared-slice-read-level-between, level-between-requires: its level
+    -- overflow_add-i-in-loop-i, offset_bounds-servers-i-in-loop-i, bounds-servers-i-in-loop-i, level_between-hop-requires: its level
     (λ c. omega arith)
     (λ c. omega arith)
     (λ c. omega arith)
     (λ c κs. search rules)
-    -- mark-switch-requires
+    -- mark_switch-requires
     (λ c κs.
     let i = c.before.before.before.before in
     (search hop-link, i.before.loop-i.invariant.1.marks.table))
-    -- add-i, loop-less, loop-again
+    -- overflow_add-i-in-loop-i-2, loop-i-smaller, loop-i-preserved
     (λ c. omega arith)
     (λ c. omega arith)
     (λ c.
@@ -42,6 +42,6 @@ mark_switches_spec =
     let i = h.before.before.before in
     let route = i.before.before.before.before.requires.0 in
     (omega arith, switches-step route i.before.loop-i.invariant.1 i.loop-i-test.true _ h.level_between-hop.ensures c.before.before.mark_switch.ensures))
-    -- same-length, returns
+    -- shape_of-copy, returns
     (λ c. omega arith)
     (λ c. switches-done _ c.before.loop-i.invariant.1 (omega arith)))

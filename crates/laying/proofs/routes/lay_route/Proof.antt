@@ -10,20 +10,20 @@ pub lay_route_spec : {M : Type 1} → statement M
 lay_route_spec =
     tie.close
     (tie.spec
-    -- room-refusal-requires, plain-requires, same-length, returns: 1, 2, 26, 3 to 6
+    -- room_refusal-number-requires, plain-requires, shape_of-table-then-number-ne0, returns-then-number-ne0: 1, 2, 26, 3 to 6
     (λ c κs. search rules)
     (λ c κs. search rules)
     (λ c. search rules)
     (λ c. search lays_refused)
-    -- read-path-requires, same-length-2, returns-2: what reading refuses
+    -- read_path-reading-requires, shape_of-table-then-refusal-ne0, returns-then-refusal-ne0: what reading refuses
     (λ c κs. search rules)
     (λ c. search rules)
     (λ c. search lays_unread)
-    -- array-share-prefix-servers, slice-aggregate-mark-route, mark-route-requires: the route is marked
+    -- slice_bounds-servers-end, slice_bounds-mark_route-end, mark_route-requires: the route is marked
     (λ c. search (read-inside))
     (λ c. sym (length-take-le _ _ (search read-inside)))
     (λ c κs. (search read-route, search room-table))
-    -- none-requires, same-length-3, returns-3
+    -- none-requires, shape_of-table, returns
     (λ c κs. search rules)
     (λ c. search rules)
     (λ c. search lays_done))

@@ -11,9 +11,9 @@ unfolding table_server_refusal
 table_server_refusal_spec =
     tie.close
     (tie.spec
-    -- server-refusal-requires, returns
+    -- server_refusal-r-requires, returns-then-r-ne0
     (λ c κs. search rules)
     (λ c. search chain_stops)
-    -- own-refusal-requires, returns-2
+    -- own_refusal-requires, returns
     (λ c κs. search server-shape)
     (λ c. search chain_goes))

@@ -8,22 +8,22 @@ pub parts_of_spec : {M : Type 1} → statement M
 parts_of_spec =
     tie.close
     (tie.spec
-    -- shape-refusal-requires, plain-requires, no-parts-requires, returns: 1, 2, 26, 3
+    -- shape_refusal-number-requires, plain-requires, no_parts-requires, returns-then-number-ne0: 1, 2, 26, 3
     (λ c κs. search rules)
     (λ c κs. search rules)
     (λ c κs. search rules)
     (λ c. search parts_shape)
-    -- level-of-requires, at-requires, no-parts-requires-2, returns-2: 8
+    -- level_of-level-requires, at-requires, no_parts-requires-then-shape-level, returns-then-shape-level: 8
     (λ c κs. search rules)
     (λ c κs. search rules)
     (λ c κs. search rules)
     (λ c. search parts_level)
-    -- value-of-requires, digit-bound-requires, at-requires-2, no-parts-requires-3, returns-3: 9
+    -- value_of-value-requires, digit_bound-requires, at-requires-then-digit_bound-value, no_parts-requires-then-digit_bound-value, returns-then-digit_bound-value: 9
     (λ c κs. search rules)
     (λ c κs. search rules)
     (λ c κs. search rules)
     (λ c κs. search rules)
     (λ c. search parts_value)
-    -- none-requires, returns-4
+    -- none-requires, returns
     (λ c κs. search rules)
     (λ c. search parts_given))

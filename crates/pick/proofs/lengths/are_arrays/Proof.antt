@@ -8,9 +8,9 @@ pub are_arrays_spec : {M : Type 1} → statement M
 are_arrays_spec =
     tie.close
     (tie.spec
-    -- returns: no whole arrays
+    -- returns-then-bytes-ne0: no whole arrays
     (λ c. search fits_not)
-    -- add-result, mul-result, returns-2: at most k + 1 of them, or more
+    -- overflow_add-result, overflow_mul-result, returns: at most k + 1 of them, or more
     (λ c. search rules)
     (λ c. search rules)
     (λ c. search fits_by))

@@ -12,13 +12,13 @@ unfolding lists_refusal
 lists_refusal_spec =
     tie.close
     (tie.spec
-    -- room-refusal-requires, returns: 1, 2, 26, 3 to 6
+    -- room_refusal-r-requires, returns-then-r-ne0: 1, 2, 26, 3 to 6
     (λ c κs. search rules)
     (λ c. search chain_stops)
-    -- are-arrays-requires, are-arrays-requires-2: the two lists
+    -- are_arrays-requires, are_arrays-requires-then-are_arrays: the two lists
     (λ c κs. search room-levels)
     (λ c κs. search room-levels)
-    -- returns-2: both fit; returns-3, returns-4: the kept list does not, or the fresh one, 7
+    -- returns-then-are_arrays-2: both fit; returns-else-are_arrays-2, returns-else-are_arrays: the kept list does not, or the fresh one, 7
     (λ c. search (chain_goes, both_fit))
     (λ c. search (chain_goes, second_unfit))
     (λ c. search (chain_goes, first_unfit)))

@@ -19,20 +19,20 @@ first_usable_spec =
     (tie.spec
     invariant-loop-i
     decreases-loop-i
-    -- loop-holds
+    -- loop-i-init
     (λ c. search seeking_all)
-    -- mul-at, add-end, sub-walk, part-walk-start, part-walk-end, walk-requires: the eight bytes of an array
+    -- overflow_mul-at, overflow_add-end, slice_bounds-walk-count, slice_bounds-walk-start, slice_bounds-walk-end, walk-walked-requires: the eight bytes of an array
     (λ c. omega arith)
     (λ c. omega arith)
     (λ c. omega arith)
     (λ c. omega arith)
     (λ c. omega arith)
     (λ c κs. search rules)
-    -- returns: it is usable
+    -- returns-then-refusal-eq0: it is usable
     (λ c. search (seeking_found, arith))
-    -- add-i, loop-less, loop-again: it is not
+    -- overflow_add-i, loop-i-smaller, loop-i-preserved: it is not
     (λ c. omega arith)
     (λ c. omega arith)
     (λ c. search (seeking_goes, arith))
-    -- returns-2: none is
+    -- returns: none is
     (λ c. search (seeking_ends, arith)))

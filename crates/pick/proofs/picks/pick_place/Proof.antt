@@ -10,21 +10,21 @@ pub pick_place_spec : {M : Type 1} → statement M
 pick_place_spec =
     tie.close
     (tie.spec
-    -- lists-refusal-requires
+    -- lists_refusal-r-requires
     (λ c κs. search rules)
-    -- no-place-requires, returns: 1, 2, 26, 3 to 7
+    -- no_place-requires, returns-then-r-ne0: 1, 2, 26, 3 to 7
     (λ c κs. search rules)
     (λ c. search stands-refused)
-    -- first-usable-requires, add-a-place, a-place-requires, returns-2: in the fresh list
+    -- first_usable-i-requires, overflow_add-i, a_place-requires, returns-then-i-fresh: in the fresh list
     (λ c κs. search lists_room)
     (λ c. omega arith)
     (λ c κs. search rules)
     (λ c. search stands-fresh)
-    -- first-usable-requires-2, add-a-place-2, a-place-requires-2, returns-3: in the kept list
+    -- first_usable-j-requires, overflow_add-j, a_place-requires-then-j-kept, returns-then-j-kept: in the kept list
     (λ c κs. search lists_room)
     (λ c. omega arith)
     (λ c κs. search rules)
     (λ c. search stands-kept)
-    -- no-place-requires-2, returns-4: 16
+    -- no_place-requires-2, returns: 16
     (λ c κs. search rules)
     (λ c. search stands-nowhere))

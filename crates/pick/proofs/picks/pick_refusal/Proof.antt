@@ -8,6 +8,6 @@ pub pick_refusal_spec : {M : Type 1} → statement M
 pick_refusal_spec =
     tie.close
     (tie.spec
-    -- pick-place-requires, returns
+    -- pick_place-place-requires, returns
     (λ c κs. search rules)
     (λ c. search place-says))

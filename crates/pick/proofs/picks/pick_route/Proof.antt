@@ -26,16 +26,16 @@ pub pick_route_spec : {M : Type 1} → statement M
 pick_route_spec =
     tie.close
     (tie.spec
-    -- pick-place-requires
+    -- pick_place-place-requires
     (λ c κs. search rules)
-    -- mul-end, sub-result, sub-result-2, part-result-start, part-result-end, returns: in the fresh list
+    -- overflow_mul-end, overflow_sub-result, slice_bounds-result-count, slice_bounds-result-start, slice_bounds-result-end, returns-then-place-eq-FRESH: in the fresh list
     (λ c. let h = fresh c in omega arith)
     (λ c. let h = fresh c in omega arith)
     (λ c. let h = fresh c in omega arith)
     (λ c. let h = fresh c in omega arith)
     (λ c. let h = fresh c in omega arith)
     (λ c. part_fresh _ _ _ _ _ _ _ c.before.before.before.before.pick_place-place.ensures _ _ c.before.before.if-place-eq-FRESH.true)
-    -- mul-end-2, sub-result-3, sub-result-4, part-result-start-2, part-result-end-2, returns-2: in the kept list
+    -- overflow_mul-end-then-place-eq-KEPT, overflow_sub-result-then-place-eq-KEPT, slice_bounds-result-count-then-place-eq-KEPT, slice_bounds-result-start-then-place-eq-KEPT, slice_bounds-result-end-then-place-eq-KEPT, returns-then-place-eq-KEPT: in the kept list
     (λ c. let h = kept c in omega (arith, c.before.before.before.before.before.before.before.before.before.well_formed.1.1.1.1.1.0))
     (λ c. let h = kept c in omega arith)
     (λ c. let h = kept c in omega arith)
@@ -44,7 +44,7 @@ pick_route_spec =
     (λ c.
     let first = c.before.before.before.before in
     part_kept _ _ _ _ _ _ _ first.before.before.pick_place-place.ensures _ _ c.before.before.if-place-eq-KEPT.true)
-    -- sub-result-5, part-result-start-3, part-result-end-3, returns-3: in neither
+    -- slice_bounds-result-count-2, slice_bounds-result-start-2, slice_bounds-result-end-2, returns: in neither
     (λ c. search rules)
     (λ c. search rules)
     (λ c. search rules)

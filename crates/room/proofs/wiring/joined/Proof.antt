@@ -10,14 +10,14 @@ pub joined_spec : {M : Type 1} → statement M
 joined_spec =
     tie.close
     (tie.spec
-    -- power-requires
+    -- power-weight-requires
     (λ c κs. search rules)
-    -- div-above
+    -- nonzero_div-above
     (λ c. let h = port_of _ _ _ _ c.before.requires in weight_pos h.valid _ _ (port-power h _ c.power-weight.ensures))
-    -- mul-upper, add-upper
+    -- overflow_mul-upper, overflow_add-upper
     (λ c. let q = port_of _ _ _ _ c.before.before.requires in let h = port_sums q _ (port-power q _ c.before.power-weight.ensures) in omega (arith, h.above))
     (λ c. let q = port_of _ _ _ _ c.before.before.requires in let h = port_sums q _ (port-power q _ c.before.power-weight.ensures) in omega (arith, h.upper))
-    -- rem-result, mul-result, add-result
+    -- nonzero_rem-result, overflow_mul-result, overflow_add-result
     (λ c. let h = port_of _ _ _ _ c.before.before.requires in weight_pos h.valid _ _ (port-power h _ c.before.power-weight.ensures))
     (λ c. let q = port_of _ _ _ _ c.before.before.requires in let h = port_sums q _ (port-power q _ c.before.power-weight.ensures) in omega (arith, h.weighed))
     (λ c. let q = port_of _ _ _ _ c.before.before.requires in let h = port_sums q _ (port-power q _ c.before.power-weight.ensures) in omega (arith, h.whole))

@@ -12,11 +12,11 @@ unfolding server_at_answer
 server_at_spec =
     tie.close
     (tie.spec
-    -- port-refusal-requires, no-number-requires, returns
+    -- port_refusal-refusal-requires, no_number-requires, returns-then-refusal-ne0
     (λ c κs. search rules)
     (λ c κs. search rules)
     (λ c. answer-refused _ _ no_number _ _ c.no_number.ensures c.before.before.port_refusal-refusal.ensures c.before.if-refusal-ne0.true)
-    -- joined-requires, a-number-requires, returns-2
+    -- joined-requires, a_number-requires, returns
     (λ c κs. search rules)
     (λ c κs. search rules)
     (λ c. answer-given _ _ no_number _ _ c.before.before.before.port_refusal-refusal.ensures c.before.before.if-refusal-ne0.false (c.a_number.ensures ∙ ap a_number c.before.joined.ensures)))

@@ -8,10 +8,10 @@ pub switch_count_spec : {M : Type 1} → statement M
 switch_count_spec =
     tie.close
     (tie.spec
-    -- server-count-requires, digit-bound-requires
+    -- server_count-requires, digit_bound-requires
     (λ c κs. search rules)
     (λ c κs. search rules)
-    -- div-result
+    -- nonzero_div-result
     (λ c. search switches-some)
     -- returns
     (λ c. search switches-made))

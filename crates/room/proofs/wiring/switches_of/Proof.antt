@@ -13,11 +13,11 @@ unfolding switches_answer
 switches_of_spec =
     tie.close
     (tie.spec
-    -- level-refusal-requires, no-number-requires, returns
+    -- level_refusal-refusal-requires, no_number-requires, returns-then-refusal-ne0
     (λ c κs. search rules)
     (λ c κs. search rules)
     (λ c. answer-refused _ _ no_number _ _ c.no_number.ensures c.before.before.level_refusal-refusal.ensures c.before.if-refusal-ne0.true)
-    -- switch-count-requires, a-number-requires, returns-2
+    -- switch_count-requires, a_number-requires, returns
     (λ c κs. sym (valid-none (level-of _ _ (sym c.before.level_refusal-refusal.ensures ∙ c.if-refusal-ne0.false)).0))
     (λ c κs. search rules)
     (λ c. answer-given _ _ no_number _ _ c.before.before.before.level_refusal-refusal.ensures c.before.before.if-refusal-ne0.false (c.a_number.ensures ∙ ap a_number c.before.switch_count.ensures)))

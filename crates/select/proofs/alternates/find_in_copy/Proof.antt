@@ -9,14 +9,14 @@ pub find_in_copy_spec : {M : Type 1} → statement M
 find_in_copy_spec =
     tie.close
     (tie.spec
-    -- copy-in-requires, lay-arrays-requires: the settled routes
+    -- copy_in-requires, lay_arrays-requires: the settled routes
     (λ c κs. search rules)
     (λ c κs. omega arith)
-    -- add-end, sub-lay-arrays, lay-arrays-requires-2: the built routes of the lower slots
+    -- overflow_add-end, overflow_sub-end, lay_arrays-requires-2: the built routes of the lower slots
     (λ c. omega arith)
     (λ c. omega arith)
     (λ c κs. omega arith)
-    -- find-route-requires, same-length, returns
+    -- find_route-requires, shape_of-copy, returns
     (λ c κs. search rules)
     (λ c. search rules)
     (λ c.

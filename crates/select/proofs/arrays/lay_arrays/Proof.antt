@@ -20,16 +20,16 @@ lay_arrays_spec =
     (tie.spec
     invariant-loop-j
     decreases-loop-j
-    -- loop-holds
+    -- loop-j-init
     (λ c. (refl, lay_starts))
-    -- array-at-requires, slice-aggregate-lay-route, lay-route-requires
+    -- array_at-array-requires, slice_bounds-lay_route-end, lay_route-requires
     (λ c κs. omega arith)
     (λ c. search rules)
     (λ c κs. search rules)
-    -- add-j, loop-less, loop-again
+    -- overflow_add-j, loop-j-smaller, loop-j-preserved
     (λ c. omega arith)
     (λ c. omega arith)
     (λ c. (omega arith, search lay_more))
-    -- same-length, returns
+    -- shape_of-copy, returns
     (λ c. omega arith)
     (λ c. lay_ends c.before.loop-j.invariant.1 (omega arith)))

@@ -9,16 +9,16 @@ pub select_routes_spec : {M : Type 1} → statement M
 select_routes_spec =
     tie.close
     (tie.spec
-    -- select-refusal-requires, no-selection-requires, returns: 1, 2, 26, 3 to 6
+    -- room_refusal-refusal-requires, no_selection-requires, returns-then-refusal-ne0: 1, 2, 26, 3 to 6
     (λ c κs. search rules)
     (λ c κs. search rules)
     (λ c. search selecting-refused)
-    -- build-routes-requires, settle-slots-requires
+    -- build_routes-building-requires, settle_slots-routes-requires
     (λ c κs. search rules)
     (λ c κs. (search built-answered, sym c.before.before.before.room_refusal-refusal.ensures ∙ c.before.before.if-refusal-ne0.false))
-    -- no-selection-requires-2, returns-2: 16
+    -- no_selection-requires-then-routes-eq0, returns-then-routes-eq0: 16
     (λ c κs. search rules)
     (λ c. search selecting-none)
-    -- none-requires, returns-3
+    -- none-requires, returns
     (λ c κs. search rules)
     (λ c. search selecting-given))

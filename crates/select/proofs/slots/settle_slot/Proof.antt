@@ -9,18 +9,18 @@ pub settle_slot_spec : {M : Type 1} → statement M
 settle_slot_spec =
     tie.close
     (tie.spec
-    -- sub-array-at, array-at-requires, slice-aggregate-walk, walk-requires: the built route, walked
+    -- overflow_sub-shape, array_at-array-requires, slice_bounds-walk-end, walk-walked-requires: the built route, walked
     (λ c. omega arith)
     (λ c κs. omega arith)
     (λ c. search rules)
     (λ c κs. search rules)
-    -- with-route-requires, returns: it is kept
+    -- with_route-requires, returns-then-walked-eq0: it is kept
     (λ c κs. search rules)
     (λ c. search so_kept)
-    -- alternate-requires, returns-2: there is no alternate
+    -- alternate-found-requires, returns-then-found-eq0: there is no alternate
     (λ c κs. search rules)
     (λ c. search so_nothing)
-    -- with-route-requires-2, returns-3: the alternate takes its place
+    -- with_route-requires-2, returns: the alternate takes its place
     (λ c κs. search rules)
     (λ c.
     let found = c.before.before.before.before in

@@ -19,11 +19,11 @@ settle_slots_spec =
     (tie.spec
     invariant-loop-left
     decreases-loop-left
-    -- new-requires, add-left, loop-holds
+    -- new-settled-requires, overflow_add-left, loop-left-init
     (λ c κs. search rules)
     (λ c. let h = (room_of _ _ _ _ c.before.before.before.requires.1).0 in omega arith)
     (λ c. search so_starts)
-    -- sub-left, settle-slot-requires, loop-less, loop-again: one slot
+    -- overflow_sub-left, settle_slot-next-requires, loop-left-smaller, loop-left-preserved: one slot
     (λ c. omega arith)
     (λ c κs. (search rules, search so_at))
     (λ c. omega arith)

@@ -21,29 +21,29 @@ unfolding entry flag_at
 next_hop_spec =
     tie.close
     (tie.spec
-    -- given-refusal-requires, plain-requires, no-hop-requires, returns: what is given is refused
+    -- given_refusal-given-requires, plain-requires, no_hop-requires, returns-then-given-ne0: what is given is refused
     (λ c κs. search rules)
     (λ c κs. search rules)
     (λ c κs. search rules)
     (λ c. search refuses_given)
-    -- none-requires, no-hop-requires-2, returns-2: at the destination
+    -- none-requires, no_hop-requires-then-here-destination, returns-then-here-destination: at the destination
     (λ c κs. search rules)
     (λ c κs. search rules)
     (λ c. search arrives)
-    -- plain-requires-2, no-hop-requires-3, returns-3: past the eighth byte
+    -- plain-requires-then-index-ge-MOST_HOPS, no_hop-requires-then-index-ge-MOST_HOPS, returns-then-index-ge-MOST_HOPS: past the eighth byte
     (λ c κs. search rules)
     (λ c κs. search rules)
     (λ c. search too_far)
-    -- shared-slice-read-byte, cast-hop-of, hop-of-requires: the byte and its hop
+    -- bounds-path-index, overflow_cast-byte, hop_of-hop-requires: the byte and its hop
     (λ c. search byte_inside)
     (λ c. let b = byte_small c in omega arith)
     (λ c κs. search rules)
-    -- add-at, at-requires, no-hop-requires-4, returns-4: the hop is refused
+    -- overflow_add-index, at-requires, no_hop-requires-then-hop-ne0, returns-then-hop-ne0: the hop is refused
     (λ c. search rules)
     (λ c κs. search rules)
     (λ c κs. search rules)
     (λ c. search refuses_hop)
-    -- cast-flag, mul-flag, add-flag, shared-slice-read-if5: the flag of the byte's entry
+    -- overflow_cast-flag, overflow_mul-flag, overflow_add-flag, bounds-table-flag: the flag of the byte's entry
     (λ c. let b = byte_small c.before.before.before in omega arith)
     (λ c. let b = byte_small c.before.before.before in omega arith)
     (λ c. let b = byte_small c.before.before.before in omega arith)
@@ -52,10 +52,10 @@ next_hop_spec =
     let passed = byte.before.before.before in
     let b = byte_small byte in
     entry-inside _ _ _ _ _ _ passed.before.given_refusal-given.ensures passed.if-given-ne0.false _ (omega arith))
-    -- add-at-2, at-requires-2, no-hop-requires-5, returns-5: the neighbour is not available
+    -- overflow_add-index-then-table-flag-ne-AVAILABLE, at-requires-then-table-flag-ne-AVAILABLE, no_hop-requires-then-table-flag-ne-AVAILABLE, returns-then-table-flag-ne-AVAILABLE: the neighbour is not available
     (λ c. search rules)
     (λ c κs. search rules)
     (λ c κs. search rules)
     (λ c. search refuses_closed)
-    -- returns-6: it goes
+    -- returns: it goes
     (λ c. search goes-next))

@@ -21,20 +21,20 @@ unfolding entry port_at
 step_once_spec =
     tie.close
     (tie.spec
-    -- next-hop-requires, stand-requires, returns: it is refused
+    -- next_hop-hop-requires, stand-requires, returns-then-refusal-ne0: it is refused
     (λ c κs. search rules)
     (λ c κs. search rules)
     (λ c. search stays_refused)
-    -- none-requires, stand-requires-2, returns-2: it is delivered
+    -- none-requires, stand-requires-then-here-destination, returns-then-here-destination: it is delivered
     (λ c κs. search rules)
     (λ c κs. search rules)
     (λ c. search stays_delivered)
-    -- shared-slice-read-byte, cast-port, mul-port, add-port: the byte, and the place of its OutPort
+    -- bounds-path-index, overflow_cast-port, overflow_mul-port, overflow_add-port: the byte, and the place of its OutPort
     (λ c. search step-byte)
     (λ c. let b = byte_small c in omega arith)
     (λ c. let b = byte_small c in omega arith)
     (λ c. let b = byte_small c in omega arith)
-    -- none-requires-2, add-t15, mac-at-requires: the next index and the MAC
+    -- none-requires-2, overflow_add-result, mac_at-requires: the next index and the MAC
     (λ c κs. search rules)
     (λ c.
     let away = c.before.before in
@@ -42,7 +42,7 @@ step_once_spec =
     let i = step-index _ _ _ _ _ _ _ found away.before.if-refusal-ne0.false away.if-here-destination.false in
     omega arith)
     (λ c κs. search step-table)
-    -- shared-slice-read-t14, returns-3: the OutPort; it goes
+    -- bounds-table-port, returns: the OutPort; it goes
     (λ c.
     let byte = c.before.before.before in
     let away = byte.before in

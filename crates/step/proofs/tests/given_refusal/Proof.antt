@@ -13,15 +13,15 @@ unfolding given_refusal
 given_refusal_spec =
     tie.close
     (tie.spec
-    -- pair-refusal-requires, returns: the pair is refused
+    -- pair_refusal-r-requires, returns-then-r-ne0: the pair is refused
     (λ c κs. search rules)
     (λ c. chain_stops _ _ _ (chain_stops _ _ _ c.before.pair_refusal-r.ensures c.if-r-ne0.true) c.if-r-ne0.true)
-    -- returns-2: the table is not of 2048 bytes
+    -- returns-then-table-ne-TABLE_BYTES: the table is not of 2048 bytes
     (λ c.
     let pair = c.before in
     chain_stops _ _ _
     (chain_goes _ _ _ _ pair.before.pair_refusal-r.ensures pair.if-r-ne0.false (rw (ne_eqb _ _ c.if-table-ne-TABLE_BYTES.true))) (λ z. omega arith))
-    -- returns-3, returns-4: the path is not of eight bytes, or nothing is refused
+    -- returns-then-path-ne-MOST_HOPS, returns: the path is not of eight bytes, or nothing is refused
     (λ c.
     let pair = c.before.before in
     chain_goes _ _ _ _

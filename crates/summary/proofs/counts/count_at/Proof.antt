@@ -21,10 +21,10 @@ count_at_spec =
     (tie.spec
     invariant-loop-port
     decreases-loop-port
-    -- side-at-requires, loop-holds: the servers at the switch
+    -- side_at-side-requires, loop-port-init: the servers at the switch
     (λ c κs. search rules)
     (λ c. count-start)
-    -- is-failed-requires, add-count, add-server, add--port: one of them
+    -- is_failed-requires, overflow_add-count, overflow_add-server, overflow_step-port: one of them
     (λ c κs. search rules)
     (λ c.
     let i = c.before.before.before in
@@ -37,7 +37,7 @@ count_at_spec =
     let n = counted_near made.before.before.requires made.side_at-side.ensures i.loop-port.invariant c.before.before.before.loop-port-test.true in
     omega arith)
     (λ c. omega arith)
-    -- loop-less, loop-again
+    -- loop-port-smaller, loop-port-preserved
     (λ c. omega arith)
     (λ c.
     let found = c.before.before in

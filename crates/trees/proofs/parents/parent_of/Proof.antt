@@ -15,7 +15,7 @@ parent_of_spec =
     (λ c κs. search rules)
     (λ c κs. search rules)
     (λ c κs. search rules)
-    -- parent-by-requires
+    -- parent_by-requires
     (λ c κs.
     let strides = c.before.before.before.before in
     let own = strides.before.before in

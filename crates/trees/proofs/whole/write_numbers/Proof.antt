@@ -22,7 +22,7 @@ write_numbers_spec =
     (λ c κs. search rules)
     (λ c κs. search rules)
     (λ c. let h = c.before.before.before.before.requires in writing_start _ _ _ h.0 _ h.1)
-    -- number-at-requires
+    -- number_at-requires
     (λ c κs.
     let t = c.before.before.before in
     let strides = t.before.before.before in
@@ -30,11 +30,11 @@ write_numbers_spec =
     -- a place of the numbers
     (λ c. let t = c.before.before.before.before in let w = writing-inside _ _ _ t.before.before.before.before.before.before.requires.0 _ t.before.before.server_count-count.ensures _ _ _ t.before.loop-server.invariant t.loop-server-test.true in omega arith)
     (λ c. let t = c.before.before.before.before in let w = writing-inside _ _ _ t.before.before.before.before.before.before.requires.0 _ t.before.before.server_count-count.ensures _ _ _ t.before.loop-server.invariant t.loop-server-test.true in omega arith)
-    -- digits-after-requires
+    -- digits_after-next-requires, overflow_add-server, loop-server-smaller
     (λ c κs. let t = c.before.before.before.before in writing-below _ _ _ t.before.before.before.before.before.before.requires.0 _ t.before.before.server_count-count.ensures _ _ _ t.before.loop-server.invariant)
     (λ c. search rules)
     (λ c. omega arith)
-    -- loop-again
+    -- loop-server-preserved, returns
     (λ c.
     let t = c.before.before.before.before.before in
     writing_on _ _ _ t.before.before.before.before.before.before.requires.0 _ t.before.before.server_count-count.ensures _ _ _ t.before.loop-server.invariant t.loop-server-test.true _ c.before.number_at.ensures _ c.digits_after-next.ensures)

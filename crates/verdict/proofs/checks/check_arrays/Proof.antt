@@ -18,26 +18,26 @@ check_arrays_spec =
     (tie.spec
     invariant-loop-i
     decreases-loop-i
-    -- none-requires, loop-holds: before the loop
+    -- none-requires, loop-i-init: before the loop
     (λ c κs. search rules)
     (λ c. search walking_none)
-    -- mul-at, add-end, sub-walk, part-walk-start, part-walk-end, walk-requires: the eight bytes of an array
+    -- overflow_mul-at, overflow_add-end, slice_bounds-walk-count, slice_bounds-walk-start, slice_bounds-walk-end, walk-walked-requires: the eight bytes of an array
     (λ c. search rules)
     (λ c. search rules)
     (λ c. search rules)
     (λ c. search rules)
     (λ c. search rules)
     (λ c κs. search rules)
-    -- add-of-route, of-route-requires, returns: it is refused
+    -- overflow_add-i, of_route-requires, returns-then-refusal-ne0: it is refused
     (λ c. search rules)
     (λ c κs. search rules)
     (λ c. search walking_stops)
-    -- mul-walks, array-set-from-walks, add-i, loop-less, loop-again: kept, and on to the next
+    -- offset_bounds-walks-i, bounds-walks-i, overflow_add-i-in-loop-i, loop-i-smaller, loop-i-preserved: kept, and on to the next
     (λ c. search rules)
     (λ c. search rules)
     (λ c. search rules)
     (λ c. search rules)
     (λ c. search walking_goes)
-    -- first-pair-requires, returns-2: every two
+    -- first_pair-requires, returns: every two
     (λ c κs. (search rules, search walking_all))
     (λ c. search walking_ends))

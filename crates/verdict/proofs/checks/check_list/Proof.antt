@@ -10,10 +10,10 @@ unfolding check_answer
 check_list_spec =
     tie.close
     (tie.spec
-    -- list-refusal-requires, plain-requires, returns: 1, 2, 26, 3 to 7
+    -- list_refusal-refusal-requires, plain-requires, returns-then-refusal-ne0: 1, 2, 26, 3 to 7
     (λ c κs. search rules)
     (λ c κs. search rules)
     (λ c. search answer-refused)
-    -- check-arrays-requires, returns-2: what the arrays are refused for
+    -- check_arrays-requires, returns: what the arrays are refused for
     (λ c κs. search rules)
     (λ c. search answer-given))

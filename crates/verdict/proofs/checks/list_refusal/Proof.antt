@@ -12,13 +12,13 @@ unfolding list_refusal
 list_refusal_spec =
     tie.close
     (tie.spec
-    -- room-refusal-requires, returns: 1, 2, 26, 3 to 6
+    -- room_refusal-r-requires, returns-then-r-ne0: 1, 2, 26, 3 to 6
     (λ c κs. search rules)
     (λ c. search chain_stops)
-    -- returns-2, returns-3: no whole arrays, or none at all
+    -- returns-then-bytes-ne0, returns-then-bytes-lt1: no whole arrays, or none at all
     (λ c. search (chain_goes, length_odd))
     (λ c. search (chain_goes, length_none))
-    -- add-if4, mul-if4: the most bytes that the shape allows
+    -- overflow_add-shape, overflow_mul-shape: the most bytes that the shape allows
     (λ c.
     let room = c.before.before.before in
     let h = room-levels _ _ _ _ _ room.before.room_refusal-r.ensures room.if-r-ne0.false in
@@ -27,6 +27,6 @@ list_refusal_spec =
     let room = c.before.before.before in
     let h = room-levels _ _ _ _ _ room.before.room_refusal-r.ensures room.if-r-ne0.false in
     omega arith)
-    -- returns-4, returns-5: more than that, or not
+    -- returns-then-shape-bytes, returns: more than that, or not
     (λ c. search (chain_goes, length_over))
     (λ c. search (chain_goes, length-fits)))

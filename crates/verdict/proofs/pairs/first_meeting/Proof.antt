@@ -22,28 +22,28 @@ first_meeting_spec =
     (tie.spec
     invariant-loop-j
     decreases-loop-j
-    -- mul-one, array-copy-out-one, add-j, loop-holds: the array at i, and those after it
+    -- offset_bounds-walks-i, bounds-walks-i, overflow_add-j, loop-j-init: the array at i, and those after it
     (λ c. omega arith)
     (λ c. omega arith)
     (λ c. omega arith)
     (λ c. (omega arith, omega arith, refl))
-    -- mul-other, array-copy-out-other, meeting-of-requires: the one at j
+    -- offset_bounds-walks-j, bounds-walks-j, meeting_of-meeting-requires: the one at j
     (λ c. omega arith)
     (λ c. omega arith)
     (λ c κs. search (arrived-at, arith))
-    -- add-at, at-requires, add-with-earlier, with-earlier-requires, returns: they meet, 15
+    -- overflow_add-j-then-meeting-ne0, at-refusal-requires, overflow_add-i, with_earlier-requires, returns-then-meeting-ne0: they meet, 15
     (λ c. omega arith)
     (λ c κs. search rules)
     (λ c. omega arith)
     (λ c κs. search rules)
     (λ c. search (meeting-here, arith))
-    -- add-j-2, loop-less, loop-again: they are parallel
+    -- overflow_add-j-in-loop-j, loop-j-smaller, loop-j-preserved: they are parallel
     (λ c. omega arith)
     (λ c. omega arith)
     (λ c.
     let b = c.before.before.before.before.before in
     let given = b.before.before.requires in
     (omega arith, omega arith, meeting_on _ _ _ _ _ b.loop-j.invariant.2 _ c.before.before.meeting_of-meeting.ensures given.2 given.0 c.before.before.before.before.loop-j-test.true c.if-meeting-ne0.false))
-    -- none-requires, returns-2: all are
+    -- none-requires, returns: all are
     (λ c κs. search rules)
     (λ c. search (meeting-end, arith)))

@@ -21,15 +21,15 @@ first_pair_spec =
     (tie.spec
     invariant-loop-i
     decreases-loop-i
-    -- loop-holds, first-meeting-requires
+    -- loop-i-init, first_meeting-met-requires
     (λ c. (omega arith, refl))
     (λ c κs. search rules)
-    -- returns: a pair that meets
+    -- returns-then-met-ne0: a pair that meets
     (λ c. search (pair_here, arith))
-    -- add-i, loop-less, loop-again
+    -- overflow_add-i, loop-i-smaller, loop-i-preserved
     (λ c. omega arith)
     (λ c. omega arith)
     (λ c. (omega arith, search (pair_on, arith)))
-    -- none-requires, returns-2: no pair
+    -- none-requires, returns: no pair
     (λ c κs. search rules)
     (λ c. search (pair_end, arith)))

@@ -17,19 +17,19 @@ meeting_of_spec =
     (tie.spec
     invariant-loop-i
     decreases-loop-i
-    -- sub-hops, sub-other-hops, loop-holds
+    -- overflow_sub-hops, overflow_sub-other_hops, loop-i-init
     (λ c. search rules)
     (λ c. search rules)
     (λ c. search none-met-start)
-    -- met-at-requires: the hop at i
+    -- met_at-place-requires: the hop at i
     (λ c κs. search rules)
     -- its two hops: it meets
     (λ c. search rules)
     (λ c. search rules)
     (λ c. search met-here)
-    -- add-i, loop-less, loop-again
+    -- overflow_add-i, loop-i-smaller, loop-i-preserved
     (λ c. search rules)
     (λ c. search rules)
     (λ c. none-met_on _ _ _ c.before.before.before.loop-i.invariant c.before.before.loop-i-test.true _ c.before.met_at-place.ensures c.if-place-other_hops.false)
-    -- returns-2: none does
+    -- returns: none does
     (λ c. search none-met-end))
