@@ -314,7 +314,7 @@ BCUBE_RESULT bcube_answer bcube_neighbour(bcube_room room, uint64_t server, uint
 
 /* Whether two servers are neighbours: they differ in one digit only. Refuses 1, 2, 26, 3, 4. Value: the level at
  * which they differ, plus 1; 0 where they are no neighbours (a server is not its own).
- * Cost: constant; 192 bytes of stack. */
+ * Cost: constant; 128 bytes of stack. */
 BCUBE_RESULT bcube_answer bcube_between(bcube_room room, uint64_t one, uint64_t other);
 
 /* ---- the failed-link table (of N bytes, as above) */
@@ -329,27 +329,27 @@ BCUBE_RESULT bcube_answer bcube_failed_link(bcube_room room, uint64_t server, ui
 /* Marks a link as failed. Refuses 1, 2, 26, 3, 4, 20, 6, 30 (the length of the summary, or the entry of the link's
  * switch). Value: 0. The one bit of the table is set, and the entry of its switch is one more; no other bit and no
  * other entry changes. Marking a marked link changes nothing.
- * Cost: the table, and the servers of one switch; 320 bytes of stack. */
+ * Cost: the table, and the servers of one switch; 192 bytes of stack. */
 BCUBE_RESULT bcube_answer bcube_mark(bcube_room room, uint64_t server, uint64_t level, uint8_t *table, size_t table_len,
                                      uint8_t *summary, size_t summary_len);
 
 /* Clears a link of its mark. Refuses 1, 2, 26, 3, 4, 20, 6, 30 (the length of the summary, or the entry of the link's
  * switch). Value: 0. The one bit of the table is reset, and the entry of its switch is one less; no other bit and no
  * other entry changes. Clearing a link that is not marked changes nothing.
- * Cost: the table, and the servers of one switch; 320 bytes of stack. */
+ * Cost: the table, and the servers of one switch; 192 bytes of stack. */
 BCUBE_RESULT bcube_answer bcube_clear(bcube_room room, uint64_t server, uint64_t level, uint8_t *table,
                                       size_t table_len, uint8_t *summary, size_t summary_len);
 
 /* Marks all links of a server, levels 0 to k, as failed: the server is dead. Refuses 1, 2, 26, 3, 4, 6, 30 (the length
  * of the summary, or the entry of one of the server's k+1 switches). Value: 0. The server's byte of the table and those
  * entries are as after marking each link; no other byte and no other entry changes.
- * Cost: the table, and the servers of k+1 switches; 256 bytes of stack. */
+ * Cost: the table, and the servers of k+1 switches; 192 bytes of stack. */
 BCUBE_RESULT bcube_answer bcube_mark_all(bcube_room room, uint64_t server, uint8_t *table, size_t table_len,
                                          uint8_t *summary, size_t summary_len);
 
 /* Clears all links of a server of their marks. Refuses 1, 2, 26, 3, 4, 6, 30 (as bcube_mark_all). Value: 0. The
  * server's byte of the table and those entries are as after clearing each link; no other byte and no other entry
- * changes. Cost: the table, and the servers of k+1 switches; 256 bytes of stack. */
+ * changes. Cost: the table, and the servers of k+1 switches; 192 bytes of stack. */
 BCUBE_RESULT bcube_answer bcube_clear_all(bcube_room room, uint64_t server, uint8_t *table, size_t table_len,
                                           uint8_t *summary, size_t summary_len);
 
@@ -382,7 +382,7 @@ BCUBE_RESULT bcube_answer bcube_path_byte(bcube_room room, uint64_t level, uint6
 
 /* The level and the value of a path byte. Refuses 1, 2, 26, 3; then, at route 1 and hop 1, 8 (a number above 255
  * too) and 9. Value: both; read it by the two functions below.
- * Cost: constant; 0 bytes of stack. */
+ * Cost: constant; 64 bytes of stack. */
 BCUBE_RESULT bcube_answer bcube_path_byte_parts(bcube_room room, uint64_t byte);
 
 /* The level of those parts; 0 on a refusal. */
@@ -394,7 +394,7 @@ static inline uint32_t bcube_byte_value(bcube_answer parts) { return bcube_value
 /* The hop by a path byte from a server: the server that it leads to, its level, and its old value, the one that it
  * replaces, which is the digit of the server hopped from at that level. It looks at no failed links.
  * Refuses 1, 2, 26, 3, 4; then, at route 1 and hop 1, 8 (a number above 255 too), 9, 10. Value: all three; read it by
- * the four functions below. Cost: constant; 0 bytes of stack. */
+ * the four functions below. Cost: constant; 64 bytes of stack. */
 BCUBE_RESULT bcube_answer bcube_hop_of(bcube_room room, uint64_t server, uint64_t byte);
 
 /* The server to which that hop leads; 0 on a refusal. */
@@ -413,13 +413,13 @@ static inline uint8_t bcube_hop_back(bcube_answer hop) { return (uint8_t)(bcube_
 /* Reads one array as a route from source to destination. It looks at no failed links.
  * Refuses 1, 2, 26, 3, 4 (either end), 5, 7; then hop by hop 8, 9, 10, 28, 29; 13 after the eighth hop; 14 on the
  * arrival. Value: how many servers the route has, its hops + 1. Written: those servers in order, the
- * source first; zeros after the last. Cost: constant; 448 bytes of stack. */
+ * source first; zeros after the last. Cost: constant; 384 bytes of stack. */
 BCUBE_BUFFER(6) BCUBE_RESULT bcube_answer bcube_read(bcube_room room, uint64_t source, uint64_t destination,
                                                      const uint8_t *path, size_t path_len, uint64_t servers[9]);
 
 /* Writes a route as path bytes: the servers in order, the source first, servers_len of them (2 to 9).
  * Refuses 1, 2, 26, 3, 22, 4 (any of them), 5 (the first is the last); then hop by hop 23, 28, 29.
- * Value: 0. Written: the 8 path bytes, zeros after the last hop. Cost: constant; 320 bytes of stack. */
+ * Value: 0. Written: the 8 path bytes, zeros after the last hop. Cost: constant; 256 bytes of stack. */
 BCUBE_BUFFER(4) BCUBE_RESULT bcube_answer bcube_write(bcube_room room, const uint64_t *servers, size_t servers_len,
                                                       uint8_t path[8]);
 
@@ -433,7 +433,7 @@ BCUBE_BUFFER(6) BCUBE_RESULT bcube_answer bcube_reverse(bcube_room room, uint64_
 /* Checks a list of 1 to k+1 routes from source to destination: each reads over live links, and every two are
  * parallel. Refuses 1, 2, 26, 3, 4 (either end), 5, 6, 7 (an empty list too); then route by route, hop by hop 8, 9, 10,
  * 11, 28, 29, with 13 after the eighth hop and 14 on the arrival; then 15, by first, then by second route, which names
- * the two routes and, of each, its hop at their first meeting. Value: 0. Cost: the table; 2176 bytes of stack. */
+ * the two routes and, of each, its hop at their first meeting. Value: 0. Cost: the table; 1856 bytes of stack. */
 BCUBE_RESULT bcube_answer bcube_check(bcube_room room, uint64_t source, uint64_t destination, const uint8_t *table,
                                       size_t table_len, const uint8_t *list, size_t list_len);
 
@@ -441,7 +441,7 @@ BCUBE_RESULT bcube_answer bcube_check(bcube_room room, uint64_t source, uint64_t
 
 /* The built routes of a room in which all links are live: k+1 parallel routes.
  * Refuses 1, 2, 26, 3, 4 (either end), 5. Value: how many arrays are written, k+1. Written: the arrays, that of
- * slot k first; zeros after them. Cost: constant; 576 bytes of stack. */
+ * slot k first; zeros after them. Cost: constant; 448 bytes of stack. */
 BCUBE_BUFFER(4) BCUBE_RESULT bcube_answer bcube_build(bcube_room room, uint64_t source, uint64_t destination,
                                                       uint8_t routes[32]);
 
@@ -449,7 +449,7 @@ BCUBE_BUFFER(4) BCUBE_RESULT bcube_answer bcube_build(bcube_room room, uint64_t 
  * level first, then the lower value. Refuses 1, 2, 26, 3, 4 (either end), 5, 6. Value: its hops; 0 where no
  * route of eight hops or fewer crosses only live links, which is no refusal. Written: its path bytes; zeros
  * where there is none. (The array of a route may be all zeros too: ask the value.)
- * Cost: the table and a search; 41280 bytes of stack. */
+ * Cost: the table and a search; 41216 bytes of stack. */
 BCUBE_BUFFER(6) BCUBE_RESULT bcube_answer bcube_find(bcube_room room, uint64_t source, uint64_t destination,
                                                      const uint8_t *table, size_t table_len, uint8_t path[8]);
 
@@ -460,7 +460,7 @@ BCUBE_BUFFER(6) BCUBE_RESULT bcube_answer bcube_find(bcube_room room, uint64_t s
  * Refuses 1, 2, 26, 3, 4 (either end), 5, 6; and last 16, when no route at all of eight hops or fewer crosses
  * only live links. Value: how many arrays are written, 1 to k+1. Written: the arrays in slot order, closed
  * up; zeros after them.
- * Cost: the table, and a search for each broken route; 45888 bytes of stack. */
+ * Cost: the table, and a search for each broken route; 45824 bytes of stack. */
 BCUBE_BUFFER(6) BCUBE_RESULT bcube_answer bcube_select(bcube_room room, uint64_t source, uint64_t destination,
                                                        const uint8_t *table, size_t table_len, uint8_t routes[32]);
 

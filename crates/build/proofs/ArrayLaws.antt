@@ -1,5 +1,5 @@
 -- The arrays of the built routes, slots k down to 0, and how a program gathers them.
-use Prim.Native.Nat.{ℕ, zero, suc, ◌+◌, ◌-◌, ◌≤◌, ◌<◌}
+use Prim.Native.Nat.{ℕ, zero, suc, ◌-◌, ◌≤◌, ◌<◌}
 use mathlib.Core.Path.{◌≡◌, refl, sym, ap, ap₂, ◌∙◌, subst}
 use mathlib.Core.Logic.{◌≢◌}
 use mathlib.Core.List.{List, [], ◌∷◌, map}
@@ -101,50 +101,37 @@ module _ {s : Shape} {a d : ℕ} (e : Ends s a d) where
       rw (routes-at s a d i hi, routes-at s a d j hj)
       (built-parallel s a d e.source e.destination e.differ (s.k - i) (s.k - j) (omega arith) (omega arith) (λ z. q (omega arith)))
 
--- ---- gathering them, as the program does: place j gets the array of slot k - j
-
--- a set, with the arrays from place j on added
-abbrev with_places : Shape → ℕ → ℕ → RouteSet → ℕ → RouteSet
-with_places s a d r j = gathered r (map (λ i. built_bytes s i a d) (down_from (suc s.k - j)))
+-- ---- gathering them, as the program does, from slot k down
 
 gather_down : (s : Shape) (a d : ℕ) (r : RouteSet) (m : ℕ) (x : List ℕ) → x ≡ built_bytes s m a d → (y : RouteSet) → y ≡ added r x → gathered y (map (λ i. built_bytes s i a d) (down_from m)) ≡ gathered r (map (λ i. built_bytes s i a d) (down_from (suc m)))
 unfolding gathered
 gather_down s a d r m x p y q = ap (λ (z : RouteSet). gathered z (map (λ i. built_bytes s i a d) (down_from m))) (q ∙ ap (added r) p)
 
--- what the program's loop keeps: a set that the arrays from place j on complete
-pub record Gathering (s : Shape) (a d : ℕ) (r : RouteSet) (j : ℕ) : Type 0 where
+-- what the program's loop keeps: a set that the arrays of slots m-1, .. , 0 complete
+pub record Gathering (s : Shape) (a d : ℕ) (r : RouteSet) (m : ℕ) : Type 0 where
   pub ends : Ends s a d
-  pub place : j ≤ suc s.k
-  pub rest : with_places s a d r j ≡ set_of (built_arrays s a d)
+  pub rest : gathered r (map (λ i. built_bytes s i a d) (down_from m)) ≡ set_of (built_arrays s a d)
 
-pub gather_start : (s : Shape) (a d : ℕ) (r : RouteSet) → ends_refusal s a d ≡ 0 → r ≡ empty_set → Gathering s a d r 0
+pub gather_start : (s : Shape) (a d : ℕ) (r : RouteSet) → ends_refusal s a d ≡ 0 → r ≡ empty_set → Gathering s a d r (suc s.k)
 unfolding built_arrays
 gather_start s a d r z p =
     let e = ends_of s a d z in
-    let q : suc s.k - 0 ≡ suc s.k = omega arith in
     record {
       ends = e;
-      place = omega arith;
-      rest = ap₂ (λ (x : RouteSet) (m : ℕ). gathered x (map (λ i. built_bytes s i a d) (down_from m))) p q
+      rest = ap (λ (x : RouteSet). gathered x (map (λ i. built_bytes s i a d) (down_from (suc s.k)))) p
           ∙ gathered_set (map (λ i. built_bytes s i a d) (down_from (suc s.k))) (arrays-eight e)
           (omega (arith, map-long (λ i. built_bytes s i a d) (suc s.k), e.source.valid.levels));
     }
 
-pub gather_next : {s : Shape} {a d : ℕ} {r : RouteSet} {j : ℕ} → Gathering s a d r j → (y : RouteSet) (x : List ℕ) → y ≡ added r x → x ≡ built_bytes s (s.k - j) a d → j ≤ s.k → Gathering s a d y (j + 1)
-gather_next {s} {a} {d} {r} {j} g y x q p h =
-    let e : suc s.k - (j + 1) ≡ s.k - j = omega arith in
-    let f : suc (s.k - j) ≡ suc s.k - j = omega arith in
-    record {
-      ends = g.ends;
-      place = omega arith;
-      rest = ap (λ (m : ℕ). gathered y (map (λ i. built_bytes s i a d) (down_from m))) e
-          ∙ gather_down s a d r (s.k - j) x p y q
-          ∙ ap (λ (m : ℕ). gathered r (map (λ i. built_bytes s i a d) (down_from m))) f
-          ∙ g.rest;
-    }
+pub gather_next : {s : Shape} {a d : ℕ} {r : RouteSet} {m : ℕ} → Gathering s a d r (suc m) → (y : RouteSet) (x : List ℕ) → y ≡ added r x → x ≡ built_bytes s m a d → Gathering s a d y m
+gather_next {s} {a} {d} {r} {m} g y x q p = record { ends = g.ends; rest = gather_down s a d r m x p y q ∙ g.rest }
 
-pub gather_end : {s : Shape} {a d : ℕ} {r : RouteSet} {j : ℕ} → Gathering s a d r j → s.k < j → r ≡ set_of (built_arrays s a d)
+-- from a slot to the next lower one
+pub gather_lower : {s : Shape} {a d : ℕ} {r : RouteSet} {m : ℕ} → Gathering s a d r m → 0 < m → Gathering s a d r (suc (m - 1))
+gather_lower {s} {a} {d} {r} {m} g h = let q : m ≡ suc (m - 1) = omega arith in subst (Gathering s a d r) q g
+
+pub gather_end : {s : Shape} {a d : ℕ} {r : RouteSet} {m : ℕ} → Gathering s a d r m → m ≤ 0 → r ≡ set_of (built_arrays s a d)
 unfolding gathered
-gather_end {s} {a} {d} {r} {j} g h =
-    let e : 0 ≡ suc s.k - j = omega arith in
-    ap (λ (m : ℕ). gathered r (map (λ i. built_bytes s i a d) (down_from m))) e ∙ g.rest
+gather_end {s} {a} {d} {r} {m} g h =
+    let e : 0 ≡ m = omega arith in
+    ap (λ (i : ℕ). gathered r (map (λ i. built_bytes s i a d) (down_from i))) e ∙ g.rest

@@ -9,4 +9,5 @@ pub mod BuiltLaws
 pub mod SetLaws
 pub mod ArrayLaws
 pub mod SlotLaws
+pub mod ToldLaws
 pub mod Unique

@@ -4,12 +4,11 @@ use mathlib.Core.Path.{◌≡◌, refl, sym, ap, ap₂, ◌∙◌}
 use mathlib.Core.Logic.{◌≢◌}
 use mathlib.Core.Bool.{Bool, cond}
 use mathlib.Core.List.{List, [], ◌∷◌, ◌++◌, append_assoc, append-nil}
-use native.Mathlib.Numerals.{add-one}
 use native.Mathlib.Omega.{arith}
 use borrow.Author.Tests.{lt-ltb, le-ltb}
 use native.Mathlib.Decide.{dec_lt}
-use lib.ListN.{length, get_or, set, take, drop, replicate, length-append, length-drop, get_or-append}
-use lib.Seq.{take_at, drop_at, drop-append-add, take_all, length-take-le, get_or-take, get_or-drop, get_or-append-add, ext_get_or, paste, paste-suc}
+use lib.ListN.{length, get_or, take, drop, replicate, length-append, length-drop, get_or-append}
+use lib.Seq.{take_at, drop_at, drop-append-add, take_all, length-take-le, get_or-take, get_or-drop, get_or-append-add, ext_get_or, paste}
 use Rattle.lists.specs.Lists.{filled}
 use Rattle.lists.proofs.ListLaws.{All, all_snoc, length_snoc, drop-zeros}
 use Rattle.build.specs.declared.RouteSet.{RouteSet}
@@ -108,13 +107,10 @@ module _ (r : RouteSet) (route : List ℕ) (long : length r.bytes ≡ 32) (whole
           ∙ ext_get_or 0 (take 8 (drop p b)) (take 8 (drop p r.bytes)) (w ∙ sym (eight p r.bytes (omega arith)))
           (λ i q. let v : i < 8 = omega arith in eight-at p b i v ∙ at y i v ∙ sym (eight-at p r.bytes i v))
 
--- as the program puts it: byte after byte
+-- as the program puts it: the bytes over those that stood there
 pub placed-all : (p : ℕ) (route bytes : List ℕ) (j : ℕ) → length route ≡ 8 → j ≡ 8 → paste bytes p route j ≡ placed p route bytes
 unfolding placed
 placed-all p route bytes j e h = rw h (ap (λ (x : List ℕ). take p bytes ++ x ++ drop (p + 8) bytes) (take_all 8 route (omega arith)))
-
-pub placed-next : (p : ℕ) (route bytes : List ℕ) (j : ℕ) → p + j < length bytes → j < length route → set (paste bytes p route j) (p + j) (get_or route j 0) ≡ paste bytes p route (j + 1)
-placed-next p route bytes j h q = rw add-one (paste-suc bytes p route j 0 h q)
 
 -- ---- one array after another
 

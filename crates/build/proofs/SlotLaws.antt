@@ -21,14 +21,6 @@ use Rattle.build.specs.Built.{next, round, first_in, last_in, correct, route_ove
 
 -- ---- the order
 
-pub next_down : (k l : ℕ) → l ≢ 0 → l - 1 ≡ next k l
-next_down k zero h = absurd (h refl)
-next_down k (suc l) h = omega arith
-
-pub next-round : (k l : ℕ) → l ≡ 0 → k ≡ next k l
-next-round k zero h = refl
-next-round k (suc l) h = let z : ⊥ = omega arith in absurd z
-
 pub next_le : (k l : ℕ) → l ≤ k → next k l ≤ k
 next_le k zero h = omega arith
 next_le k (suc l) h = omega arith
@@ -62,26 +54,26 @@ pub record Correcting (k : ℕ) (x y whole bytes : List ℕ) (hops l m : ℕ) : 
 
 module _ (k : ℕ) (x y whole bytes : List ℕ) (hops l m : ℕ) (f : Correcting k x y whole bytes hops l m) where
   -- the level's digit is right
-  pub skipped : 0 < m → get_or x l 0 ≡ get_or y l 0 → (p : ℕ) → p ≡ next k l → Correcting k x y whole bytes hops p (m - 1)
-  skipped h e p ep =
+  pub skipped : 0 < m → get_or x l 0 ≡ get_or y l 0 → (p : ℕ) → p ≡ next k l → (n : ℕ) → n ≡ m - 1 → Correcting k x y whole bytes hops p n
+  skipped h e p ep n en =
       record {
         level = rw ep (next_le k l f.level);
         room = omega arith;
         long = f.long;
         blank = f.blank;
-        same = rw (ep, fix_skip k x y m l h e) f.same;
+        same = rw (en, ep, fix_skip k x y m l h e) f.same;
       }
 
   -- it is not, and a hop corrects it
-  pub hopped : 0 < m → get_or x l 0 ≢ get_or y l 0 → (b : ℕ) → b ≡ byte_of l (get_or y l 0) → (p : ℕ) → p ≡ next k l → Correcting k x y whole (set bytes hops b) (hops + 1) p (m - 1)
-  hopped h e b eb p ep =
+  pub hopped : 0 < m → get_or x l 0 ≢ get_or y l 0 → (b : ℕ) → b ≡ byte_of l (get_or y l 0) → (p : ℕ) → p ≡ next k l → (n : ℕ) → n ≡ m - 1 → Correcting k x y whole (set bytes hops b) (hops + 1) p n
+  hopped h e b eb p ep n en =
       let q : hops < length bytes = omega (arith, f.long, f.room) in
       record {
         level = rw ep (next_le k l f.level);
         room = omega arith;
         long = length-set bytes hops b ∙ f.long;
         blank = rest_on 8 bytes hops b f.blank;
-        same = rw (ep, taken_on bytes hops b q, append_assoc, eb, ← fix_hop k x y m l h e) f.same;
+        same = rw (en, ep, taken_on bytes hops b q, append_assoc, eb, ← fix_hop k x y m l h e) f.same;
       }
 
   pub ended : m ≤ 0 → bytes ≡ filled 8 whole
@@ -95,10 +87,6 @@ module _ (k : ℕ) (x y whole bytes : List ℕ) (hops l m : ℕ) (f : Correcting
 -- the bytes of route i from digits x to y
 abbrev pub laid : Shape → ℕ → List ℕ → List ℕ → List ℕ
 laid s i x y = filled 8 (bytes_of (route_over eqb 0 (plus_one s) s.k i x y))
-
--- the ends differ in digit i
-pub direct-bytes : (s : Shape) (i : ℕ) (x y : List ℕ) → get_or x i 0 ≢ get_or y i 0 → (r : List ℕ) → r ≡ filled 8 (fixing s.k x y (suc s.k) i) → r ≡ laid s i x y
-direct-bytes s i x y e r h = h ∙ sym (rw (ne_eqb (get_or x i 0) (get_or y i 0) e))
 
 -- they do not: a detour to the value o, by the byte b, then on from level l
 pub detour-bytes : (s : Shape) (i : ℕ) (x y : List ℕ) → get_or x i 0 ≡ get_or y i 0 → (o : ℕ) → o ≡ plus_one s i (get_or x i 0) → (b : ℕ) → b ≡ byte_of i o → (l : ℕ) → l ≡ next s.k i → (r : List ℕ) → r ≡ filled 8 (b ∷ fixing s.k (set x i o) y (suc s.k) l) → r ≡ laid s i x y

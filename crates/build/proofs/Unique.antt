@@ -1,6 +1,7 @@
 -- Each public function's contract determines its answer: whatever meets it on some arguments is the one answer to them.
 use mathlib.Core.Path.{◌∙◌, sym}
 use Rattle.refusals.specs.Determined.{Determined}
+use Rattle.build.proofs.ToldLaws.{building-same}
 use Rattle.build.proofs.RouteSet.new.Reads as new
 use Rattle.build.proofs.RouteSet.new.Kinds as new_kinds
 use Rattle.build.proofs.RouteSet.with_route.Reads as with_route
@@ -15,4 +16,4 @@ pub with_route-unique : Determined 0 with_route_kinds.ps with_route_kinds.r with
 with_route-unique κs a x y s t e f = e ∙ sym f
 
 pub build-routes-unique : Determined 0 build_routes_kinds.ps build_routes_kinds.r build_routes.Post
-build-routes-unique κs a x y s t e f = e ∙ sym f
+build-routes-unique κs a x y s t e f = building-same x y (e ∙ sym f)

@@ -3,7 +3,7 @@ use Rattle.std.specs.Prelude.{ℕ}
 use Rattle.refusals.specs.Refusals.{none, plain, answer}
 use Rattle.room.specs.declared.Shape.{Shape}
 use Rattle.room.specs.Refusals.{ends_refusal}
-use Rattle.build.specs.declared.Building.{Building}
+use Rattle.build.specs.Told.{Building}
 use Rattle.build.specs.declared.RouteSet.{RouteSet}
 use Rattle.build.specs.Built.{built_arrays}
 use Rattle.build.specs.Sets.{empty_set, set_of}

@@ -1,3 +1,4 @@
+pub mod Told
 pub mod Built
 pub mod Sets
 pub mod Answers

@@ -13,7 +13,10 @@ pub(crate) fn places_of(shape: Shape, server: usize) -> [usize; 4]
     requires { Server shape server }
     ensures { result ≡ filled 4 (digits shape server) }
 {
-    digits_of(shape, server).places
+    match digits_of(shape, server) {
+        Ok(places) => places,
+        Err(_) => unreachable!(),
+    }
 }
 
 // The value after a value of a level, and 0 after the last that the level has.

@@ -5,7 +5,6 @@ ghost use Rattle.std.specs.Prelude.{◌≡◌};
 ghost use Rattle.build.specs.Sets.{empty_set, added};
 
 use crate::places::placed_at;
-use refusals::Refusal;
 // routes.rt: all the built routes of two servers
 mod routes;
 // hops.rt: digits, bounds and hops of a room that has been tested
@@ -17,7 +16,8 @@ mod slots;
 
 pub use routes::build_routes;
 
-// Room for four arrays of path bytes, one after another, and how many it holds.
+// Room for four arrays of path bytes, one after another, and how many it holds. A flat array and a count are the rules'
+// own form.
 #[derive(Clone, Copy)]
 pub struct RouteSet {
     pub bytes: [u8; 32],
@@ -52,11 +52,4 @@ impl RouteSet {
         self.count = count + 1;
         self
     }
-}
-
-// The built routes, slots k down to 0, with zeros past them; or a refusal and zeros.
-#[derive(Clone, Copy)]
-pub struct Building {
-    pub refusal: Refusal,
-    pub routes: RouteSet,
 }

@@ -8,10 +8,6 @@ pub(crate) fn placed_at(bytes: [u8; 32], place: usize, route: [u8; 8]) -> [u8; 3
     ensures { result ≡ placed place route bytes }
 {
     let mut all = bytes;
-    let mut j: usize = 0;
-    while j < 8 {
-        all[place + j] = route[j];
-        j += 1;
-    }
+    all[place..place + 8].copy_from_slice(&route);
     all
 }

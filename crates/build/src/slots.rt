@@ -24,15 +24,13 @@ fn corrected(
     let mut bytes = made;
     let mut hops = count;
     let mut level = first;
-    let mut left = k + 1;
-    while 0 < left {
+    for _turn in 0..k + 1 {
         let value = to[level];
         if from[level] != value {
             bytes[hops] = byte_of(level, value);
             hops += 1;
         }
         level = level_after(k, level);
-        left -= 1;
     }
     bytes
 }

@@ -5,8 +5,7 @@ use mathlib.Core.Bool.{Bool, true, false, cond}
 use mathlib.Core.List.{List, [], ◌∷◌}
 use native.Mathlib.Omega.{arith}
 use lib.Dec.{lit<}
-use Rattle.refusals.specs.declared.Refusal.{Refusal}
-use Rattle.refusals.specs.Refusals.{earlier_route, earlier_hop, answer}
+use Rattle.refusals.specs.Refusals.{Refusal, earlier_route, earlier_hop, answer}
 use Rattle.refusals.proofs.NumberLaws.{one_le}
 use Rattle.room.specs.Shapes.{servers_of}
 use Rattle.room.specs.Refusals.{shape_refusal, link_refusal}
@@ -14,15 +13,15 @@ use Rattle.room.proofs.NumberLaws.{shape-numbers}
 use Rattle.room.specs.Answers.{no_number, a_number, between_answer}
 use Rattle.trees.specs.Answers.{tree_answer, tree_left}
 use Rattle.links.specs.Answers.{failed_answer}
-use Rattle.summary.specs.declared.DeadSwitch.{DeadSwitch}
+use Rattle.summary.specs.Told.{DeadSwitch}
 use Rattle.summary.specs.Answers.{link_answer, link_table, link_summary, changed_server, server_answer, server_table, server_summary, dead_answer, fresh_answer, fresh_summary}
 use Rattle.summary.proofs.AnswerLaws.{dead-small, dead-zeros}
 use Rattle.driver.proofs.SummarySmall.{link_fits, server-fits, fresh-fits, dead_with}
-use Rattle.path.specs.declared.Hop.{Hop}
+use Rattle.path.specs.Told.{Hop}
 use Rattle.path.specs.Routes.{byte_of}
 use Rattle.path.specs.Answers.{hop_answer}
 use Rattle.path.proofs.HopLaws.{byte-apart}
-use Rattle.step.specs.declared.Step.{Step}
+use Rattle.step.specs.Told.{Step}
 use Rattle.step.specs.Steps.{step_answer}
 use Rattle.driver.specs.declared.Answer.{Answer}
 use Rattle.driver.specs.Words.{word, refusal_in, Small, left, between_word, asked_word, dead_word}

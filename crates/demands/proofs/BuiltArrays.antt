@@ -22,7 +22,7 @@ use Rattle.room.specs.Refusals.{ends_refusal}
 use Rattle.room.proofs.RefusalLaws.{ends_of}
 use Rattle.path.specs.Routes.{byte_of}
 use Rattle.build.specs.declared.RouteSet.{RouteSet}
-use Rattle.build.specs.declared.Building.{Building}
+use Rattle.build.specs.Told.{Building}
 use Rattle.build.specs.Built.{first_in, last_in, correct, plus_one, built_hops, bytes_of, built_route, built_bytes, built_arrays}
 use Rattle.build.specs.Sets.{array_in, set_of}
 use Rattle.build.specs.Answers.{no_building, a_building, build_answer}

@@ -10,10 +10,10 @@ use native.Mathlib.Nat.{le_refl}
 use lib.ListN.{length, get_or}
 use Rattle.lists.specs.Lists.{is_in, middle}
 use Rattle.lists.proofs.ListLaws.{in_exactly, at_in, turn_at, length_turn, length-middle, middle-at}
-use Rattle.refusals.specs.declared.Refusal.{Refusal}
+use Rattle.refusals.specs.Refusals.{Refusal}
 use Rattle.refusals.proofs.AnswerLaws.{answer-none}
 use Rattle.room.specs.declared.Shape.{Shape}
-use Rattle.room.specs.declared.Number.{Number}
+use Rattle.room.specs.Told.{Number}
 use Rattle.room.specs.Shapes.{bound, Valid, Server, Link}
 use Rattle.room.specs.Addresses.{switch_of, switches_at, Beside, Neighbours}
 use Rattle.room.specs.Answers.{a_number}

@@ -7,8 +7,7 @@ use lib.Dec.{eqb}
 use mathlib.Core.List.{List, [], ◌∷◌, ◌++◌}
 use native.Mathlib.Omega.{arith}
 use lib.ListN.{length}
-use Rattle.refusals.specs.declared.Refusal.{Refusal}
-use Rattle.refusals.specs.Refusals.{earlier_hop, plain, refused_at, with_earlier}
+use Rattle.refusals.specs.Refusals.{Refusal, earlier_hop, plain, refused_at, with_earlier}
 use Rattle.room.specs.declared.Shape.{Shape}
 use Rattle.room.specs.Addresses.{Neighbours}
 use Rattle.links.specs.Table.{failed}

@@ -10,8 +10,7 @@ use lib.Dec.{eqb}
 use lib.ListN.{length, get_or, replicate, length-append, get_or-eq_default}
 use Rattle.lists.specs.Lists.{is_in, in_turn}
 use Rattle.lists.proofs.ListLaws.{length_turn, in_left, in_right}
-use Rattle.refusals.specs.declared.Refusal.{Refusal}
-use Rattle.refusals.specs.Refusals.{none, plain, refused_at, of_route, with_earlier, OneOf, listed}
+use Rattle.refusals.specs.Refusals.{Refusal, none, plain, refused_at, of_route, with_earlier, OneOf, listed}
 use Rattle.room.specs.declared.Shape.{Shape}
 use Rattle.room.specs.Shapes.{servers_of}
 use Rattle.room.specs.Refusals.{shape_refusal, level_refusal, server_refusal, pair_refusal, link_refusal, value_refusal, places_refusal, ends_refusal}
@@ -25,7 +24,7 @@ use Rattle.summary.specs.Counts.{switches_in}
 use Rattle.summary.specs.Refusals.{summary_refusal}
 use Rattle.summary.specs.Answers.{dead_answer}
 use Rattle.summary.proofs.AnswerLaws.{first-refusal}
-use Rattle.path.specs.declared.Hop.{Hop}
+use Rattle.path.specs.Told.{Hop}
 use Rattle.path.specs.Bytes.{made_refusal, byte_answer, parts_refusal, no_parts, some_parts, parts_answer}
 use Rattle.path.specs.Routes.{byte_to, switch_at, switch_to, switches_of, encode, level_of, value_of}
 use Rattle.path.specs.Walks.{Walk, stopped, arrived, walk, hop_to, hop_refusal, fault}
@@ -35,15 +34,15 @@ use Rattle.verdict.specs.Checks.{check_answer}
 use Rattle.build.specs.Sets.{empty_set}
 use Rattle.build.specs.Answers.{build_answer}
 use Rattle.laying.specs.Answers.{Lays}
-use Rattle.finder.specs.declared.Found.{Found}
+use Rattle.finder.specs.Told.{Found}
 use Rattle.finder.specs.Answers.{Finding}
-use Rattle.select.specs.declared.Selection.{Selection}
+use Rattle.select.specs.Told.{Selection}
 use Rattle.select.specs.Selection.{selection, Selecting}
 use Rattle.pick.specs.Picks.{Source, in_fresh, in_kept, nowhere, pick_source, pick_refusal, pick_answer}
 use Rattle.pick.specs.Places.{place_of, place_answer}
 use Rattle.pick.proofs.UsableLaws.{array_long}
 use Rattle.pick.proofs.Promises.{empty_exactly}
-use Rattle.step.specs.declared.Step.{Step}
+use Rattle.step.specs.Told.{Step}
 use Rattle.step.specs.Steps.{step_refusal, with_place, no_step, delivery, forwarded, step_answer}
 use Rattle.demands.specs.Tests.{Refused, Exactly}
 use Rattle.demands.specs.Demand1.{of_a_hop, at-hop, no_arrival, server_again, switch_again, meeting, PartsOf, WalkedOf, ReadingOf, WritingOf, FoundOf, SelectionOf, PlaceOf, StepOf, RefusalOf, HopOf, EveryCall}

@@ -11,8 +11,7 @@ use lib.Seq.{take-take}
 use borrow.Author.Tests.{eq-eqb, ne_eqb, eqb-true}
 use Rattle.lists.specs.Lists.{filled}
 use Rattle.lists.proofs.ListLaws.{in_exactly, at_in, take-filled}
-use Rattle.refusals.specs.declared.Refusal.{Refusal}
-use Rattle.refusals.specs.Refusals.{none, plain}
+use Rattle.refusals.specs.Refusals.{Refusal, none, plain}
 use Rattle.refusals.proofs.AnswerLaws.{answered}
 use Rattle.room.specs.declared.Shape.{Shape}
 use Rattle.room.specs.Shapes.{Server, Link}
@@ -20,15 +19,14 @@ use Rattle.room.specs.Addresses.{with_digit, switch_of}
 use Rattle.room.specs.Refusals.{server_refusal}
 use Rattle.room.proofs.RefusalLaws.{server_of}
 use Rattle.room.proofs.RoomLaws as rooms
-use Rattle.links.specs.declared.Asked.{Asked}
+use Rattle.links.specs.Told.{Asked}
 use Rattle.links.specs.Table.{bit, failed, table_link_refusal}
 use Rattle.links.specs.Answers.{not_asked, asked, failed_answer}
 use Rattle.summary.specs.Answers.{link_answer}
 use Rattle.summary.proofs.RefusalLaws.{counted-link_of}
 use Rattle.summary.proofs.KeptLaws.{link-table_is, link-twice}
 use Rattle.links.proofs.TableLaws as tables
-use Rattle.path.specs.declared.Hop.{Hop}
-use Rattle.path.specs.declared.Reading.{Reading}
+use Rattle.path.specs.Told.{Hop, Reading}
 use Rattle.path.specs.Routes.{byte_of, level_of, switch_to, byte_to}
 use Rattle.path.specs.Walks.{hop_to, hop_refusal}
 use Rattle.path.specs.Answers.{no_hop, hop_by, hop_from, hop_answer}
@@ -36,7 +34,7 @@ use Rattle.path.proofs.HopLaws.{switch_id, hop-exactly, hop-number, hop-made, ho
 use Rattle.path.proofs.CodecLaws as codec
 use Rattle.select.proofs.HeldLaws.{eight-bytes}
 use Rattle.select.proofs.SelectLaws as selected
-use Rattle.step.specs.declared.Step.{Step}
+use Rattle.step.specs.Told.{Step}
 use Rattle.step.specs.Steps.{entry, mac_at, port_at, flag_at, step_refusal, with_place, no_step, delivery, forwarded, step_answer}
 use Rattle.step.proofs.StepLaws.{with_place-number, goes_of}
 use Rattle.demands.specs.Demand2.{BytesExactly, HopSwitches, LeadsTo, HopExactly, HopIs, HopLeaves, AmongExactly, RoutesAnswered, ReadExactly, WriteExactly, ReadThenWrite, WriteThenRead, ReverseThenRead, ReverseTwice, NoRouteExactly, FailedExactly, AskedExactly, LiveExactly, Changes, ChangesOwn, Marking, Clearing, Goes, StepGoes, StepDelivers}

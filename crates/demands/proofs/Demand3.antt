@@ -12,8 +12,7 @@ use lib.ListN.{length, get_or, take, drop, replicate, length-append, get_or-appe
 use lib.Seq.{take_at, get_or-append_seam}
 use Rattle.lists.specs.Lists.{filled, down_from}
 use Rattle.lists.proofs.ListLaws.{take-filled}
-use Rattle.refusals.specs.declared.Refusal.{Refusal}
-use Rattle.refusals.specs.Refusals.{none, plain}
+use Rattle.refusals.specs.Refusals.{Refusal, none, plain}
 use Rattle.refusals.proofs.ChainLaws.{chain_goes, or_else_zero}
 use Rattle.refusals.proofs.AnswerLaws.{answered}
 use Rattle.room.specs.declared.Shape.{Shape}
@@ -22,7 +21,7 @@ use Rattle.room.specs.Refusals.{ends_refusal}
 use Rattle.room.proofs.RefusalLaws.{ends_of, ends_none}
 use Rattle.links.specs.Table.{live, table_refusal, room_refusal}
 use Rattle.links.proofs.TableLaws.{table_of, table_none, zeros-table, failed-zeros}
-use Rattle.path.specs.declared.Reading.{Reading}
+use Rattle.path.specs.Told.{Reading}
 use Rattle.path.specs.Routes.{RouteTo, Parallel, Encodes, encode, level_of}
 use Rattle.path.specs.Walks.{hop_to}
 use Rattle.path.specs.Answers.{read_answer}
@@ -31,7 +30,7 @@ use Rattle.path.proofs.CodecLaws.{encode-long, read-given}
 use Rattle.verdict.specs.Checks.{list_refusal, check_answer}
 use Rattle.verdict.specs.Accepted.{encode_all, Accepted}
 use Rattle.verdict.proofs.AcceptLaws.{accepted_of, of_accepted, encoded_long}
-use Rattle.build.specs.declared.Building.{Building}
+use Rattle.build.specs.Told.{Building}
 use Rattle.build.specs.Built.{built_route, built_bytes, built_arrays}
 use Rattle.build.specs.Sets.{joined, set_of, held}
 use Rattle.build.specs.Answers.{build_answer, no_building, a_building}

@@ -16,9 +16,9 @@ use Rattle.lists.proofs.ListLaws.{both_held, order-long, order-at, order_same}
 use Rattle.refusals.proofs.AnswerLaws.{answer-refused, answer-none, answer-number, answered}
 use Rattle.refusals.specs.Refusals.{answer}
 use Rattle.room.specs.declared.Shape.{Shape}
-use Rattle.room.specs.declared.Number.{Number}
+use Rattle.room.specs.Told.{Number}
 use Rattle.room.specs.Shapes.{shape_of, full_room, servers_of, Server, Link, Ends}
-use Rattle.room.specs.Refusals.{pair_refusal, ends_refusal, link_refusal}
+use Rattle.room.specs.Refusals.{ends_refusal, link_refusal}
 use Rattle.room.specs.Answers.{no_number, a_number, digits_answer}
 use Rattle.room.proofs.RefusalLaws.{pair_none, ends_of, link_of}
 use Rattle.trees.specs.Trees.{parent_of}
@@ -28,15 +28,12 @@ use Rattle.trees.proofs.HopLaws.{parent-server}
 use Rattle.trees.proofs.WholeLaws.{tree-answered}
 use Rattle.path.specs.Answers.{read_answer}
 use Rattle.build.specs.declared.RouteSet.{RouteSet}
-use Rattle.build.specs.declared.Building.{Building}
+use Rattle.build.specs.Told.{Building}
 use Rattle.build.specs.Built.{built_hops, built_bytes, built_arrays}
 use Rattle.build.specs.Sets.{array_in, joined, set_of}
 use Rattle.build.specs.Answers.{no_building, a_building, build_answer}
-use Rattle.desk_line.specs.declared.Word.{Word}
-use Rattle.desk_line.specs.declared.Words.{Words}
-use Rattle.desk_line.specs.declared.TreeQuestion.{TreeQuestion}
 use Rattle.desk_line.specs.Lines.{newline, space, before, after, line_size}
-use Rattle.desk_line.specs.Numbers.{digits_only, value_from, no_word, a_word, word_of, words_of, all_numbers, no_numbers, numbers_by, numbers_of, numbers_in, question_by, question_of, tree_question_by, tree_question_of}
+use Rattle.desk_line.specs.Numbers.{Word, Words, TreeQuestion, digits_only, value_from, no_word, a_word, word_of, words_of, all_numbers, no_numbers, numbers_by, numbers_of, numbers_in, question_by, question_of, tree_question_by, tree_question_of}
 use Rattle.desk_line.specs.Texts.{decimal, input_line, refused_line, route_line}
 use Rattle.desk_line.specs.Answers.{slot_line, routes_text, built_text, desk_text}
 use Rattle.desk_line.specs.TreeLines.{pointed, server_words, parent_words, server_line, lines_of, tree_lines, tree_line, tree_text}
@@ -326,7 +323,7 @@ module _ {s : Shape} {a l x : ℕ} (k : Link s a l) (z : Server s x) where
   unfolding parent_answer
   parent-shown =
       elim (ℕ_discrete a x) [
-        | yes e ↦ let f : 5 ≡ parent_refusal s a l x = source-asked s a l x (pair_refusal s a x) refl (sym (pair_none k.server z)) k.level e in
+        | yes e ↦ let f : 5 ≡ parent_refusal s a l x = source-asked s a l x (pair_none k.server z) k.level e in
             let g = answer-number (λ (y : Number). y.refusal.number) no_number (λ r. refl) (parent_refusal s a l x) (a_number (parent_of s a l x)) refl in
             parent-none s a l x e ∙ sym (rw (eq-eqb (parent_answer s a l x).refusal.number 5 (g ∙ sym f)))
         | no n ↦ let c = child k z n in

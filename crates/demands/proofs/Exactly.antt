@@ -9,42 +9,35 @@ use native.Mathlib.Decide.{ℕ_discrete}
 use lib.Dec.{ltb, eqb}
 use lib.ListN.{length, get_or}
 use borrow.Author.Tests.{eq-eqb, ne_eqb, eqb-true}
-use Rattle.refusals.specs.declared.Refusal.{Refusal}
-use Rattle.refusals.specs.Refusals.{none, plain, refused_at, ◌or_else◌, ◌unless◌, answer}
+use Rattle.refusals.specs.Refusals.{Refusal, none, plain, refused_at, ◌or_else◌, ◌unless◌, answer}
 use Rattle.refusals.proofs.AnswerLaws.{answer-none}
 use Rattle.room.specs.declared.Shape.{Shape}
-use Rattle.room.specs.declared.Number.{Number as Numbered}
-use Rattle.room.specs.declared.Digits.{Digits}
-use Rattle.room.specs.declared.Switch.{Switch}
-use Rattle.room.specs.declared.Between.{Between}
+use Rattle.room.specs.Told.{Number as Numbered, Digits, Switch, Between}
 use Rattle.room.specs.Addresses.{differing}
 use Rattle.room.specs.Refusals.{shape_refusal, level_refusal, server_refusal, pair_refusal, link_refusal, value_refusal, places_refusal, ends_refusal}
 use Rattle.room.specs.Answers.{no_number, no_digits, no_switch, no_between, only_level, servers_answer, bound_answer, digits_answer, digit_answer, address_answer, switch_answer, neighbour_answer, between_answer}
 use Rattle.room.specs.Wiring.{port_refusal, switches_answer, server_at_answer}
-use Rattle.links.specs.declared.Asked.{Asked}
+use Rattle.links.specs.Told.{Asked}
 use Rattle.trees.specs.Answers.{parent_refusal, parent_answer, tree_answer}
 use Rattle.links.specs.Table.{room_table_refusal, table_link_refusal, table_server_refusal, TableOf, room_refusal, room_refusal as layRoom}
 use Rattle.links.specs.Answers.{not_asked, failed_answer}
-use Rattle.summary.specs.declared.DeadSwitch.{DeadSwitch}
+use Rattle.summary.specs.Told.{DeadSwitch}
 use Rattle.summary.specs.Counts.{switches_in}
 use Rattle.summary.specs.Refusals.{counted_link_refusal, counted_server_refusal, summary_refusal, entries_refusal}
 use Rattle.summary.specs.Answers.{link_answer, server_answer, none_dead, dead_answer, fresh_answer}
 use Rattle.summary.proofs.AnswerLaws.{first-refusal}
 use Rattle.path.specs.Routes.{level_of, value_of}
-use Rattle.path.specs.declared.Hop.{Hop}
-use Rattle.path.specs.declared.Parts.{Parts}
+use Rattle.path.specs.Told.{Hop, Parts, Walked, Writing}
 use Rattle.path.specs.Bytes.{made_refusal, byte_answer, parts_refusal, no_parts, some_parts, parts_answer}
-use Rattle.path.specs.declared.Walked.{Walked}
-use Rattle.path.specs.declared.Writing.{Writing}
 use Rattle.path.specs.Walks.{Walk, stopped, arrived, walk, hop_refusal}
 use Rattle.path.specs.Answers.{no_hop, hop_by, hop_from, hop_answer, array_refusal, no_walk, walked, walk_answer, read_answer, no_writing, reversed, reverse_answer}
 use Rattle.path.proofs.CodecLaws.{walk-exactly}
-use Rattle.build.specs.declared.Building.{Building}
+use Rattle.build.specs.Told.{Building}
 use Rattle.build.specs.Answers.{no_building, build_answer}
 use Rattle.laying.specs.Answers.{lay_refusal, Lays}
-use Rattle.finder.specs.declared.Found.{Found}
+use Rattle.finder.specs.Told.{Found}
 use Rattle.finder.specs.Answers.{Finding}
-use Rattle.select.specs.declared.Selection.{Selection}
+use Rattle.select.specs.Told.{Selection}
 use Rattle.select.specs.Selection.{selection, Selecting}
 use Rattle.select.proofs.SlotLaws.{member_at}
 use Rattle.select.proofs.SelectLaws.{gives, none-selected-exactly}

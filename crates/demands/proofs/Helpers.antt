@@ -1,14 +1,20 @@
--- Demand 2, proved: the functions that serve the layers above them.
+-- Reasons and the functions that serve the layers above them, proved.
 use Prim.Native.Nat.{ℕ, ◌*◌, ◌^◌, ◌≤◌, ◌<◌}
 use mathlib.Core.Path.{◌≡◌, refl, sym, ap, ◌∙◌, subst}
 use mathlib.Core.Logic.{◌⊎◌, inl, inr}
-use mathlib.Core.Bool.{Bool}
-use mathlib.Core.List.{List}
+use mathlib.Core.Bool.{Bool, true}
+use mathlib.Core.List.{List, [], ◌∷◌}
 use native.Mathlib.Omega.{arith}
 use native.Mathlib.Decide.{ℕ_discrete, dec_le}
 use native.Mathlib.Nat.{mul-zero}
-use lib.ListN.{length}
+use lib.ListN.{length, get_or}
+use Rattle.lists.specs.Lists.{is_in}
+use Rattle.lists.proofs.ListLaws.{in_exactly, map_at}
 use Rattle.lists.proofs.FirstPlaces.{place-most, place-there, place-before}
+use Rattle.refusals.specs.declared.Reason.{Reason}
+use Rattle.refusals.specs.declared.Reason.TheVariants.{Ports, Levels, Servers, Address, SameEnds, Table, List as Listed, Position, Value as Valued, NoChange, FailedLink, NotArrived, AfterArrival, NotParallel, NoRoute, NeighbourTable, HopIndex, Unavailable, Level, Digit, ServerCount, NotNeighbours, Fill, ServerAgain, SwitchAgain, Summary}
+use Rattle.refusals.specs.Reasons.{number_of}
+use Rattle.refusals.proofs.ReasonLaws.{reason-same, reason-some, told-same, tells-same, refused-same, told_where-same, tells_where-same}
 use Rattle.room.specs.declared.Shape.{Shape}
 use Rattle.room.specs.Shapes.{bound, power_of, server_count, Link, Value}
 use Rattle.room.specs.Sides.{side_of, side_at}
@@ -22,7 +28,62 @@ use Rattle.links.proofs.TableLaws.{changed-in, changed-long, changed-own, change
 use Rattle.links.proofs.LinkLaws.{change-past, change-above, failed-past}
 use Rattle.demands.specs.Demand2.{Sets}
 use Rattle.demands.specs.Calls.{AtPort}
-use Rattle.demands.specs.Helpers.{NoPower, OneLink, ServersAt, ServersOf, EveryHelper}
+use Rattle.demands.specs.Helpers.{taken, EveryReason, NoPower, OneLink, ServersAt, ServersOf, EveryHelper}
+
+-- ---- reasons
+
+-- the reasons, in the order of their numbers
+abbrev reasons : List Reason
+reasons = Ports ∷ Levels ∷ Servers ∷ Address ∷ SameEnds ∷ Table ∷ Listed ∷ Position ∷ Valued ∷ NoChange ∷ FailedLink ∷ NotArrived ∷ AfterArrival ∷ NotParallel ∷ NoRoute ∷ NeighbourTable ∷ HopIndex ∷ Unavailable ∷ Level ∷ Digit ∷ ServerCount ∷ NotNeighbours ∷ Fill ∷ ServerAgain ∷ SwitchAgain ∷ Summary ∷ []
+
+number-taken : (r : Reason) → is_in (number_of r) taken ≡ true
+unfolding is_in
+number-taken Ports = refl
+number-taken Levels = refl
+number-taken Servers = refl
+number-taken Address = refl
+number-taken SameEnds = refl
+number-taken Table = refl
+number-taken Listed = refl
+number-taken Position = refl
+number-taken Valued = refl
+number-taken NoChange = refl
+number-taken FailedLink = refl
+number-taken NotArrived = refl
+number-taken AfterArrival = refl
+number-taken NotParallel = refl
+number-taken NoRoute = refl
+number-taken NeighbourTable = refl
+number-taken HopIndex = refl
+number-taken Unavailable = refl
+number-taken Level = refl
+number-taken Digit = refl
+number-taken ServerCount = refl
+number-taken NotNeighbours = refl
+number-taken Fill = refl
+number-taken ServerAgain = refl
+number-taken SwitchAgain = refl
+number-taken Summary = refl
+
+pub every_reason : EveryReason
+every_reason =
+    record {
+      numbers = λ n. (
+        λ e.
+            let p = (in_exactly n taken).0 e in
+            (get_or reasons p.place Ports, sym (map_at number_of Ports 0 reasons p.place p.inside) ∙ p.there),
+        λ q. subst (λ (m : ℕ). is_in m taken ≡ true) q.1 (number-taken q.0),
+      );
+      one_reason = reason-same;
+      not_zero = reason-some;
+      one_test = told-same;
+      one_answer = λ refused given b. tells-same refused given b.refusal b.value b.refused_back b.not_refused b.value_back;
+      one_refusal = refused-same;
+      one_check = told_where-same;
+      one_placed = λ refused given b. tells_where-same refused given b.refusal b.value b.refused_back b.not_refused b.value_back;
+    }
+
+-- ---- the functions that serve the layers above them
 
 no_power : (n l : ℕ) → NoPower n l → 0 ≡ power_of n l
 no_power n l (inl h) = no_ports n l h

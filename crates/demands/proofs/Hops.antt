@@ -11,8 +11,7 @@ use lib.Seq.{append_snoc, get_or-append-add, get_or-append_seam}
 use borrow.Author.Tests.{eq-eqb, ne_eqb}
 use Rattle.lists.specs.Lists.{in_turn}
 use Rattle.lists.proofs.ListLaws.{length_snoc, snoc_last, snoc_at, turn_snoc, length_turn}
-use Rattle.refusals.specs.declared.Refusal.{Refusal}
-use Rattle.refusals.specs.Refusals.{refused_at, with_earlier}
+use Rattle.refusals.specs.Refusals.{Refusal, refused_at, with_earlier}
 use Rattle.refusals.proofs.AnswerLaws.{answer-none}
 use Rattle.room.specs.declared.Shape.{Shape}
 use Rattle.room.specs.Shapes.{Server, Ends}

@@ -11,7 +11,7 @@ use Rattle.lists.specs.Lists.{is_in, place_in, Once, middle}
 use Rattle.lists.proofs.ListLaws.{length_turn, turn_at, length-middle, middle-at}
 use Rattle.lists.proofs.FirstPlaces.{place-in, place-there, place-once}
 use Rattle.room.specs.declared.Shape.{Shape}
-use Rattle.path.specs.declared.Walked.{Walked}
+use Rattle.path.specs.Told.{Walked}
 use Rattle.path.specs.Routes.{switch_to, switches_of, Parallel}
 use Rattle.path.specs.Walks.{earlier_of}
 use Rattle.path.proofs.RepeatLaws.{earlier-server, earlier-switch, earlier-none}

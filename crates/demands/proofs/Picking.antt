@@ -7,8 +7,7 @@ use mathlib.Core.List.{List, [], ◌∷◌}
 use native.Mathlib.Omega.{arith}
 use lib.Dec.{eqb}
 use lib.ListN.{length}
-use Rattle.refusals.specs.declared.Refusal.{Refusal}
-use Rattle.refusals.specs.Refusals.{none}
+use Rattle.refusals.specs.Refusals.{Refusal, none}
 use Rattle.refusals.proofs.ChainLaws.{or_else_zero}
 use Rattle.room.specs.declared.Shape.{Shape}
 use Rattle.room.specs.Shapes.{Ends}
@@ -63,7 +62,7 @@ none-taken s t a d bs h j p = not_taken s t a d (array_at j bs) (h.each j p)
 module _ (s : Shape) (t : List ℕ) (a d : ℕ) (fs ks : List ℕ) where
   lists_of : lists_refusal s t a d fs ks ≡ 0 → Ends s a d × TableOf s t × (Arrays s fs × Arrays s ks)
   lists_of z =
-      let k = room_of s t a d (lists_room s t a d fs ks (lists_refusal s t a d fs ks) refl z) in
+      let k = room_of s t a d (lists_room s t a d fs ks (sym z)) in
       let h = hold_of (room_tests s t a d then (7, Arrays s fs × Arrays s ks)) (lists_refusal s t a d fs ks) refl (lists_number s t a d fs ks) z in
       (k.0, k.1, (back (room_tests s t a d) ((7, Arrays s fs × Arrays s ks) ∷ []) h).0)
 
@@ -81,7 +80,7 @@ none_picked_exactly s t a d fs ks =
           let l = lists_of s t a d fs ks p.0 in
           (l.0, l.1, l.2, (none-taken s t a d fs p.1.0, none-taken s t a d ks p.1.1)),
       λ p. let l = lists_none s t a d fs ks p.0 p.1 p.2 in
-          let r = lists_room s t a d fs ks (lists_refusal s t a d fs ks) refl l in
+          let r = lists_room s t a d fs ks (sym l) in
           x.1 (l, (none-usable s t a d r fs p.3.0, none-usable s t a d r ks p.3.1)),
     )
 
@@ -93,7 +92,7 @@ picks_first s t a d fs ks z = from (pick_source s t a d fs ks) refl (source_chos
     lists = (or_else_zero (lists_refusal s t a d fs ks) _ z).0
 
     room : room_refusal s t a d ≡ 0
-    room = lists_room s t a d fs ks (lists_refusal s t a d fs ks) refl lists
+    room = lists_room s t a d fs ks (sym lists)
 
     from : (x : Source) → pick_source s t a d fs ks ≡ x → Chosen s t a d fs ks x → ((i : ℕ) × PicksAt s t a d fs ks 1 fs (λ p q. p) i) ⊎ (NoneTaken s t a d fs × ((i : ℕ) × PicksAt s t a d fs ks 2 ks (λ p q. q) i))
     from (in_fresh i) e c =

@@ -10,18 +10,16 @@ use native.Mathlib.Decide.{ℕ_discrete}
 use lib.ListN.{length, get_or, take, drop, length-map}
 use borrow.Author.Tests.{eq-eqb, ne_eqb}
 use Rattle.lists.proofs.ListLaws.{take-filled}
-use Rattle.refusals.specs.declared.Refusal.{Refusal}
-use Rattle.refusals.specs.Refusals.{none, plain, refused_at, of_route, with_earlier}
+use Rattle.refusals.specs.Refusals.{Refusal, none, plain, refused_at, of_route, with_earlier}
 use Rattle.refusals.proofs.AnswerLaws.{answer-none}
 use Rattle.room.specs.declared.Shape.{Shape}
 use Rattle.room.specs.Shapes.{Ends}
 use Rattle.links.specs.Table.{TableOf, room_refusal}
-use Rattle.path.specs.declared.Walked.{Walked}
+use Rattle.path.specs.Told.{Walked}
 use Rattle.path.specs.Routes.{Parallel, Encodes}
-use Rattle.path.specs.Answers.{walk_answer}
+use Rattle.path.specs.Answers.{no_walk, walk_answer}
 use Rattle.path.proofs.CodecLaws.{walk-given, walk-exactly}
 use Rattle.verdict.specs.Checks.{arrays, parallel, met_at, meets_first, meeting, first_stop, first_meeting, first_of, first_pair, list_refusal, walks_of, check_answer}
-use Rattle.verdict.specs.Arrived.{past_end}
 use Rattle.verdict.proofs.AcceptLaws.{walked_of, parallel_of, of_parallel, accepted_of, of_accepted}
 use Rattle.verdict.proofs.ScanLaws.{first_left, first_right}
 use Rattle.pick.specs.Picks.{array_at}
@@ -34,6 +32,10 @@ use Rattle.demands.proofs.Meetings.{meet-first, apart, parallel-exactly, meeting
 use Rattle.demands.proofs.Hops.{walk-answer, walk_reads, reads_walk, stops-walk}
 
 -- ---- walked arrays
+
+-- what stands past the end of a list of them
+abbrev past_end : Walked
+past_end = no_walk none
 
 -- an array read, or the first that is refused
 split_stop : (i : ℕ) (w : Walked) (ws : List Walked) → (first_stop i (w ∷ ws)).number ≡ 0 → (w.refusal.number ≡ 0) × ((first_stop (i + 1) ws).number ≡ 0)

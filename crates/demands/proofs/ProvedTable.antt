@@ -22,7 +22,7 @@ use Rattle.path.specs.Answers.{array_refusal, walk_answer, read_answer, a_writin
 use Rattle.path.proofs.RouteLaws.{read_sound}
 use Rattle.verdict.specs.Checks.{disjoint}
 use Rattle.verdict.proofs.AcceptLaws.{disjoint-apart}
-use Rattle.build.specs.declared.Building.{Building}
+use Rattle.build.specs.Told.{Building}
 use Rattle.build.specs.Built as build
 use Rattle.build.specs.Sets.{joined, set_of, array_in}
 use Rattle.build.specs.Answers.{no_building, a_building, build_answer}

@@ -9,8 +9,7 @@ use lib.Dec.{eqb}
 use borrow.Author.Tests.{eq-eqb, ne_eqb, eqb-true, eqb-false, not-true}
 use Rattle.lists.proofs.ListLaws.{both_held}
 use Rattle.lists.specs.Lists.{is_in}
-use Rattle.refusals.specs.declared.Refusal.{Refusal}
-use Rattle.refusals.specs.Refusals.{none, plain, refused_at, answer, OneOf, nought, listed}
+use Rattle.refusals.specs.Refusals.{Refusal, none, plain, refused_at, answer, OneOf, nought, listed}
 use Rattle.demands.specs.Tests.{Tests, Refused, Whole, Hold, Others}
 use Rattle.demands.specs.Demand1.{of_the_whole, of_a_hop, RefusalForm, whole, at-hop, Refuses}
 use Rattle.demands.proofs.Chains.{or_right, all, numbers_of}

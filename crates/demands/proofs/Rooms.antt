@@ -12,10 +12,7 @@ use Rattle.lists.specs.Lists.{filled}
 use Rattle.refusals.specs.Refusals.{answer}
 use Rattle.refusals.proofs.AnswerLaws.{answered}
 use Rattle.room.specs.declared.Shape.{Shape}
-use Rattle.room.specs.declared.Number.{Number}
-use Rattle.room.specs.declared.Digits.{Digits}
-use Rattle.room.specs.declared.Switch.{Switch}
-use Rattle.room.specs.declared.Between.{Between}
+use Rattle.room.specs.Told.{Number, Digits, Switch, Between}
 use Rattle.room.specs.Shapes.{servers_of, bound, Server}
 use Rattle.room.specs.Digits.{address_of}
 use Rattle.room.specs.Addresses.{digits, digit, with_digit, switch_of, differing}

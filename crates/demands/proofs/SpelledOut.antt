@@ -9,8 +9,7 @@ use native.Mathlib.Decide.{ℕ_discrete}
 use lib.Dec.{eqb}
 use lib.ListN.{length, get_or}
 use borrow.Author.Tests.{eqb-false, not-true}
-use Rattle.refusals.specs.declared.Refusal.{Refusal}
-use Rattle.refusals.specs.Refusals.{none, plain, refused_at, with_earlier}
+use Rattle.refusals.specs.Refusals.{Refusal, none, plain, refused_at, with_earlier}
 use Rattle.room.specs.declared.Shape.{Shape}
 use Rattle.room.specs.Shapes.{servers_of, bound}
 use Rattle.room.specs.Refusals.{shape_refusal}

@@ -15,15 +15,13 @@ use Rattle.lists.proofs.ListLaws.{reverse-at, filled_at, filled-past}
 use Rattle.room.specs.declared.Shape.{Shape}
 use Rattle.room.specs.Shapes.{Server}
 use Rattle.room.specs.Addresses.{digit, Neighbours}
-use Rattle.path.specs.declared.Hop.{Hop}
-use Rattle.path.specs.declared.Reading.{Reading}
-use Rattle.path.specs.declared.Writing.{Writing}
+use Rattle.path.specs.Told.{Hop, Reading, Writing}
 use Rattle.path.specs.Routes.{byte_of, level_of, value_of, byte_to, Encodes}
 use Rattle.path.specs.Walks.{hop_to, hop_refusal}
 use Rattle.path.specs.Answers.{a_hop, hop_by, hop_from, hop_answer, a_writing, reverse_answer}
 use Rattle.path.proofs.HopLaws.{neighbours_sym, level-only, at_level, hop-number, hop-made, hop_tested, hop-level-low, hop-old-low, hop-server, hop-neighbours, hop-byte, hop-byte-back, byte-taken, byte-hop, byte-level}
 use Rattle.pick.specs.Picks.{array_at}
-use Rattle.step.specs.declared.Step.{Step}
+use Rattle.step.specs.Told.{Step}
 use Rattle.step.specs.Steps.{delivery, forwarded, step_answer}
 use Rattle.step.specs.Delivery.{Tables, step_after, trace_of}
 use Rattle.step.proofs.StepLaws.{goes_of}

@@ -10,7 +10,7 @@ use lib.Seq.{ext_get_or}
 use borrow.Author.Tests.{eqb-true, eqb-false, eq-eqb, ne_eqb}
 use Rattle.refusals.proofs.AnswerLaws.{answer-none}
 use Rattle.room.specs.declared.Shape.{Shape}
-use Rattle.room.specs.declared.Number.{Number}
+use Rattle.room.specs.Told.{Number}
 use Rattle.room.specs.Shapes.{servers_of, bound, Server, Link, Ends}
 use Rattle.room.specs.Addresses.{digit, Neighbours}
 use Rattle.room.specs.Refusals.{link_refusal}

@@ -11,12 +11,11 @@ use lib.Seq.{append_snoc, get_or-append_seam}
 use borrow.Author.Tests.{eq-eqb, ne_eqb}
 use Rattle.lists.specs.Lists.{in_turn}
 use Rattle.lists.proofs.ListLaws.{length_snoc}
-use Rattle.refusals.specs.declared.Refusal.{Refusal}
-use Rattle.refusals.specs.Refusals.{none, plain, refused_at, with_earlier}
+use Rattle.refusals.specs.Refusals.{Refusal, none, plain, refused_at, with_earlier}
 use Rattle.refusals.proofs.AnswerLaws.{answer-none}
 use Rattle.room.specs.declared.Shape.{Shape}
 use Rattle.room.specs.Shapes.{Server}
-use Rattle.path.specs.declared.Writing.{Writing}
+use Rattle.path.specs.Told.{Writing}
 use Rattle.path.specs.Routes.{switch_to, switches_of, encode, Prefix}
 use Rattle.path.specs.Walks.{earlier_of, stops_at, write_fault, write_from}
 use Rattle.path.specs.Answers.{no_writing, a_writing, write_refusal, written, on_the_way, write_answer}

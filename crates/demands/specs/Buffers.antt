@@ -1,8 +1,7 @@
 -- Demand 1, of buffers and words: every lent buffer keeps its bytes where a call refuses, and holds what it answers else; the words that the
 -- calls from C give back say all of the answer.
 use Rattle.std.specs.Prelude.{ℕ, suc, ◌+◌, ◌*◌, ◌/◌, ◌%◌, ◌≤◌, ◌≡◌, ◌≢◌, List, [], ◌∷◌, true, false, cond, eqb, set}
-use Rattle.refusals.specs.declared.Refusal.{Refusal}
-use Rattle.refusals.specs.Refusals.{earlier_route, earlier_hop, plain}
+use Rattle.refusals.specs.Refusals.{Refusal, earlier_route, earlier_hop, plain}
 use Rattle.room.specs.declared.Shape.{Shape}
 use Rattle.room.specs.Refusals.{shape_refusal}
 use Rattle.room.specs.Answers.{servers_answer, bound_answer, digits_answer, digit_answer, address_answer, switch_answer, neighbour_answer, between_answer}
@@ -10,17 +9,17 @@ use Rattle.room.specs.Wiring.{switches_answer, server_at_answer}
 use Rattle.trees.specs.Answers.{parent_answer, tree_of, tree_answer, tree_left}
 use Rattle.links.specs.Table.{changed}
 use Rattle.links.specs.Answers.{failed_answer}
-use Rattle.summary.specs.declared.DeadSwitch.{DeadSwitch}
+use Rattle.summary.specs.Told.{DeadSwitch}
 use Rattle.summary.specs.Counts.{summary_of, recounted, recounted_below}
 use Rattle.summary.specs.Answers.{all_bits, link_answer, link_table, link_summary, server_answer, server_table, server_summary, dead_answer, fresh_answer, fresh_summary}
 use Rattle.path.specs.Bytes.{byte_answer, parts_answer}
-use Rattle.path.specs.declared.Hop.{Hop}
+use Rattle.path.specs.Told.{Hop}
 use Rattle.path.specs.Answers.{hop_answer, read_answer, write_answer, reverse_answer}
 use Rattle.verdict.specs.Checks.{check_answer}
 use Rattle.build.specs.Answers.{build_answer}
 use Rattle.laying.specs.Answers.{Lays}
 use Rattle.pick.specs.Places.{place_answer}
-use Rattle.step.specs.declared.Step.{Step}
+use Rattle.step.specs.Told.{Step}
 use Rattle.step.specs.Steps.{step_answer}
 use Rattle.driver.specs.declared.Answer.{Answer}
 use Rattle.driver.specs.declared.Stepped.{Stepped}

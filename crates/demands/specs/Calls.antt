@@ -1,6 +1,6 @@
 -- Demand 2, of switches and their ports, whole servers, single path bytes, and a route laid into a table.
 use Rattle.std.specs.Prelude.{ℕ, suc, ◌+◌, ◌-◌, ◌*◌, ◌^◌, ◌≤◌, ◌<◌, ◌≡◌, ◌↔◌, ◌≢◌, ◌⊎◌, Bool, true, false, List, [], length, get_or}
-use Rattle.refusals.specs.declared.Refusal.{Refusal}
+use Rattle.refusals.specs.Refusals.{Refusal}
 use Rattle.room.specs.declared.Shape.{Shape}
 use Rattle.room.specs.Shapes.{bound, Valid, Server, Link}
 use Rattle.room.specs.Addresses.{digit, switch_of, Beside, Neighbours}

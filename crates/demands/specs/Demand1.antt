@@ -2,42 +2,34 @@
 -- buffer keeps its bytes. That a call may be made with every input is `EveryInput` in Uniqueness; here stands what it then answers, in
 -- Refusals exactly when it refuses, and in Buffers what it leaves of what it was lent.
 use Rattle.std.specs.Prelude.{ℕ, ◌/◌, ◌≤◌, ◌<◌, ◌≡◌, ◌≢◌, List, [], ◌∷◌, Bool, true, false, ◌&&◌, ◌||◌, leb, eqb, length, replicate}
-use Rattle.refusals.specs.declared.Refusal.{Refusal}
-use Rattle.refusals.specs.Refusals.{plain, refused_at, with_earlier, OneOf}
+use Rattle.refusals.specs.Refusals.{Refusal, plain, refused_at, with_earlier, OneOf}
 use Rattle.room.specs.declared.Shape.{Shape}
-use Rattle.room.specs.declared.Number.{Number}
-use Rattle.room.specs.declared.Digits.{Digits}
-use Rattle.room.specs.declared.Switch.{Switch}
-use Rattle.room.specs.declared.Between.{Between}
+use Rattle.room.specs.Told.{Number, Digits, Switch, Between}
 use Rattle.room.specs.Refusals.{shape_refusal, server_refusal, pair_refusal, ends_refusal, link_refusal}
 use Rattle.room.specs.Answers.{servers_answer, bound_answer, digits_answer, digit_answer, address_answer, switch_answer, neighbour_answer, between_answer}
 use Rattle.room.specs.Wiring.{switches_answer, server_at_answer}
 use Rattle.trees.specs.Answers.{parent_answer, tree_answer}
-use Rattle.links.specs.declared.Asked.{Asked}
+use Rattle.links.specs.Told.{Asked}
 use Rattle.links.specs.Table.{room_table_refusal, room_refusal, table_link_refusal, table_server_refusal}
 use Rattle.links.specs.Answers.{failed_answer}
-use Rattle.summary.specs.declared.DeadSwitch.{DeadSwitch}
+use Rattle.summary.specs.Told.{DeadSwitch}
 use Rattle.summary.specs.Answers.{link_answer, server_answer, dead_answer, fresh_answer}
-use Rattle.path.specs.declared.Hop.{Hop}
-use Rattle.path.specs.declared.Parts.{Parts}
-use Rattle.path.specs.declared.Walked.{Walked}
-use Rattle.path.specs.declared.Reading.{Reading}
-use Rattle.path.specs.declared.Writing.{Writing}
+use Rattle.path.specs.Told.{Hop, Parts, Walked, Reading, Writing}
 use Rattle.path.specs.Bytes.{byte_answer, parts_answer}
 use Rattle.path.specs.Answers.{hop_answer, walk_answer, read_answer, write_answer, reverse_answer}
 use Rattle.verdict.specs.Checks.{check_answer}
-use Rattle.build.specs.declared.Building.{Building}
+use Rattle.build.specs.Told.{Building}
 use Rattle.build.specs.Sets.{empty_set}
 use Rattle.build.specs.Answers.{build_answer}
 use Rattle.laying.specs.Answers.{Lays}
-use Rattle.finder.specs.declared.Found.{Found}
+use Rattle.finder.specs.Told.{Found}
 use Rattle.finder.specs.Answers.{Finding}
-use Rattle.select.specs.declared.Selection.{Selection}
+use Rattle.select.specs.Told.{Selection}
 use Rattle.select.specs.Selection.{Selecting}
-use Rattle.pick.specs.declared.Place.{Place}
+use Rattle.pick.specs.Told.{Place}
 use Rattle.pick.specs.Picks.{pick_source, pick_answer, picked_bytes}
 use Rattle.pick.specs.Places.{place_answer}
-use Rattle.step.specs.declared.Step.{Step}
+use Rattle.step.specs.Told.{Step}
 use Rattle.step.specs.Steps.{step_answer}
 
 -- ---- the place of a refusal

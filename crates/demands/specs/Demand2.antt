@@ -5,7 +5,7 @@ use Rattle.std.specs.Prelude.{ℕ, suc, ◌+◌, ◌-◌, ◌*◌, ◌/◌, ◌%
 use Rattle.lists.specs.Lists.{is_in, filled, down_from}
 use Rattle.refusals.specs.Refusals.{none}
 use Rattle.room.specs.declared.Shape.{Shape}
-use Rattle.room.specs.declared.Between.{Between}
+use Rattle.room.specs.Told.{Between}
 use Rattle.room.specs.Shapes.{servers_of, bound, Valid, Server, Link, Ends}
 use Rattle.room.specs.Digits.{strike}
 use Rattle.room.specs.Addresses.{digits, digit, switch_of, switches_at, differing, Written, Beside, Neighbours}
@@ -13,7 +13,7 @@ use Rattle.room.specs.Answers.{servers_answer, bound_answer, digits_answer, digi
 use Rattle.links.specs.Table.{failed, live, TableOf}
 use Rattle.links.specs.Answers.{failed_answer}
 use Rattle.summary.specs.Answers.{link_answer, link_table, link_summary}
-use Rattle.path.specs.declared.Hop.{Hop}
+use Rattle.path.specs.Told.{Hop}
 use Rattle.path.specs.Routes.{switch_to, byte_to, switches_of, encode, Route, RouteTo, Encodes, level_of, value_of}
 use Rattle.path.specs.Answers.{hop_answer, walk_answer, read_answer, write_answer, reverse_answer}
 use Rattle.verdict.specs.Checks.{check_answer}
@@ -22,15 +22,15 @@ use Rattle.build.specs.Built.{built_route}
 use Rattle.build.specs.Sets.{added, array_in, set_of}
 use Rattle.build.specs.Answers.{build_answer}
 use Rattle.laying.specs.Avoids.{Avoids}
-use Rattle.finder.specs.declared.Found.{Found}
+use Rattle.finder.specs.Told.{Found}
 use Rattle.finder.specs.Alternates.{Before}
 use Rattle.finder.specs.Answers.{Finding}
-use Rattle.select.specs.declared.Selection.{Selection}
+use Rattle.select.specs.Told.{Selection}
 use Rattle.select.specs.Avoided.{avoided}
 use Rattle.select.specs.Selection.{Unbroken, Replaces, Selecting}
 use Rattle.pick.specs.Picks.{pick_source, pick_answer, picked_bytes, picked_at}
 use Rattle.pick.specs.Places.{place_answer}
-use Rattle.step.specs.declared.Step.{Step}
+use Rattle.step.specs.Told.{Step}
 use Rattle.step.specs.Steps.{step_answer}
 use Rattle.demands.specs.Refusals.{Arrays}
 

@@ -12,7 +12,7 @@ use Rattle.verdict.specs.Checks.{check_answer}
 use Rattle.verdict.specs.Accepted.{Accepted}
 use Rattle.build.specs.Sets.{held}
 use Rattle.build.specs.Answers.{build_answer}
-use Rattle.select.specs.declared.Selection.{Selection}
+use Rattle.select.specs.Told.{Selection}
 use Rattle.select.specs.Selection.{Selecting}
 use Rattle.pick.specs.Picks.{array_at}
 use Rattle.step.specs.Steps.{mac_at, port_at, delivery}

@@ -3,7 +3,7 @@
 use Rattle.std.specs.Prelude.{ℕ, suc, ◌-◌, ◌≤◌, ◌<◌, ◌≡◌, ◌≢◌, ◌⊎◌, true, false, cond, List, [], ◌∷◌, ◌++◌, map, reverse, ltb, eqb, length, take}
 use Rattle.lists.specs.Lists.{down_from, in_order}
 use Rattle.room.specs.declared.Shape.{Shape}
-use Rattle.room.specs.declared.Number.{Number}
+use Rattle.room.specs.Told.{Number}
 use Rattle.room.specs.Shapes.{shape_of, full_room}
 use Rattle.room.specs.Answers.{digits_answer}
 use Rattle.trees.specs.Answers.{parent_answer, tree_answer}
@@ -11,9 +11,8 @@ use Rattle.path.specs.Answers.{read_answer}
 use Rattle.build.specs.declared.RouteSet.{RouteSet}
 use Rattle.build.specs.Sets.{array_in, joined}
 use Rattle.build.specs.Answers.{build_answer}
-use Rattle.desk_line.specs.declared.TreeQuestion.{TreeQuestion}
 use Rattle.desk_line.specs.Lines.{newline, space}
-use Rattle.desk_line.specs.Numbers.{value_from, tree_question_of}
+use Rattle.desk_line.specs.Numbers.{TreeQuestion, value_from, tree_question_of}
 use Rattle.desk_line.specs.Texts.{decimal, input_line, refused_line, route_line}
 use Rattle.desk_line.specs.Answers.{desk_text}
 use Rattle.desk_line.specs.TreeLines.{dash, pointed, tree_line, tree_text}

@@ -1,9 +1,12 @@
+-- Demand 1, of reasons: their numbers are those of the rules, and a call tells by them all that it answers.
 -- Demand 2, of the functions that serve the layers above them: a refusal moved to a route and with an earlier hop, the numbers of a shape, the
 -- servers at a switch, one link changed with no test, what a path byte names, and the place of a number in a list.
-use Rattle.std.specs.Prelude.{ℕ, ◌+◌, ◌*◌, ◌/◌, ◌%◌, ◌^◌, ◌≤◌, ◌<◌, ◌≡◌, ◌≢◌, ◌⊎◌, Bool, false, List, length, get_or}
-use Rattle.lists.specs.Lists.{place_in}
-use Rattle.refusals.specs.declared.Refusal.{Refusal}
-use Rattle.refusals.specs.Refusals.{earlier_route, earlier_hop, of_route, with_earlier}
+use Rattle.std.specs.Prelude.{ℕ, ◌+◌, ◌*◌, ◌/◌, ◌%◌, ◌^◌, ◌≤◌, ◌<◌, ◌≡◌, ◌≢◌, ◌⊎◌, ◌↔◌, Bool, true, false, List, [], ◌∷◌, length, get_or, Result}
+use Rattle.lists.specs.Lists.{is_in, place_in}
+use Rattle.refusals.specs.declared.Reason.{Reason}
+use Rattle.refusals.specs.declared.Refused.{Refused}
+use Rattle.refusals.specs.Refusals.{Refusal, none, earlier_route, earlier_hop, of_route, with_earlier}
+use Rattle.refusals.specs.Reasons.{number_of, refusal_of, told, tells, tells_where, told_where}
 use Rattle.room.specs.declared.Shape.{Shape}
 use Rattle.room.specs.declared.Side.{Side}
 use Rattle.room.specs.Shapes.{shape_of, full_room, servers_of, bound, power_of, server_count, Link}
@@ -13,6 +16,38 @@ use Rattle.links.specs.Table.{failed, changed_in}
 use Rattle.path.specs.Routes.{level_of, value_of}
 use Rattle.demands.specs.Demand2.{Sets}
 use Rattle.demands.specs.Calls.{AtPort}
+
+-- ---- reasons
+
+-- the numbers that the rules have taken (rule 8.2); 12 is retired
+abbrev pub taken : List ℕ
+taken = 1 ∷ 2 ∷ 3 ∷ 4 ∷ 5 ∷ 6 ∷ 7 ∷ 8 ∷ 9 ∷ 10 ∷ 11 ∷ 13 ∷ 14 ∷ 15 ∷ 16 ∷ 17 ∷ 18 ∷ 19 ∷ 20 ∷ 21 ∷ 22 ∷ 23 ∷ 26 ∷ 28 ∷ 29 ∷ 30 ∷ []
+
+-- a refusal and an answer are read back from what is told of them, and in what is told of an answer there is no refusal
+pub record ReadBack {A R X : Type 0} (refused : R → X) (given : A → X) (nothing : R) : Type 0 where
+  pub refusal : X → R
+  pub value : X → A
+  pub refused_back : (r : R) → refusal (refused r) ≡ r
+  pub not_refused : (x : A) → refusal (given x) ≡ nothing
+  pub value_back : (x : A) → value (given x) ≡ x
+
+-- the reasons are those of the rules by their numbers, and a call tells by them all that it answers
+pub record EveryReason : Type 1 where
+  -- each number that is taken is that of a reason, and no other number is
+  pub numbers : (n : ℕ) → (is_in n taken ≡ true) ↔ ((r : Reason) × (number_of r ≡ n))
+  -- no two reasons have one number, and none has 0, which is no refusal
+  pub one_reason : (r q : Reason) → number_of r ≡ number_of q → r ≡ q
+  pub not_zero : (r : Reason) → number_of r ≢ 0
+  -- so two results that tell the same are one: of a test, which tells a number
+  pub one_test : (x y : Result (Unit {0}) Reason) → told x ≡ told y → x ≡ y
+  -- of a call, where both are read back
+  pub one_answer : {A X : Type 0} (refused : ℕ → X) (given : A → X) → ReadBack refused given 0 → (x y : Result A Reason) → tells refused given x ≡ tells refused given y → x ≡ y
+  -- and where refusals have a place, of which none is lost
+  pub one_refusal : (x y : Refused) → refusal_of x ≡ refusal_of y → x ≡ y
+  pub one_check : (x y : Result (Unit {0}) Refused) → told_where x ≡ told_where y → x ≡ y
+  pub one_placed : {A X : Type 0} (refused : Refusal → X) (given : A → X) → ReadBack refused given none → (x y : Result A Refused) → tells_where refused given x ≡ tells_where refused given y → x ≡ y
+
+-- ---- the functions that serve the layers above them
 
 -- n ports and level l have no power: n is not among 1 to 64, or l is above 3
 abbrev pub NoPower : ℕ → ℕ → Type 0
@@ -71,7 +106,7 @@ pub record EveryHelper : Type 0 where
   pub no_side_at : (s : Shape) (l w : ℕ) → NoPower s.n l ⊎ (4096 ≤ w) → side_at s l w ≡ record { first = 0; stride = 0; count = 0 }
   -- past the table's end no link is failed; which are before it is `FailedExactly`
   pub none-failed : (t : List ℕ) (a l : ℕ) → length t ≤ a → failed t a l ≡ false
-  -- marking, and clearing; past the table's end and above level 7 nothing changes
+  -- a link put to failed or not, so marking and clearing too; past the table's end and above level 7 nothing changes
   pub one_link : (b : Bool) (a l : ℕ) (t : List ℕ) → a < length t → l < 8 → OneLink b a l t (changed_in b a l t)
   pub no_link : (b : Bool) (a l : ℕ) (t : List ℕ) → (length t ≤ a) ⊎ (8 ≤ l) → changed_in b a l t ≡ t
   pub level-of : (b : ℕ) → level_of b ≡ b / 64

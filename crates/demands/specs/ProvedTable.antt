@@ -12,7 +12,7 @@ use Rattle.path.specs.Routes.{switch_to}
 use Rattle.path.specs.Answers.{a_writing, read_answer, reverse_answer}
 use Rattle.build.specs.Sets.{set_of, array_in}
 use Rattle.build.specs.Answers.{no_building, a_building, build_answer}
-use Rattle.select.specs.declared.Selection.{Selection}
+use Rattle.select.specs.Told.{Selection}
 use Rattle.select.specs.Selection.{Selecting}
 use Rattle.desk_line.specs.Answers.{desk_text}
 

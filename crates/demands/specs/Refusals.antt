@@ -2,8 +2,7 @@
 -- fails, in the rules' order. What a chain of tests means is in Tests.
 use Rattle.std.specs.Prelude.{ℕ, suc, ◌+◌, ◌-◌, ◌*◌, ◌/◌, ◌%◌, ◌≤◌, ◌<◌, ◌≡◌, ◌≢◌, ◌↔◌, ◌⊎◌, false, List, [], ◌∷◌, ◌++◌, length, get_or}
 use Rattle.lists.specs.Lists.{in_turn}
-use Rattle.refusals.specs.declared.Refusal.{Refusal}
-use Rattle.refusals.specs.Refusals.{none, plain, refused_at, of_route, with_earlier}
+use Rattle.refusals.specs.Refusals.{Refusal, none, plain, refused_at, of_route, with_earlier}
 use Rattle.room.specs.declared.Shape.{Shape}
 use Rattle.room.specs.Shapes.{servers_of, bound}
 use Rattle.room.specs.Addresses.{digit, switches_at, Neighbours}
@@ -22,9 +21,9 @@ use Rattle.verdict.specs.Checks.{check_answer}
 use Rattle.verdict.specs.Accepted.{Accepted}
 use Rattle.build.specs.Answers.{build_answer}
 use Rattle.laying.specs.Answers.{Lays}
-use Rattle.finder.specs.declared.Found.{Found}
+use Rattle.finder.specs.Told.{Found}
 use Rattle.finder.specs.Answers.{Finding}
-use Rattle.select.specs.declared.Selection.{Selection}
+use Rattle.select.specs.Told.{Selection}
 use Rattle.select.specs.Selection.{Selecting}
 use Rattle.pick.specs.Picks.{pick_answer, array_at}
 use Rattle.pick.specs.Places.{place_answer}

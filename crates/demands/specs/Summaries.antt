@@ -6,7 +6,7 @@ use Rattle.room.specs.declared.Shape.{Shape}
 use Rattle.room.specs.Shapes.{servers_of, bound, Valid, Server, Link}
 use Rattle.room.specs.Addresses.{switch_of, switches_at}
 use Rattle.links.specs.Table.{failed, changed, TableOf, room_table_refusal, table_link_refusal, table_server_refusal}
-use Rattle.summary.specs.declared.DeadSwitch.{DeadSwitch}
+use Rattle.summary.specs.Told.{DeadSwitch}
 use Rattle.summary.specs.Counts.{count_at, summary_of, IsSwitch}
 -- declared with the summary, whose laws use them too: which of two switches is earlier, a list of the servers that are counted, how an entry
 -- moves, a dead switch, and an answer that tells the first

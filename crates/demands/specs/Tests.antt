@@ -1,7 +1,6 @@
 -- Chains of tests, in the rules' order: the first that fails gives its number, and the others are not asked.
 use Rattle.std.specs.Prelude.{ℕ, ◌≡◌, ◌≢◌, ◌↔◌, ◌⊎◌, List, [], ◌∷◌, ◌++◌}
-use Rattle.refusals.specs.declared.Refusal.{Refusal}
-use Rattle.refusals.specs.Refusals.{none, plain}
+use Rattle.refusals.specs.Refusals.{Refusal, none, plain}
 
 infixl 30 ◌then◌
 -- tests in their order: each the number that is given where it fails, and the condition that it tests

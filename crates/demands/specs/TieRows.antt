@@ -5,9 +5,9 @@ use Rattle.refusals.specs.Refusals.{none}
 use Rattle.room.specs.declared.Shape.{Shape}
 use Rattle.room.specs.Shapes.{full_room}
 use Rattle.build.specs.Sets.{set_of}
-use Rattle.finder.specs.declared.Found.{Found}
+use Rattle.finder.specs.Told.{Found}
 use Rattle.finder.specs.Answers.{Finding}
-use Rattle.select.specs.declared.Selection.{Selection}
+use Rattle.select.specs.Told.{Selection}
 use Rattle.select.specs.Selection.{Selecting}
 use Rattle.demands.specs.Demand2.{Selected}
 use Rattle.demands.specs.ProvedTable.{array}

@@ -6,12 +6,12 @@ use Rattle.refusals.specs.Refusals.{none}
 use Rattle.room.specs.declared.Shape.{Shape}
 use Rattle.room.specs.Shapes.{Server}
 use Rattle.room.specs.Addresses.{digit, Neighbours}
-use Rattle.path.specs.declared.Hop.{Hop}
+use Rattle.path.specs.Told.{Hop}
 use Rattle.path.specs.Routes.{byte_to, value_of, Encodes}
 use Rattle.path.specs.Answers.{hop_answer, read_answer, reverse_answer}
 use Rattle.verdict.specs.Checks.{check_answer}
 use Rattle.pick.specs.Picks.{array_at}
-use Rattle.step.specs.declared.Step.{Step}
+use Rattle.step.specs.Told.{Step}
 use Rattle.step.specs.Steps.{step_answer}
 use Rattle.step.specs.Delivery.{Tables, step_after, trace_of}
 use Rattle.driver.specs.Words.{value_in, hop_word}

@@ -5,16 +5,16 @@ use borrow.Fn.Kinds.{ParamKind, Dens, ended_of, res_t}
 use denote.Triple.Clauses.{AtExit}
 use contract.Lifetimes.{Lfts}
 use Rattle.refusals.specs.Determined.{Determined, Leaves}
-use Rattle.refusals.proofs.Refusal.none.Reads as refusal_none_reads
-use Rattle.refusals.proofs.Refusal.none.Kinds as refusal_none_kinds
-use Rattle.refusals.proofs.Refusal.plain.Reads as refusal_plain_reads
-use Rattle.refusals.proofs.Refusal.plain.Kinds as refusal_plain_kinds
-use Rattle.refusals.proofs.Refusal.at.Reads as refusal_at_reads
-use Rattle.refusals.proofs.Refusal.at.Kinds as refusal_at_kinds
-use Rattle.refusals.proofs.Refusal.of_route.Reads as refusal_of_route_reads
-use Rattle.refusals.proofs.Refusal.of_route.Kinds as refusal_of_route_kinds
-use Rattle.refusals.proofs.Refusal.with_earlier.Reads as refusal_with_earlier_reads
-use Rattle.refusals.proofs.Refusal.with_earlier.Kinds as refusal_with_earlier_kinds
+use Rattle.refusals.proofs.Reason.number.Reads as reason_number_reads
+use Rattle.refusals.proofs.Reason.number.Kinds as reason_number_kinds
+use Rattle.refusals.proofs.RefusedFromReason.from.Reads as refusal_from_reason_reads
+use Rattle.refusals.proofs.RefusedFromReason.from.Kinds as refusal_from_reason_kinds
+use Rattle.refusals.proofs.Refused.at.Reads as refusal_at_reads
+use Rattle.refusals.proofs.Refused.at.Kinds as refusal_at_kinds
+use Rattle.refusals.proofs.Refused.of_route.Reads as refusal_of_route_reads
+use Rattle.refusals.proofs.Refused.of_route.Kinds as refusal_of_route_kinds
+use Rattle.refusals.proofs.Refused.with_earlier.Reads as refusal_with_earlier_reads
+use Rattle.refusals.proofs.Refused.with_earlier.Kinds as refusal_with_earlier_kinds
 use Rattle.room.proofs.Shape.new.Reads as shape_new_reads
 use Rattle.room.proofs.Shape.new.Kinds as shape_new_kinds
 use Rattle.room.proofs.Shape.full.Reads as shape_full_reads
@@ -65,6 +65,8 @@ use Rattle.trees.proofs.write_tree.Reads as write_tree_reads
 use Rattle.trees.proofs.write_tree.Kinds as write_tree_kinds
 use Rattle.links.proofs.failed_link.Reads as failed_link_reads
 use Rattle.links.proofs.failed_link.Kinds as failed_link_kinds
+use Rattle.links.proofs.put.Reads as put_reads
+use Rattle.links.proofs.put.Kinds as put_kinds
 use Rattle.links.proofs.mark.Reads as mark_reads
 use Rattle.links.proofs.mark.Kinds as mark_kinds
 use Rattle.links.proofs.clear.Reads as clear_reads
@@ -143,6 +145,8 @@ use Rattle.desk_line.proofs.tree_line.Reads as tree_line_reads
 use Rattle.desk_line.proofs.tree_line.Kinds as tree_line_kinds
 use Rattle.desk_line.proofs.answer_line.Reads as answer_line_reads
 use Rattle.desk_line.proofs.answer_line.Kinds as answer_line_kinds
+use Rattle.desk_line.proofs.Text.shown.Reads as text_shown_reads
+use Rattle.desk_line.proofs.Text.shown.Kinds as text_shown_kinds
 use Rattle.driver.proofs.bcube_version.Reads as c_version_reads
 use Rattle.driver.proofs.bcube_version.Kinds as c_version_kinds
 use Rattle.driver.proofs.bcube_switches.Reads as c_switches_reads
@@ -223,8 +227,8 @@ pub record EveryInput : Type 0 where
   -- room
   pub shape_new : Takes 0 shape_new_kinds.ps shape_new_reads.Pre
   pub shape_full : Takes 0 shape_full_kinds.ps shape_full_reads.Pre
-  pub refusal_none : Takes 0 refusal_none_kinds.ps refusal_none_reads.Pre
-  pub refusal_plain : Takes 0 refusal_plain_kinds.ps refusal_plain_reads.Pre
+  pub reason-number : Takes 0 reason_number_kinds.ps reason_number_reads.Pre
+  pub refusal_from_reason : Takes 0 refusal_from_reason_kinds.ps refusal_from_reason_reads.Pre
   pub refusal_at : Takes 0 refusal_at_kinds.ps refusal_at_reads.Pre
   pub refusal_of_route : Takes 0 refusal_of_route_kinds.ps refusal_of_route_reads.Pre
   pub refusal_with_earlier : Takes 0 refusal_with_earlier_kinds.ps refusal_with_earlier_reads.Pre
@@ -252,6 +256,7 @@ pub record EveryInput : Type 0 where
   pub write_tree : Takes 1 write_tree_kinds.ps write_tree_reads.Pre
   -- links
   pub failed_link : Takes 1 failed_link_kinds.ps failed_link_reads.Pre
+  pub put : Takes 1 put_kinds.ps put_reads.Pre
   pub mark : Takes 1 mark_kinds.ps mark_reads.Pre
   pub clear : Takes 1 clear_kinds.ps clear_reads.Pre
   pub is_live : Takes 1 is_live_kinds.ps is_live_reads.Pre
@@ -302,6 +307,7 @@ pub record EveryInput : Type 0 where
   pub answer_line : Takes 1 answer_line_kinds.ps answer_line_reads.Pre
   pub tree-question-of : Takes 1 tree_question_of_kinds.ps tree_question_of_reads.Pre
   pub tree-line : Takes 0 tree_line_kinds.ps tree_line_reads.Pre
+  pub text-shown : Takes 1 text_shown_kinds.ps text_shown_reads.Pre
   -- driver: what C calls as bcube_room_of, and so on
   pub c_version : Takes 0 c_version_kinds.ps c_version_reads.Pre
   pub c_switches : Takes 0 c_switches_kinds.ps c_switches_reads.Pre
@@ -345,8 +351,8 @@ pub record Uniqueness : Type 0 where
   -- room
   pub shape_new : Determined 0 shape_new_kinds.ps shape_new_kinds.r shape_new_reads.Post
   pub shape_full : Determined 0 shape_full_kinds.ps shape_full_kinds.r shape_full_reads.Post
-  pub refusal_none : Determined 0 refusal_none_kinds.ps refusal_none_kinds.r refusal_none_reads.Post
-  pub refusal_plain : Determined 0 refusal_plain_kinds.ps refusal_plain_kinds.r refusal_plain_reads.Post
+  pub reason-number : Determined 0 reason_number_kinds.ps reason_number_kinds.r reason_number_reads.Post
+  pub refusal_from_reason : Determined 0 refusal_from_reason_kinds.ps refusal_from_reason_kinds.r refusal_from_reason_reads.Post
   pub refusal_at : Determined 0 refusal_at_kinds.ps refusal_at_kinds.r refusal_at_reads.Post
   pub refusal_of_route : Determined 0 refusal_of_route_kinds.ps refusal_of_route_kinds.r refusal_of_route_reads.Post
   pub refusal_with_earlier : Determined 0 refusal_with_earlier_kinds.ps refusal_with_earlier_kinds.r refusal_with_earlier_reads.Post
@@ -376,6 +382,7 @@ pub record Uniqueness : Type 0 where
   pub write_tree_leaves : Leaves 1 write_tree_kinds.ps write_tree_kinds.r write_tree_reads.Post (λ κs s. s.1.1.1.0.now)
   -- links
   pub failed_link : Determined 1 failed_link_kinds.ps failed_link_kinds.r failed_link_reads.Post
+  pub put : Leaves 1 put_kinds.ps put_kinds.r put_reads.Post (λ κs s. s.0.now)
   pub mark : Leaves 1 mark_kinds.ps mark_kinds.r mark_reads.Post (λ κs s. s.0.now)
   pub clear : Leaves 1 clear_kinds.ps clear_kinds.r clear_reads.Post (λ κs s. s.0.now)
   pub is_live : Determined 1 is_live_kinds.ps is_live_kinds.r is_live_reads.Post
@@ -443,6 +450,8 @@ pub record Uniqueness : Type 0 where
   pub answer_line : Determined 1 answer_line_kinds.ps answer_line_kinds.r answer_line_reads.Post
   pub tree-question-of : Determined 1 tree_question_of_kinds.ps tree_question_of_kinds.r tree_question_of_reads.Post
   pub tree-line : Determined 0 tree_line_kinds.ps tree_line_kinds.r tree_line_reads.Post
+  -- of the part that shows a text, its bytes
+  pub text-shown : (κs : Lfts 1) (a : Dens κs text_shown_kinds.ps) (x y : (res_t text_shown_kinds.r κs).Denot) (s t : AtExit (ended_of 1 text_shown_kinds.ps text_shown_kinds.r) κs) → text_shown_reads.Post κs a x s → text_shown_reads.Post κs a y t → x.now ≡ y.now
   -- driver: what C calls as bcube_room_of, and so on
   pub c_version : Determined 0 c_version_kinds.ps c_version_kinds.r c_version_reads.Post
   pub c_switches : Determined 0 c_switches_kinds.ps c_switches_kinds.r c_switches_reads.Post

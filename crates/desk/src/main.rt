@@ -6,10 +6,6 @@ use std::io;
 
 fn main(rt: HostRuntime) -> io::Result<()> {
     let input = read_line(&rt);
-    let read = input.bytes;
-    let count = input.count;
-    let text = desk_line::answer_line(&read[..count]);
-    let bytes = text.bytes;
-    let length = text.length;
-    rt.write_all(&bytes[..length])
+    let text = desk_line::answer_line(input.read());
+    rt.write_all(text.shown())
 }

@@ -2,7 +2,7 @@
 use Prim.Native.Nat.{ℕ, zero, suc, ◌+◌, ◌-◌, ◌*◌, ◌≤◌, ◌<◌}
 use mathlib.Core.Path.{◌≡◌, refl, sym, ap, ap₂, ◌∙◌}
 use mathlib.Core.Logic.{◌≢◌}
-use mathlib.Core.Bool.{Bool, true, false, cond}
+use mathlib.Core.Bool.{cond}
 use mathlib.Core.List.{List, [], ◌∷◌, ◌++◌, map, append_assoc, append-nil}
 use native.Mathlib.Omega.{arith}
 use lib.ListN.{length, take, drop, replicate, length-append, length-replicate}
@@ -15,10 +15,10 @@ use Rattle.room.specs.Shapes.{full_room, Ends}
 use Rattle.room.specs.Refusals.{ends_refusal}
 use Rattle.room.proofs.RefusalLaws.{ends_of}
 use Rattle.room.proofs.NumberLaws.{ends-numbers}
-use Rattle.path.specs.declared.Reading.{Reading}
+use Rattle.path.specs.Told.{Reading}
 use Rattle.path.specs.Answers.{read_answer}
 use Rattle.path.proofs.CodecLaws.{read-given}
-use Rattle.build.specs.declared.Building.{Building}
+use Rattle.build.specs.Told.{Building}
 use Rattle.build.specs.declared.RouteSet.{RouteSet}
 use Rattle.build.specs.Built.{built_hops, built_bytes, built_arrays}
 use Rattle.build.specs.Sets.{joined, array_in, set_of}
@@ -26,13 +26,13 @@ use Rattle.build.specs.Answers.{no_building, a_building, build_answer}
 use Rattle.build.proofs.BuiltLaws.{built-short, built-route, built-encode, route-long}
 use Rattle.build.proofs.SetLaws.{joined-long, set-array}
 use Rattle.build.proofs.ArrayLaws.{array_long, arrays-eight, arrays-count, arrays-at}
-use Rattle.desk_line.specs.declared.Text.{Text}
-use Rattle.desk_line.specs.declared.Question.{Question}
 use Rattle.desk_line.specs.Lines.{newline, space}
-use Rattle.desk_line.specs.Numbers.{question_of}
-use Rattle.desk_line.specs.Texts.{hex_of, decimal, input_line, refused_line, route_line, text_of, shown, Room}
+use Rattle.desk_line.specs.declared.Question as asked
+use Rattle.desk_line.specs.Numbers.{Question, question_of, as_question}
+use Rattle.std.specs.Prelude.{None, Some}
+use Rattle.desk_line.specs.Texts.{hex_of, decimal, input_line, refused_line, route_line}
 use Rattle.desk_line.specs.Answers.{slot_line, routes_text, built_text, desk_text}
-use Rattle.desk_line.proofs.TextLaws.{hex-long, decimal-small, room_of, shown_of}
+use Rattle.desk_line.proofs.TextLaws.{hex-long, decimal-small}
 
 -- ---- one built route
 
@@ -58,8 +58,8 @@ module _ {s : Shape} {a d : ℕ} (e : Ends s a d) (i : ℕ) (h : i ≤ s.k) wher
 
 -- ---- as the program finds it at a place of the set
 
-pub place-small : (s : Shape) (a d j : ℕ) → ends_refusal s a d ≡ 0 → j ≤ s.k → j ≤ 3
-place-small s a d j e h = let v = (ends_of s a d e).source.valid.levels in omega arith
+pub levels-few : (s : Shape) (a d : ℕ) → ends_refusal s a d ≡ 0 → s.k ≤ 3
+levels-few s a d e = (ends_of s a d e).source.valid.levels
 
 -- the eight bytes at place j of the set
 abbrev pub part_at : RouteSet → ℕ → List ℕ
@@ -75,9 +75,6 @@ module _ (s : Shape) (a d : ℕ) (r : RouteSet) (j : ℕ) (e : ends_refusal s a 
       ∙ set-array (built_arrays s a d) (arrays-eight (ends_of s a d e)) j (omega (arith, arrays-count s a d))
       ∙ arrays-at s a d j h
 
-  pub part_long : length (part_at r j) ≡ 8
-  part_long = ap length part_is ∙ array_long (ends_of s a d e) (s.k - j) (omega arith)
-
   -- what reading it tells
   module _ (x : Reading) (g : x ≡ read_answer s a d (part_at r j)) where
     counted : x.count ≡ suc (length (built_hops s (s.k - j) a d))
@@ -91,11 +88,10 @@ module _ (s : Shape) (a d : ℕ) (r : RouteSet) (j : ℕ) (e : ends_refusal s a 
     pub read-few : x.count - 1 < 10
     read-few = omega (arith, counted, slot-few (ends_of s a d e) (s.k - j) (omega arith))
 
-    pub read-line : (t : Text) {u : Text} → u ≡ text_of (shown t ++ route_line (part_at r j) (x.count - 1)) → u ≡ text_of (shown t ++ slot_line s a d (s.k - j))
+    pub read-line : route_line (part_at r j) (x.count - 1) ≡ slot_line s a d (s.k - j)
     unfolding slot_line
-    read-line t l =
-        let m : x.count - 1 ≡ length (built_hops s (s.k - j) a d) = omega (arith, counted) in
-        l ∙ ap (λ (y : List ℕ). text_of (shown t ++ y)) (ap₂ route_line part_is m)
+    read-line =
+        let m : x.count - 1 ≡ length (built_hops s (s.k - j) a d) = omega (arith, counted) in ap₂ route_line part_is m
 
 -- ---- all the lines, one after another
 
@@ -107,51 +103,40 @@ lines_next : (s : Shape) (a d m : ℕ) → lines_below s a d (suc m) ≡ slot_li
 unfolding joined
 lines_next s a d m = refl
 
--- the text t holds the lines of the first j routes, and has room for the rest
-pub record Printed (s : Shape) (a d : ℕ) (t : Text) (j : ℕ) : Type 0 where
-  pub levels : s.k ≤ 3
-  pub place : j ≤ suc s.k
-  pub room : Room t (19 * (suc s.k - j))
-  pub rest : shown t ++ lines_below s a d (suc s.k - j) ≡ routes_text s a d
+-- the lines xs are those of the first j routes
+pub record Printed (s : Shape) (a d : ℕ) (xs : List ℕ) (j : ℕ) : Type 0 where
+  pub long : length xs ≡ 19 * j
+  pub rest : xs ++ lines_below s a d (suc s.k - j) ≡ routes_text s a d
 
-pub print_start : (s : Shape) (a d : ℕ) (t : Text) → ends_refusal s a d ≡ 0 → t ≡ text_of [] → Printed s a d t 0
+pub print_start : (s : Shape) (a d : ℕ) → Printed s a d [] 0
 unfolding routes_text
-print_start s a d t e f =
-    let v = (ends_of s a d e).source.valid.levels in
+print_start s a d =
     let m : suc s.k - 0 ≡ suc s.k = omega arith in
-    record {
-      levels = v;
-      place = omega arith;
-      room = room_of [] (19 * (suc s.k - 0)) f (omega arith);
-      rest = ap₂ (λ (x : List ℕ) (n : ℕ). x ++ lines_below s a d n) (shown_of [] f) m;
-    }
+    record { long = refl; rest = ap (lines_below s a d) m }
 
-pub print_room : {s : Shape} {a d : ℕ} {t : Text} {j : ℕ} → Printed s a d t j → j ≤ s.k → Room t 19
-print_room p h = record { whole = p.room.whole; room = omega (arith, p.room.room) }
+module _ {s : Shape} {a d : ℕ} (e : ends_refusal s a d ≡ 0) {xs : List ℕ} {j : ℕ} (p : Printed s a d xs j) where
+  pub print_room : j ≤ s.k → length xs + 19 ≤ 128
+  print_room h = omega (arith, p.long, levels-few s a d e)
 
-pub print_next : {s : Shape} {a d : ℕ} {t : Text} {j : ℕ} → ends_refusal s a d ≡ 0 → Printed s a d t j → j ≤ s.k → (u : Text) → u ≡ text_of (shown t ++ slot_line s a d (s.k - j)) → Printed s a d u (j + 1)
-print_next {s} {a} {d} {t} {j} e p h u f =
-    let q = ends_of s a d e in
-    let l = slot-long q (s.k - j) (omega arith) in
-    let m : suc s.k - j ≡ suc (s.k - j) = omega arith in
-    let n : suc s.k - (j + 1) ≡ s.k - j = omega arith in
-    let line = slot_line s a d (s.k - j) in
-    record {
-      levels = p.levels;
-      place = omega arith;
-      room = room_of (shown t ++ line) (19 * (suc s.k - (j + 1))) f (omega (arith, length-append (shown t) line, p.room.room));
-      rest = ap₂ (λ (x : List ℕ) (y : ℕ). x ++ lines_below s a d y) (shown_of (shown t ++ line) f) n
-          ∙ append_assoc (shown t) line (lines_below s a d (s.k - j))
-          ∙ ap (λ (x : List ℕ). shown t ++ x) (sym (lines_next s a d (s.k - j)) ∙ ap (lines_below s a d) (sym m))
-          ∙ p.rest;
-    }
+  pub print_next : j ≤ s.k → Printed s a d (xs ++ slot_line s a d (s.k - j)) (j + 1)
+  print_next h =
+      let l = slot-long (ends_of s a d e) (s.k - j) (omega arith) in
+      let m : suc s.k - j ≡ suc (s.k - j) = omega arith in
+      let n : suc s.k - (j + 1) ≡ s.k - j = omega arith in
+      let line = slot_line s a d (s.k - j) in
+      record {
+        long = omega (arith, p.long, length-append xs line);
+        rest = ap (λ (y : ℕ). (xs ++ line) ++ lines_below s a d y) n
+            ∙ append_assoc xs line (lines_below s a d (s.k - j))
+            ∙ ap (λ (y : List ℕ). xs ++ y) (sym (lines_next s a d (s.k - j)) ∙ ap (lines_below s a d) (sym m))
+            ∙ p.rest;
+      }
 
-pub print_end : {s : Shape} {a d : ℕ} {t : Text} {j : ℕ} → Printed s a d t j → s.k < j → t ≡ text_of (routes_text s a d)
-unfolding joined
-print_end {s} {a} {d} {t} {j} p h =
-    let m : suc s.k - j ≡ 0 = omega arith in
-    p.room.whole
-    ∙ ap text_of (sym (append-nil (shown t)) ∙ ap (λ (n : ℕ). shown t ++ lines_below s a d n) (sym m) ∙ p.rest)
+  pub print_end : s.k < j → xs ≡ routes_text s a d
+  unfolding joined
+  print_end h =
+      let m : suc s.k - j ≡ 0 = omega arith in
+      sym (append-nil xs) ∙ ap (λ (n : ℕ). xs ++ lines_below s a d n) (sym m) ∙ p.rest
 
 -- ---- refusals
 
@@ -168,10 +153,10 @@ module _ (s : Shape) (a d : ℕ) (x : Building) (e : x ≡ build_answer s a d) w
   pub built-few : x.refusal.number < 100
   built-few = omega (arith, built-number, one_le 99 refl (ends-numbers s a d))
 
-  pub text-refused : {t : Text} → x.refusal.number ≢ 0 → t ≡ text_of (refused_line x.refusal.number) → t ≡ text_of (built_text s a d)
+  pub text-refused : x.refusal.number ≢ 0 → refused_line x.refusal.number ≡ built_text s a d
   unfolding built_text
-  text-refused h f =
-      f ∙ ap text_of (answer-refused x.refusal.number (ends_refusal s a d) refused_line (refused_line x.refusal.number) (routes_text s a d) refl built-number h)
+  text-refused h =
+      answer-refused x.refusal.number (ends_refusal s a d) refused_line (refused_line x.refusal.number) (routes_text s a d) refl built-number h
 
   module _ (z : x.refusal.number ≡ 0) where
     pub built_ends : ends_refusal s a d ≡ 0
@@ -182,36 +167,22 @@ module _ (s : Shape) (a d : ℕ) (x : Building) (e : x ≡ build_answer s a d) w
     built-routes =
         ap (λ (y : Building). y.routes) (e ∙ answer-none (ends_refusal s a d) no_building (a_building (set_of (built_arrays s a d))) (sym built_ends))
 
-    pub text-built : {t : Text} → t ≡ text_of (routes_text s a d) → t ≡ text_of (built_text s a d)
+    pub text-built : routes_text s a d ≡ built_text s a d
     unfolding built_text
-    text-built f = f ∙ ap text_of (sym (answer-none (ends_refusal s a d) refused_line (routes_text s a d) (sym built_ends)))
+    text-built = sym (answer-none (ends_refusal s a d) refused_line (routes_text s a d) (sym built_ends))
 
 -- ---- the whole input
 
-on : (b : Bool) (x y : List ℕ) → b ≡ true → cond b x y ≡ x
-on b x y h = rw h
-
-off : (b : Bool) (x y : List ℕ) → b ≡ false → cond b x y ≡ y
-off b x y h = rw h
-
--- the question's own text
-abbrev pub asks_for : Question → List ℕ
-asks_for q = built_text (full_room q.n q.k) q.source q.destination
-
-pub desk_asked : (input : List ℕ) (q : Question) (s : Shape) (t : Text) → q ≡ question_of input → q.taken ≡ true → s ≡ full_room q.n q.k → t ≡ text_of (built_text s q.source q.destination) → t ≡ text_of (desk_text input)
+pub desk_asked : (input : List ℕ) (q : asked.Question) (s : Shape) → as_question (Some q) ≡ question_of input → s ≡ full_room q.n q.k → built_text s q.source q.destination ≡ desk_text input
 unfolding desk_text
-desk_asked input q s t e h g f =
-    f ∙ ap text_of
-    (ap (λ (x : Shape). built_text x q.source q.destination) g
-    ∙ sym (on q.taken (asks_for q) input_line h)
-    ∙ ap (λ (x : Question). cond x.taken (asks_for x) input_line) e)
+desk_asked input q s e g =
+    ap (λ (x : Shape). built_text x q.source q.destination) g
+    ∙ ap (λ (x : Question). cond x.taken (built_text (full_room x.n x.k) x.source x.destination) input_line) e
 
-pub desk_other : (input : List ℕ) (q : Question) (t : Text) → q ≡ question_of input → q.taken ≡ false → t ≡ text_of input_line → t ≡ text_of (desk_text input)
+pub desk_other : (input : List ℕ) → as_question None ≡ question_of input → input_line ≡ desk_text input
 unfolding desk_text
-desk_other input q t e h f =
-    f ∙ ap text_of
-    (sym (off q.taken (asks_for q) input_line h)
-    ∙ ap (λ (x : Question). cond x.taken (asks_for x) input_line) e)
+desk_other input e =
+    ap (λ (x : Question). cond x.taken (built_text (full_room x.n x.k) x.source x.destination) input_line) e
 
 pub set_long : (s : Shape) (a d : ℕ) (r : RouteSet) → ends_refusal s a d ≡ 0 → r ≡ set_of (built_arrays s a d) → length r.bytes ≡ 32
 unfolding set_of filled

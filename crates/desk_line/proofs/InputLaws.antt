@@ -22,10 +22,8 @@ use Rattle.room.proofs.RefusalLaws.{ends_of, link_of}
 use Rattle.room.proofs.NumberLaws.{full-numbers}
 use Rattle.build.specs.Sets.{joined}
 use Rattle.build.proofs.SetLaws.{joined_snoc}
-use Rattle.desk_line.specs.declared.Words.{Words}
-use Rattle.desk_line.specs.declared.TreeQuestion.{TreeQuestion}
 use Rattle.desk_line.specs.Lines.{newline, space, before, line_size}
-use Rattle.desk_line.specs.Numbers.{no_numbers, numbers_of, numbers_in, question_by, question_of, tree_question_by, tree_question_of}
+use Rattle.desk_line.specs.Numbers.{TreeQuestion, Words, no_numbers, numbers_of, numbers_in, question_by, question_of, tree_question_by, tree_question_of}
 use Rattle.desk_line.specs.Texts.{decimal_in, decimal, input_line, refused_line}
 use Rattle.desk_line.specs.Answers.{slot_line, routes_text, built_text, desk_text}
 use Rattle.desk_line.specs.TreeLines.{server_words, parent_words, server_line, lines_of, tree_lines, tree_line, tree_text}

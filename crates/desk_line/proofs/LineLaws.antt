@@ -1,15 +1,20 @@
 -- Laws of lines: the parts of a text before and after a byte, by their lengths.
 use Prim.Native.Nat.{ℕ, suc, ◌+◌, ◌-◌, ◌≤◌, ◌<◌}
-use mathlib.Core.Path.{◌≡◌, refl, sym, ap, ◌∙◌}
+use mathlib.Core.Path.{◌≡◌, refl, sym, ap, subst, ◌∙◌}
 use mathlib.Core.Logic.{◌≢◌}
 use mathlib.Core.List.{List, [], ◌∷◌}
 use native.Mathlib.Numerals.{add-one}
 use native.Mathlib.Omega.{arith}
-use native.Mathlib.Decide.{ℕ_discrete}
-use lib.Dec.{leb}
-use lib.ListN.{length, get_or, take, drop, length-drop, drop_of_length-le}
-use lib.Seq.{drop-cons, take_all, take-nil}
-use borrow.Author.Tests.{eq-eqb, ne_eqb}
+use native.Mathlib.Decide.{ℕ_discrete, dec_lt}
+use lib.Dec.{eqb}
+use lib.ListN.{length, take, drop, length-drop}
+use lib.Seq.{take_all}
+use borrow.Author.Tests.{eq-eqb, ne_eqb, lt-ltb, le-ltb}
+use Rattle.std.specs.Prelude.{Option, None, Some, MatchOption, min, cond, position}
+use Rattle.std.specs.Option.{unwrap_or}
+use Rattle.std.proofs.lemmas.Option.{MatchOption-at_none, MatchOption-at_some}
+use Rattle.std.specs.List.{position_or_len}
+use Rattle.std.proofs.lemmas.List.Recursion.{is_position_or_len}
 use Rattle.desk_line.specs.Lines.{newline, before, after, line_size}
 
 -- ---- one byte
@@ -22,14 +27,6 @@ pub before_more : (c b : ℕ) (bs : List ℕ) → b ≢ c → before c (b ∷ bs
 unfolding before
 before_more c b bs h = rw (ne_eqb b c h)
 
-after_stop : (c b : ℕ) (bs : List ℕ) → b ≡ c → after c (b ∷ bs) ≡ bs
-unfolding after
-after_stop c b bs e = rw (eq-eqb b c e)
-
-after_more : (c b : ℕ) (bs : List ℕ) → b ≢ c → after c (b ∷ bs) ≡ after c bs
-unfolding after
-after_more c b bs h = rw (ne_eqb b c h)
-
 pub size_stop : (b : ℕ) (bs : List ℕ) → b ≡ newline → line_size (b ∷ bs) ≡ 1
 unfolding line_size
 size_stop b bs e = rw (eq-eqb b newline e)
@@ -37,24 +34,6 @@ size_stop b bs e = rw (eq-eqb b newline e)
 pub size_on : (b : ℕ) (bs : List ℕ) → b ≢ newline → line_size (b ∷ bs) ≡ suc (line_size bs)
 unfolding line_size
 size_on b bs h = rw (ne_eqb b newline h)
-
--- ---- from place i on: what is passed, and the part before c of what is left, are the whole part
-
-module _ (c : ℕ) (xs : List ℕ) (i : ℕ) (p : i + length (before c (drop i xs)) ≡ length (before c xs)) where
-  module _ (h : i < length xs) where
-    at_place : length (before c (drop i xs)) ≡ length (before c (get_or xs i 0 ∷ drop (suc i) xs))
-    at_place = ap (λ (l : List ℕ). length (before c l)) (drop-cons xs i 0 h)
-
-    pub before_here : get_or xs i 0 ≡ c → i ≡ length (before c xs)
-    before_here e = omega (arith, p, at_place, ap length (before_stop c (get_or xs i 0) (drop (suc i) xs) e))
-
-    pub before_on : get_or xs i 0 ≢ c → i + 1 + length (before c (drop (i + 1) xs)) ≡ length (before c xs)
-    before_on n =
-        rw (ap (λ (m : ℕ). drop m xs) (add-one i)) (omega (arith, p, at_place, ap length (before_more c (get_or xs i 0) (drop (suc i) xs) n)))
-
-  pub before-end : length xs ≤ i → i ≡ length (before c xs)
-  unfolding before
-  before-end h = omega (arith, p, ap (λ (l : List ℕ). length (before c l)) (drop_of_length-le xs h))
 
 -- ---- the parts as parts of the text
 
@@ -117,33 +96,69 @@ size_without (b ∷ bs) h =
           omega (arith, size_on b bs q, e, size_without bs (omega (arith, e)))
     ]
 
--- ---- as the program finds them, from the length of the part before
+-- ---- the first byte c, as the program searches for it
 
-module _ (c : ℕ) (xs : List ℕ) (e : ℕ) where
-  pub found_le : e ≡ length (before c xs) → e ≤ length xs
-  found_le h = omega (arith, before_le c xs)
+first-at : (c : ℕ) (xs : List ℕ) → length (before c xs) ≡ position_or_len (λ b. eqb b c) xs
+unfolding before
+first-at c = is_position_or_len (λ xs. length (before c xs)) (λ b. eqb b c) refl one
+  where
+    one : (b : ℕ) (bs : List ℕ) → length (before c (b ∷ bs)) ≡ cond (eqb b c) 0 (1 + length (before c bs))
+    one b bs =
+        elim (ℕ_discrete b c) [
+          | yes q ↦ rw (eq-eqb b c q)
+          | no q ↦ rw (ne_eqb b c q) (omega arith)
+        ]
 
-  pub found_before : e ≡ length (before c xs) → take e xs ≡ before c xs
-  found_before h = ap (λ (m : ℕ). take m xs) h ∙ before-take c xs
+-- it stands behind the part before it, or nowhere
+found : (c : ℕ) (xs : List ℕ) → MatchOption (position (λ b. eqb b c) xs) (length xs ≡ length (before c xs)) (λ e. (e ≡ length (before c xs)) × (e < length xs))
+found c xs =
+    elim (dec_lt (position_or_len (λ b. eqb b c) xs) (length xs)) [
+      | yes k ↦ rw (lt-ltb (position_or_len (λ b. eqb b c) xs) (length xs) k) (sym (first-at c xs), k)
+      | no k ↦ let l : length xs ≤ position_or_len (λ b. eqb b c) xs = omega arith in
+          rw (le-ltb (position_or_len (λ b. eqb b c) xs) (length xs) l) (omega (arith, first-at c xs, before_le c xs))
+    ]
 
-  pub found-long : e ≡ length (before c xs) → e ≡ length (take e xs)
-  found-long h = h ∙ sym (ap length (found_before h))
+module _ (c : ℕ) (xs : List ℕ) {o : Option ℕ} (p : o ≡ position (λ b. eqb b c) xs) where
+  pub found-end : {e : ℕ} → e ≡ unwrap_or o (length xs) → e ≡ length (before c xs)
+  found-end f = f ∙ go o (subst (λ (x : Option ℕ). MatchOption x (length xs ≡ length (before c xs)) (λ e. (e ≡ length (before c xs)) × (e < length xs))) (sym p) (found c xs))
+    where
+      go : (x : Option ℕ) → MatchOption x (length xs ≡ length (before c xs)) (λ e. (e ≡ length (before c xs)) × (e < length xs)) → unwrap_or x (length xs) ≡ length (before c xs)
+      go None h = h
+      go (Some e) h = h.0
 
-  pub found_after : e ≡ length (before c xs) → e < length xs → take (length xs - (e + 1)) (drop (e + 1) xs) ≡ after c xs
-  found_after h k =
+  pub found_none : o ≡ None → length xs ≡ length (before c xs)
+  found_none n = MatchOption-at_none _ _ (sym p ∙ n) (found c xs)
+
+  module _ (e : ℕ) (s : o ≡ Some e) where
+    at : (e ≡ length (before c xs)) × (e < length xs)
+    at = MatchOption-at_some _ _ e (sym p ∙ s) (found c xs)
+
+    pub found_within : e < length xs
+    found_within = at.1
+
+    pub found-long : e ≡ length (before c xs)
+    found-long = at.0
+
+pub before_all : (c : ℕ) (xs : List ℕ) → length xs ≡ length (before c xs) → xs ≡ before c xs
+before_all c xs h = sym (take_all (length (before c xs)) xs (omega arith)) ∙ before-take c xs
+
+module _ (c : ℕ) (xs : List ℕ) (e : ℕ) (h : e ≡ length (before c xs)) where
+  pub part_before : take e xs ≡ before c xs
+  part_before = ap (λ (m : ℕ). take m xs) h ∙ before-take c xs
+
+  pub part-after : e < length xs → take (length xs - (e + 1)) (drop (e + 1) xs) ≡ after c xs
+  part-after k =
       let l : length (before c xs) < length xs = omega arith in
       let q : length (drop (e + 1) xs) ≤ length xs - (e + 1) = omega (arith, length-drop (e + 1) xs) in
       take_all (length xs - (e + 1)) (drop (e + 1) xs) q
       ∙ ap (λ (m : ℕ). drop m xs) (add-one e ∙ ap suc h)
       ∙ after-drop c xs l
 
-  pub found_none : e ≡ length (before c xs) → length xs ≤ e → take (length xs - e) (drop e xs) ≡ after c xs
-  found_none h k =
-      let l : length xs ≤ length (before c xs) = omega arith in
-      ap (take (length xs - e)) (drop_of_length-le xs k) ∙ take-nil (length xs - e) ∙ sym (after_none c xs l)
+-- ---- how long the line is, from where it ends
 
-pub fits_with : (xs : List ℕ) (e : ℕ) → e ≡ length (before newline xs) → e < length xs → leb (e + 1) 64 ≡ leb (line_size xs) 64
-fits_with xs e h k = let l : length (before newline xs) < length xs = omega arith in let q : e + 1 ≡ line_size xs = omega (arith, size_with xs l) in ap (λ (m : ℕ). leb m 64) q
-
-pub fits_without : (xs : List ℕ) (e : ℕ) → e ≡ length (before newline xs) → length xs ≤ e → leb e 64 ≡ leb (line_size xs) 64
-fits_without xs e h k = let l : length xs ≤ length (before newline xs) = omega arith in let q : e ≡ line_size xs = omega (arith, size_without xs l) in ap (λ (m : ℕ). leb m 64) q
+pub line-long : (xs : List ℕ) (e : ℕ) → e ≡ length (before newline xs) → min (length xs) (e + 1) ≡ line_size xs
+line-long xs e h =
+    elim (dec_lt e (length xs)) [
+      | yes k ↦ let l : length (before newline xs) < length xs = omega arith in omega (arith, size_with xs l)
+      | no k ↦ let l : length xs ≤ length (before newline xs) = omega arith in omega (arith, size_without xs l, before_le newline xs)
+    ]

@@ -1,67 +1,38 @@
--- Laws of texts: what one byte more, a word more, bytes in hex more and a number more make of an answer.
+-- Laws of texts: what one byte more makes of an answer; bytes in hex and numbers in decimal.
 use Prim.Native.Nat.{ℕ, zero, suc, ◌+◌, ◌-◌, ◌*◌, ◌/◌, ◌%◌, ◌≤◌, ◌<◌}
 use mathlib.Core.Path.{◌≡◌, refl, sym, ap, ap₂, ◌∙◌}
-use mathlib.Core.List.{List, [], ◌∷◌, ◌++◌, append_assoc, append-nil}
+use mathlib.Core.List.{List, [], ◌∷◌, ◌++◌, append_assoc}
 use native.Mathlib.Numerals.{add-one}
 use native.Mathlib.Omega.{arith}
 use native.Mathlib.Decide.{dec_lt}
 use lib.ListN.{length, get_or, set, take, replicate, length-append}
-use lib.Seq.{take-append_seam, take_all, take-suc, length-take-le, set_at}
+use lib.Seq.{take-append_seam, take-suc, length-take-le, set_at}
 use borrow.Author.Tests.{lt-ltb, le-ltb}
 use Rattle.lists.specs.Lists.{filled}
-use Rattle.desk_line.specs.declared.Text.{Text}
-use Rattle.desk_line.specs.Lines.{newline, space}
-use Rattle.desk_line.specs.Texts.{hex_digit, hex_of, decimal_in, decimal, refused_line, route_line, text_of, shown, Room}
-
-abbrev pub text_from : List ℕ → ℕ → Text
-text_from bytes length = record { bytes = bytes; length = length }
+use Rattle.desk_line.specs.declared.texts.Text.TheInside.{Inside}
+use Rattle.desk_line.specs.Lines.{space}
+use Rattle.desk_line.specs.Texts.{hex_digit, hex_of, decimal_in, decimal}
+use Rattle.desk_line.specs.Shown.{text_of, shown, Whole}
 
 -- ---- what an answer holds
 
-pub shown-text : (xs : List ℕ) → shown (text_of xs) ≡ xs
-unfolding shown text_of filled
+abbrev pub text_from : List ℕ → ℕ → Inside
+text_from bytes length = record { bytes = bytes; length = length }
+
+shown-text : (xs : List ℕ) → shown (text_of xs) ≡ xs
+unfolding text_of filled
 shown-text xs = take-append_seam xs (replicate (128 - length xs) 0)
 
-pub shown_of : {t : Text} (xs : List ℕ) → t ≡ text_of xs → shown t ≡ xs
-shown_of xs e = ap shown e ∙ shown-text xs
+-- an answer made of a short text is whole, and shows it
+whole_of : (t : Inside) (xs : List ℕ) → t ≡ text_of xs → length xs ≤ 128 → Whole t
+whole_of t xs e h =
+    let s = ap shown e ∙ shown-text xs in record { same = e ∙ ap text_of (sym s); fits = omega (arith, ap length s) }
 
-pub length_of : (t : Text) (xs : List ℕ) → t ≡ text_of xs → t.length ≡ length xs
-unfolding text_of
-length_of t xs e = ap (λ (u : Text). u.length) e
-
-bytes_of : (t : Text) (xs : List ℕ) → t ≡ text_of xs → t.bytes ≡ filled 128 xs
-unfolding text_of
-bytes_of t xs e = ap (λ (u : Text). u.bytes) e
-
-pub room_of : {t : Text} (xs : List ℕ) (m : ℕ) → t ≡ text_of xs → length xs + m ≤ 128 → Room t m
-room_of {t} xs m e h =
-    let s : shown t ≡ xs = shown_of xs e in
-    record { whole = e ∙ ap text_of (sym s); room = omega (arith, ap length s) }
-
-pub room_less : {t : Text} {m : ℕ} (p : ℕ) → Room t m → p ≤ m → Room t p
-room_less p r h = record { whole = r.whole; room = omega (arith, r.room) }
-
-pub room-length : {t : Text} {m : ℕ} → Room t m → t.length + m ≤ 128
-room-length {t} r = omega (arith, length_of t (shown t) r.whole, r.room)
-
-pub none_yet : text_from (replicate 128 0) 0 ≡ text_of []
+pub no_whole : Whole (text_from (replicate 128 0) 0)
 unfolding text_of filled
-none_yet = refl
+no_whole = record { same = refl; fits = omega arith }
 
--- ---- one after another
-
-pub text_more : {t u : Text} (xs ys : List ℕ) → t ≡ text_of xs → u ≡ text_of (shown t ++ ys) → u ≡ text_of (xs ++ ys)
-text_more xs ys e f = f ∙ ap (λ (l : List ℕ). text_of (l ++ ys)) (shown_of xs e)
-
--- a text made longer twice
-pub text-then : (s : Text) {t u : Text} (xs ys : List ℕ) → t ≡ text_of (shown s ++ xs) → u ≡ text_of (shown t ++ ys) → u ≡ text_of (shown s ++ (xs ++ ys))
-text-then s xs ys e f = text_more (shown s ++ xs) ys e f ∙ ap text_of (append_assoc (shown s) xs ys)
-
--- and the room that is left after the first
-pub room-then : {s t : Text} {m : ℕ} (xs : List ℕ) (p : ℕ) → Room s m → t ≡ text_of (shown s ++ xs) → length xs + p ≤ m → Room t p
-room-then {s} xs p r e h = room_of (shown s ++ xs) p e (omega (arith, length-append (shown s) xs, r.room))
-
-put-filled : (xs : List ℕ) (b : ℕ) → length xs + 1 ≤ 128 → set (filled 128 xs) (length xs) b ≡ filled 128 (xs ++ (b ∷ []))
+put-filled : (xs : List ℕ) (b : ℕ) → length xs < 128 → set (filled 128 xs) (length xs) b ≡ filled 128 (xs ++ (b ∷ []))
 unfolding filled
 put-filled xs b h =
     let e : 128 - length xs ≡ suc (127 - length xs) = omega arith in
@@ -71,30 +42,24 @@ put-filled xs b h =
     ∙ ap (λ (m : ℕ). xs ++ b ∷ replicate m 0) f
     ∙ sym (append_assoc xs (b ∷ []) (replicate (128 - length (xs ++ (b ∷ []))) 0))
 
-pub put_byte : (t : Text) (b : ℕ) → Room t 1 → text_from (set t.bytes t.length b) (t.length + 1) ≡ text_of (shown t ++ (b ∷ []))
-unfolding text_of
-put_byte t b r =
-    let n = length_of t (shown t) r.whole in
-    let q : t.length + 1 ≡ length (shown t ++ (b ∷ [])) = omega (arith, n, length-append (shown t) (b ∷ [])) in
-    ap₂ text_from
-    (ap₂ (λ (l : List ℕ) (i : ℕ). set l i b) (bytes_of t (shown t) r.whole) n ∙ put-filled (shown t) b r.room)
-    q
+module _ (t : Inside) (w : Whole t) where
+  pub shown-long : t.length ≡ length (shown t)
+  unfolding text_of
+  shown-long = ap (λ (u : Inside). u.length) w.same
 
--- ---- a word
+  bytes_is : t.bytes ≡ filled 128 (shown t)
+  unfolding text_of
+  bytes_is = ap (λ (u : Inside). u.bytes) w.same
 
-pub word-start : {t : Text} {m : ℕ} → Room t m → t ≡ text_of (shown t ++ [])
-word-start {t} r = r.whole ∙ ap text_of (sym (append-nil (shown t)))
+  module _ (b : ℕ) (h : length (shown t) < 128) where
+    put : text_from (set t.bytes t.length b) (t.length + 1) ≡ text_of (shown t ++ (b ∷ []))
+    unfolding text_of
+    put =
+        let q : t.length + 1 ≡ length (shown t ++ (b ∷ [])) = omega (arith, shown-long, length-append (shown t) (b ∷ [])) in
+        ap₂ text_from (ap₂ (λ (l : List ℕ) (i : ℕ). set l i b) bytes_is shown-long ∙ put-filled (shown t) b h) q
 
-pub word-step : {t u : Text} (xs w : List ℕ) (i : ℕ) → i < length w → t ≡ text_of (xs ++ take i w) → u ≡ text_of (shown t ++ (get_or w i 0 ∷ [])) → u ≡ text_of (xs ++ take (i + 1) w)
-word-step xs w i h e f =
-    text_more (xs ++ take i w) (get_or w i 0 ∷ []) e f
-    ∙ rw add-one (ap text_of (append_assoc xs (take i w) (get_or w i 0 ∷ []) ∙ ap (λ (l : List ℕ). xs ++ l) (sym (take-suc w i 0 h))))
-
-pub word_end : {t : Text} (xs w : List ℕ) (i : ℕ) → length w ≤ i → t ≡ text_of (xs ++ take i w) → t ≡ text_of (xs ++ w)
-word_end xs w i h e = e ∙ ap (λ (l : List ℕ). text_of (xs ++ l)) (take_all i w h)
-
-pub word_room : {t s : Text} (w : List ℕ) (i : ℕ) → i < length w → Room s (length w) → t ≡ text_of (shown s ++ take i w) → Room t 1
-word_room w i h r e = room-then (take i w) 1 r e (omega (arith, length-take-le i w (omega arith)))
+    pub put_whole : Whole (text_from (set t.bytes t.length b) (t.length + 1))
+    put_whole = whole_of _ (shown t ++ (b ∷ [])) put (omega (arith, length-append (shown t) (b ∷ [])))
 
 -- ---- hex
 
@@ -120,32 +85,26 @@ hex-one : (b : ℕ) → hex_of (b ∷ []) ≡ hex_digit (b / 16) ∷ hex_digit (
 unfolding hex_of
 hex-one b = refl
 
-module _ {s t : Text} (bs : List ℕ) (i : ℕ) (h : i < length bs) (r : Room s (2 * length bs)) (e : t ≡ text_of (shown s ++ hex_of (take i bs))) where
-  two_more : Room t 2
-  two_more = room-then (hex_of (take i bs)) 2 r e (omega (arith, hex-long (take i bs), length-take-le i bs (omega arith)))
+-- one byte more
+pub hex-step : (bs : List ℕ) (i : ℕ) → i < length bs → hex_of (take (i + 1) bs) ≡ hex_of (take i bs) ++ (hex_digit (get_or bs i 0 / 16) ∷ hex_digit (get_or bs i 0 % 16) ∷ [])
+hex-step bs i h =
+    ap hex_of (ap (λ (m : ℕ). take m bs) (add-one i) ∙ take-suc bs i 0 h)
+    ∙ hex-append (take i bs) (get_or bs i 0 ∷ [])
+    ∙ ap (λ (l : List ℕ). hex_of (take i bs) ++ l) (hex-one (get_or bs i 0))
 
-  pub hex-room : Room t 1
-  hex-room = room_less 1 two_more (omega arith)
+-- as the program writes it: the high digit, and the low digit behind it
+module _ (s t bs : List ℕ) (i : ℕ) (h : i < length bs) (r : length s + 2 * length bs ≤ 128) (e : t ≡ s ++ hex_of (take i bs)) where
+  pub hex-room : length t + 2 ≤ 128
+  hex-room =
+      omega (arith, ap length e, length-append s (hex_of (take i bs)), hex-long (take i bs), length-take-le i bs (omega arith))
 
-  module _ {u : Text} (x : ℕ) (f : u ≡ text_of (shown t ++ (x ∷ []))) where
-    pub half_room : Room u 1
-    half_room = room-then (x ∷ []) 1 two_more f (omega arith)
-
-    pub hex-step : {v : Text} (y : ℕ) → x ≡ hex_digit (get_or bs i 0 / 16) → y ≡ hex_digit (get_or bs i 0 % 16) → v ≡ text_of (shown u ++ (y ∷ [])) → v ≡ text_of (shown s ++ hex_of (take (i + 1) bs))
-    hex-step y p q g =
-        let d : x ∷ y ∷ [] ≡ hex_of (get_or bs i 0 ∷ []) = ap₂ (λ (m n : ℕ). m ∷ n ∷ []) p q ∙ sym (hex-one (get_or bs i 0)) in
-        text-then s (hex_of (take i bs)) (x ∷ y ∷ []) e (text-then t (x ∷ []) (y ∷ []) f g)
-        ∙ ap (λ (l : List ℕ). text_of (shown s ++ l))
-        (ap (λ (l : List ℕ). hex_of (take i bs) ++ l) d
-        ∙ sym (hex-append (take i bs) (get_or bs i 0 ∷ []))
-        ∙ ap hex_of (sym (take-suc bs i 0 h) ∙ ap (λ (m : ℕ). take m bs) (sym (add-one i))))
-
-pub hex-start : {t : Text} {m : ℕ} → Room t m → t ≡ text_of (shown t ++ hex_of [])
-unfolding hex_of
-hex-start {t} r = r.whole ∙ ap text_of (sym (append-nil (shown t)))
-
-pub hex-end : {t : Text} (xs bs : List ℕ) (i : ℕ) → length bs ≤ i → t ≡ text_of (xs ++ hex_of (take i bs)) → t ≡ text_of (xs ++ hex_of bs)
-hex-end xs bs i h e = e ∙ ap (λ (l : List ℕ). text_of (xs ++ hex_of l)) (take_all i bs h)
+  pub hex_put : {u v : List ℕ} (x y : ℕ) → x ≡ hex_digit (get_or bs i 0 / 16) → y ≡ hex_digit (get_or bs i 0 % 16) → u ≡ t ++ (x ∷ []) → v ≡ u ++ (y ∷ []) → v ≡ s ++ hex_of (take (i + 1) bs)
+  hex_put x y p q f g =
+      g ∙ ap (λ (l : List ℕ). l ++ (y ∷ [])) (f ∙ ap (λ (l : List ℕ). l ++ (x ∷ [])) e)
+      ∙ append_assoc (s ++ hex_of (take i bs)) (x ∷ []) (y ∷ [])
+      ∙ ap₂ (λ (m n : ℕ). (s ++ hex_of (take i bs)) ++ (m ∷ n ∷ [])) p q
+      ∙ append_assoc s (hex_of (take i bs)) (hex_digit (get_or bs i 0 / 16) ∷ hex_digit (get_or bs i 0 % 16) ∷ [])
+      ∙ ap (λ (l : List ℕ). s ++ l) (sym (hex-step bs i h))
 
 -- ---- numbers in decimal
 
@@ -165,14 +124,14 @@ decimal_enough (suc m) (suc p) x h k =
           rw (le-ltb x 10 l) (ap (λ (ds : List ℕ). ds ++ ((48 + x % 10) ∷ [])) (decimal_enough m p (x / 10) (omega arith) (omega arith)))
     ]
 
-decimal_more : (x : ℕ) → 10 ≤ x → decimal x ≡ decimal (x / 10) ++ ((48 + x % 10) ∷ [])
+pub decimal_more : (x : ℕ) → 10 ≤ x → decimal x ≡ decimal (x / 10) ++ ((48 + x % 10) ∷ [])
 unfolding decimal decimal_in
 decimal_more x h =
     rw (le-ltb x 10 h)
     (ap (λ (ds : List ℕ). ds ++ ((48 + x % 10) ∷ [])) (decimal_enough x (suc (x / 10)) (x / 10) (omega arith) (omega arith)))
 
 -- how many digits there are
-decimal-long : (x : ℕ) → 10 ≤ x → length (decimal x) ≡ suc (length (decimal (x / 10)))
+pub decimal-long : (x : ℕ) → 10 ≤ x → length (decimal x) ≡ suc (length (decimal (x / 10)))
 decimal-long x h = omega (arith, ap length (decimal_more x h), length-append (decimal (x / 10)) ((48 + x % 10) ∷ []))
 
 decimal-next : (x y m : ℕ) → x < 10 * y → (x / 10 < y → length (decimal (x / 10)) ≤ suc m) → length (decimal x) ≤ suc (suc m)
@@ -190,73 +149,26 @@ decimal-four x h =
     decimal-next x 1000 2 h (λ k. decimal-next (x / 10) 100 1 k (λ l. decimal-two (x / 10 / 10) l))
 
 -- as the program writes them: the last digit behind the others
-module _ {s : Text} (x : ℕ) (r : Room s (length (decimal x))) where
-  module _ (h : x < 10) where
-    pub digit_room : Room s 1
-    digit_room = room_less 1 r (omega (arith, ap length (decimal-small x h)))
+module _ (s t : List ℕ) (x : ℕ) (r : length s + length (decimal x) ≤ 128) where
+  module _ (h : 10 ≤ x) (e : t ≡ s ++ decimal (x / 10)) where
+    pub last_room : length t < 128
+    last_room = omega (arith, ap length e, length-append s (decimal (x / 10)), decimal-long x h)
 
-    pub digit-made : {u : Text} → u ≡ text_of (shown s ++ ((48 + x) ∷ [])) → u ≡ text_of (shown s ++ decimal x)
-    digit-made e = e ∙ ap (λ (ds : List ℕ). text_of (shown s ++ ds)) (sym (decimal-small x h))
+    pub last_put : {u : List ℕ} → u ≡ t ++ ((48 + x % 10) ∷ []) → u ≡ s ++ decimal x
+    last_put f =
+        f ∙ ap (λ (l : List ℕ). l ++ ((48 + x % 10) ∷ [])) e
+        ∙ append_assoc s (decimal (x / 10)) ((48 + x % 10) ∷ [])
+        ∙ ap (λ (l : List ℕ). s ++ l) (sym (decimal_more x h))
 
-  module _ (h : 10 ≤ x) where
-    pub high_room : Room s (length (decimal (x / 10)))
-    high_room = room_less (length (decimal (x / 10))) r (omega (arith, decimal-long x h))
+  module _ (h : x < 10) (e : t ≡ s) where
+    pub only_room : length t < 128
+    only_room = omega (arith, ap length e, ap length (decimal-small x h))
 
-    module _ {t : Text} (e : t ≡ text_of (shown s ++ decimal (x / 10))) where
-      pub last_room : Room t 1
-      last_room = room-then (decimal (x / 10)) 1 r e (omega (arith, decimal-long x h))
-
-      pub last_made : {u : Text} → u ≡ text_of (shown t ++ ((48 + x % 10) ∷ [])) → u ≡ text_of (shown s ++ decimal x)
-      last_made f =
-          text-then s (decimal (x / 10)) ((48 + x % 10) ∷ []) e f
-          ∙ ap (λ (ds : List ℕ). text_of (shown s ++ ds)) (sym (decimal_more x h))
-
--- ---- counts and lines
-
-pub count_room : {s t : Text} (x : ℕ) → Room s (suc (length (decimal x))) → t ≡ text_of (shown s ++ decimal x) → Room t 1
-count_room x r e = room-then (decimal x) 1 r e (omega arith)
-
-module _ {s : Text} (bs : List ℕ) (r : Room s 19) (h : length bs ≡ 8) {t : Text} (e : t ≡ text_of (shown s ++ hex_of bs)) where
-  three_more : Room t 3
-  three_more = room-then (hex_of bs) 3 r e (omega (arith, hex-long bs))
-
-  pub route-hex : Room t 1
-  route-hex = room_less 1 three_more (omega arith)
-
-  module _ {u : Text} (f : u ≡ text_of (shown t ++ (space ∷ []))) where
-    pub route-room : (x : ℕ) → x < 10 → Room u (suc (length (decimal x)))
-    route-room x l = room-then (space ∷ []) (suc (length (decimal x))) three_more f (omega (arith, ap length (decimal-small x l)))
-
-    pub routed : {v : Text} (x : ℕ) → v ≡ text_of (shown u ++ (decimal x ++ (newline ∷ []))) → v ≡ text_of (shown s ++ route_line bs x)
-    unfolding route_line
-    routed x g = text-then s (hex_of bs) (space ∷ decimal x ++ (newline ∷ [])) e (text-then t (space ∷ []) (decimal x ++ (newline ∷ [])) f g)
-
--- ---- whole lines
-
-pub first-room : {t : Text} (m : ℕ) → t ≡ text_of [] → m ≤ 128 → Room t m
-first-room m e h = room_of [] m e (omega arith)
-
-pub first_word : {t u : Text} (w : List ℕ) → t ≡ text_of [] → u ≡ text_of (shown t ++ w) → u ≡ text_of w
-first_word w e f = text_more [] w e f
+    pub only_put : {u : List ℕ} → u ≡ t ++ ((48 + x % 10) ∷ []) → u ≡ s ++ decimal x
+    only_put f =
+        let m : x % 10 ≡ x = omega arith in
+        f ∙ ap₂ (λ (l : List ℕ) (n : ℕ). l ++ ((48 + n) ∷ [])) e m ∙ ap (λ (l : List ℕ). s ++ l) (sym (decimal-small x h))
 
 -- "refused "
 abbrev pub refused_word : List ℕ
 refused_word = 114 ∷ 101 ∷ 102 ∷ 117 ∷ 115 ∷ 101 ∷ 100 ∷ space ∷ []
-
-pub refused-room : {t : Text} (r : ℕ) → r < 100 → t ≡ text_of refused_word → Room t (suc (length (decimal r)))
-refused-room r h e = room_of refused_word (suc (length (decimal r))) e (omega (arith, decimal-two r h))
-
-pub refused-made : {t u : Text} (r : ℕ) → t ≡ text_of refused_word → u ≡ text_of (shown t ++ (decimal r ++ (newline ∷ []))) → u ≡ text_of (refused_line r)
-unfolding refused_line
-refused-made r e f = text_more refused_word (decimal r ++ (newline ∷ [])) e f
-
--- ---- an answer's length is that of its text, and lies within its bytes
-
-pub text-within : (t : Text) (xs : List ℕ) → t ≡ text_of xs → t.length ≤ length t.bytes
-unfolding filled
-text-within t xs e =
-    omega (arith, length_of t xs e, ap length (bytes_of t xs e), length-append xs (replicate (128 - length xs) 0))
-
-pub text-long : (t : Text) (xs : List ℕ) → t ≡ text_of xs → t.length ≡ length (take t.length t.bytes)
-unfolding shown
-text-long t xs e = length_of t xs e ∙ sym (ap length (shown_of xs e))

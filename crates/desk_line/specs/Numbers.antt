@@ -1,10 +1,8 @@
 -- The numbers of a line.
-use Rattle.std.specs.Prelude.{ℕ, zero, suc, ◌+◌, ◌-◌, ◌*◌, List, [], ◌∷◌, map, Bool, true, false, cond, ◌&&◌, ltb, leb, length, get_or, replicate}
+use Rattle.std.specs.Prelude.{ℕ, zero, suc, ◌+◌, ◌-◌, ◌*◌, List, [], ◌∷◌, map, Bool, true, false, Option, None, Some, cond, ◌&&◌, ltb, leb, length, get_or, replicate}
 use Rattle.lists.specs.Lists.{filled}
-use Rattle.desk_line.specs.declared.Word.{Word}
-use Rattle.desk_line.specs.declared.Words.{Words}
-use Rattle.desk_line.specs.declared.Question.{Question}
-use Rattle.desk_line.specs.declared.TreeQuestion.{TreeQuestion}
+use Rattle.desk_line.specs.declared.Question as asked
+use Rattle.desk_line.specs.declared.TreeQuestion as tree_asked
 use Rattle.desk_line.specs.Lines.{newline, space, before, after, line_size}
 
 -- whether every byte is a decimal digit
@@ -18,6 +16,11 @@ value_from v [] = v
 value_from v (b ∷ bs) = value_from (10 * v + (b - 48)) bs
 
 -- ---- a word: one digit or more, and not above 65,535
+
+-- a word of a line read as a number; or false and 0
+pub record Word : Type 0 where
+  pub number : Bool
+  pub value : ℕ
 
 abbrev pub no_word : Word
 no_word = record { number = false; value = 0 }
@@ -41,6 +44,11 @@ unfoldable pub all_numbers : List Word → Bool
 all_numbers [] = true
 all_numbers (w ∷ ws) = w.number && all_numbers ws
 
+-- the words of a line read as numbers, at most five, with zeros past the last; or false and zeros
+pub record Words : Type 0 where
+  pub numbers : Bool
+  pub values : List ℕ
+
 -- words that are not all numbers
 abbrev pub no_numbers : Words
 no_numbers = record { numbers = false; values = replicate 5 0 }
@@ -63,6 +71,23 @@ numbers_in m input = cond (leb (line_size input) 64) (numbers_of m (before newli
 abbrev pub value_at : Words → ℕ → ℕ
 value_at r i = get_or r.values i 0
 
+-- the four numbers of the desk's line; or false and zeros
+pub record Question : Type 0 where
+  pub taken : Bool
+  pub n : ℕ
+  pub k : ℕ
+  pub source : ℕ
+  pub destination : ℕ
+
+-- the five numbers of the line of `tree`; or false and zeros
+pub record TreeQuestion : Type 0 where
+  pub taken : Bool
+  pub n : ℕ
+  pub k : ℕ
+  pub m : ℕ
+  pub source : ℕ
+  pub tree : ℕ
+
 -- of the desk: n, k, source and destination
 abbrev pub question_by : Words → Question
 question_by r = record { taken = r.numbers; n = value_at r 0; k = value_at r 1; source = value_at r 2; destination = value_at r 3 }
@@ -77,3 +102,21 @@ tree_question_by r =
 
 unfoldable pub tree_question_of : List ℕ → TreeQuestion
 tree_question_of input = tree_question_by (numbers_in 4 input)
+
+-- ---- each answer of the code, with what it stands for: nothing is false and zeros
+
+abbrev pub as_word : Option ℕ → Word
+as_word None = no_word
+as_word (Some v) = a_word v
+
+abbrev pub as_words : Option (List ℕ) → Words
+as_words None = no_numbers
+as_words (Some vs) = record { numbers = true; values = filled 5 vs }
+
+abbrev pub as_question : Option asked.Question → Question
+as_question None = record { taken = false; n = 0; k = 0; source = 0; destination = 0 }
+as_question (Some q) = record { taken = true; n = q.n; k = q.k; source = q.source; destination = q.destination }
+
+abbrev pub as_tree_question : Option tree_asked.TreeQuestion → TreeQuestion
+as_tree_question None = record { taken = false; n = 0; k = 0; m = 0; source = 0; tree = 0 }
+as_tree_question (Some q) = record { taken = true; n = q.n; k = q.k; m = q.m; source = q.source; tree = q.tree }

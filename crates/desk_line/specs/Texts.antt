@@ -1,7 +1,5 @@
--- Texts: bytes in ASCII, and the answer that holds them.
-use Rattle.std.specs.Prelude.{ℕ, zero, suc, ◌+◌, ◌/◌, ◌%◌, ◌≤◌, ◌≡◌, List, [], ◌∷◌, ◌++◌, cond, ltb, length, take}
-use Rattle.lists.specs.Lists.{filled}
-use Rattle.desk_line.specs.declared.Text.{Text}
+-- Texts: bytes in ASCII.
+use Rattle.std.specs.Prelude.{ℕ, zero, suc, ◌+◌, ◌/◌, ◌%◌, List, [], ◌∷◌, ◌++◌, cond, ltb}
 use Rattle.desk_line.specs.Lines.{newline, space}
 
 -- ---- numbers
@@ -37,18 +35,3 @@ refused_line r = 114 ∷ 101 ∷ 102 ∷ 117 ∷ 115 ∷ 101 ∷ 100 ∷ space �
 -- a route's bytes in hex, a space, its hops and a newline
 unfoldable pub route_line : List ℕ → ℕ → List ℕ
 route_line bytes hops = hex_of bytes ++ (space ∷ decimal hops ++ (newline ∷ []))
-
--- ---- the answer that holds a text
-
--- a text in 128 bytes, with zeros past its end, and its length
-unfoldable pub text_of : List ℕ → Text
-text_of xs = record { bytes = filled 128 xs; length = length xs }
-
--- the text that an answer holds
-unfoldable pub shown : Text → List ℕ
-shown t = take t.length t.bytes
-
--- an answer with zeros past its text, and room for m bytes more
-pub record Room (t : Text) (m : ℕ) : Type 0 where
-  pub whole : t ≡ text_of (shown t)
-  pub room : length (shown t) + m ≤ 128

@@ -8,9 +8,8 @@ use Rattle.room.specs.Addresses.{digits}
 use Rattle.room.specs.Refusals.{link_refusal}
 use Rattle.trees.specs.Trees.{parent_of}
 use Rattle.build.specs.Sets.{joined}
-use Rattle.desk_line.specs.declared.TreeQuestion.{TreeQuestion}
 use Rattle.desk_line.specs.Lines.{newline, space}
-use Rattle.desk_line.specs.Numbers.{tree_question_of}
+use Rattle.desk_line.specs.Numbers.{TreeQuestion, tree_question_of}
 use Rattle.desk_line.specs.Texts.{decimal, input_line, refused_line}
 
 -- ---- a server

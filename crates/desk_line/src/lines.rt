@@ -1,50 +1,35 @@
-// The first line of an input, and the parts of a text before and after a byte.
-ghost use Rattle.std.specs.Prelude.{◌≡◌, leb, length};
-ghost use Rattle.desk_line.specs.Lines.{before, after, line_size};
+// The first line of an input, and the first word of a line.
+ghost use Rattle.std.specs.Prelude.{◌≡◌, ◌<◌, ◌≤◌, ◌==◌, length, position, MatchOption};
+ghost use Rattle.desk_line.specs.Lines.{newline, space, before, after, line_size};
 
-use crate::Words;
+use crate::MOST_LINE;
 
-// How many bytes stand before the first that is `stop`; all of them where none is.
-fn length_before(text: &[u8], stop: u8) -> usize
-    ensures { result ≡ length (before stop text.now) }
+// The place of the first byte that is `stop`.
+fn place_of(text: &[u8], stop: u8) -> Option<usize>
+    ensures { result ≡ position (λ byte. byte == stop) text.now }
 {
-    let mut i: usize = 0;
-    while i < text.len() {
-        if text[i] == stop {
-            return i;
-        }
-        i += 1;
-    }
-    i
+    text.iter().position(|byte| *byte == stop)
 }
 
-// The part of a text before the first byte that is `stop`; all of it where none is.
-pub(crate) fn part_before(text: &[u8], stop: u8) -> &[u8]
-    ensures { result.now ≡ before stop text.now }
+// The first line of an input without its newline, where it is short enough: the newline counts, and may be missing.
+pub(crate) fn line_of(input: &[u8]) -> Option<&[u8]>
+    ensures { MatchOption result (64 < line_size input.now) (λ line. (line_size input.now ≤ 64) × (line.now ≡ before newline input.now)) }
 {
-    let end = length_before(text, stop);
-    &text[..end]
+    let end = place_of(input, b'\n').unwrap_or(input.len());
+    if MOST_LINE < input.len().min(end + 1) {
+        return None;
+    }
+    Some(&input[..end])
 }
 
-// The part of a text after the first byte that is `stop`; nothing where none is.
-pub(crate) fn part_after(text: &[u8], stop: u8) -> &[u8]
-    ensures { result.now ≡ after stop text.now }
+// The first word of a line, and what follows the space behind it, where it has one.
+// Not `split`: the check refuses a loop's invariant beside its closure in a function with a const parameter.
+pub(crate) fn first_word(line: &[u8]) -> (&[u8], Option<&[u8]>)
+    ensures word { result.0.now ≡ before space line.now }
+    ensures rest { MatchOption result.1 (length line.now ≤ length (before space line.now)) (λ rest. (length (before space line.now) < length line.now) × (rest.now ≡ after space line.now)) }
 {
-    let end = length_before(text, stop);
-    if end < text.len() {
-        let start = end + 1;
-        return &text[start..];
+    match place_of(line, b' ') {
+        None => (line, None),
+        Some(end) => (&line[..end], Some(&line[end + 1..])),
     }
-    &text[end..]
-}
-
-// Whether the first line of an input is short enough: its newline counts, and may be missing.
-pub(crate) fn line_fits(input: &[u8]) -> bool
-    ensures { result ≡ leb (line_size input.now) 64 }
-{
-    let end = length_before(input, b'\n');
-    if end < input.len() {
-        return end + 1 <= Words::MOST_LINE;
-    }
-    end <= Words::MOST_LINE
 }

@@ -1,124 +1,82 @@
 // The numbers of a line.
-ghost use Rattle.std.specs.Prelude.{◌≡◌, ◌<◌};
-ghost use Rattle.desk_line.specs.Numbers.{no_word, word_of, no_numbers, numbers_of, numbers_in, question_of, tree_question_of};
+ghost use Rattle.std.specs.Prelude.{◌≡◌, ◌-◌, ◌<◌, ◌≤◌};
+ghost use Rattle.desk_line.specs.Numbers.{word_of, numbers_of, numbers_in, question_of, tree_question_of, as_word, as_words, as_question, as_tree_question};
 
-use crate::lines::{line_fits, part_after, part_before};
-use crate::{Question, TreeQuestion, Word, Words};
-
-// A word that is no number.
-fn no_word() -> Word
-    ensures { result ≡ no_word }
-{
-    Word {
-        number: false,
-        value: 0,
-    }
-}
+use crate::lines::{first_word, line_of};
+use crate::{MOST_NUMBER, Question, TreeQuestion};
 
 // A word read as a decimal number.
-fn number_of(word: &[u8]) -> Word
-    ensures { result ≡ word_of word.now }
+fn number_of(word: &[u8]) -> Option<usize>
+    ensures { as_word result ≡ word_of word.now }
 {
-    if word.len() == 0 {
-        return no_word();
+    if word.is_empty() {
+        return None;
     }
-    let mut value: usize = 0;
-    let mut i: usize = 0;
-    while i < word.len() {
-        let byte = word[i];
-        if byte < b'0' {
-            return no_word();
+    let mut value = 0;
+    // not `parse`, which takes a sign as well: a number of a line has none
+    for byte in word {
+        if !byte.is_ascii_digit() {
+            return None;
         }
-        if b'9' < byte {
-            return no_word();
+        value = 10 * value + usize::from(*byte - b'0');
+        if MOST_NUMBER < value {
+            return None;
         }
-        value = 10 * value + (byte - b'0') as usize;
-        if Words::MOST_NUMBER < value {
-            return no_word();
-        }
-        i += 1;
     }
-    Word {
-        number: true,
-        value,
+    Some(value)
+}
+
+// The numbers of a line without its newline, where it has so many: its words are cut at single spaces.
+fn numbers_of<const N: usize>(line: &[u8]) -> Option<[usize; N]>
+    requires some { 0 < N }
+    requires few { N ≤ 5 }
+    ensures { as_words result ≡ numbers_of (N - 1) line.now }
+{
+    let mut values = [0; N];
+    let mut rest = Some(line);
+    for value in &mut values {
+        let (word, after) = first_word(rest?);
+        *value = number_of(word)?;
+        rest = after;
+    }
+    match rest {
+        None => Some(values),
+        Some(_) => None,
     }
 }
 
-// Words that are not all numbers.
-fn no_numbers() -> Words
-    ensures { result ≡ no_numbers }
+// The numbers of the first line of an input, where it has so many.
+fn numbers_in<const N: usize>(input: &[u8]) -> Option<[usize; N]>
+    requires some { 0 < N }
+    requires few { N ≤ 5 }
+    ensures { as_words result ≡ numbers_in (N - 1) input.now }
 {
-    Words {
-        numbers: false,
-        values: [0; 5],
-    }
+    numbers_of(line_of(input)?)
 }
 
-// The numbers of a line without its newline that has so many spaces: one before each, and one behind the last.
-fn numbers_of(line: &[u8], spaces: usize) -> Words
-    requires { spaces < 5 }
-    ensures { result ≡ numbers_of spaces line.now }
+// The four numbers of the desk's line: n, k, source and destination. README names this and the next, one for each program.
+pub fn question_of(input: &[u8]) -> Option<Question>
+    ensures { as_question result ≡ question_of input.now }
 {
-    let mut values: [usize; 5] = [0; 5];
-    let mut rest = line;
-    let mut place: usize = 0;
-    while place < spaces {
-        let word = number_of(part_before(rest, b' '));
-        if !word.number {
-            return no_numbers();
-        }
-        values[place] = word.value;
-        let next = part_after(rest, b' ');
-        rest = next;
-        place += 1;
-    }
-    let last = number_of(rest);
-    if !last.number {
-        return no_numbers();
-    }
-    values[place] = last.value;
-    Words {
-        numbers: true,
-        values,
-    }
-}
-
-// The numbers of the first line of an input, where it has so many spaces.
-fn numbers_in(input: &[u8], spaces: usize) -> Words
-    requires { spaces < 5 }
-    ensures { result ≡ numbers_in spaces input.now }
-{
-    if line_fits(input) {
-        return numbers_of(part_before(input, b'\n'), spaces);
-    }
-    no_numbers()
-}
-
-// The four numbers of the desk's line: n, k, source and destination.
-pub fn question_of(input: &[u8]) -> Question
-    ensures { result ≡ question_of input.now }
-{
-    let read = numbers_in(input, 3);
-    Question {
-        taken: read.numbers,
-        n: read.values[0],
-        k: read.values[1],
-        source: read.values[2],
-        destination: read.values[3],
-    }
+    let [n, k, source, destination] = numbers_in::<4>(input)?;
+    Some(Question {
+        n,
+        k,
+        source,
+        destination,
+    })
 }
 
 // The five numbers of the line of `tree`: n, k, m, source and tree.
-pub fn tree_question_of(input: &[u8]) -> TreeQuestion
-    ensures { result ≡ tree_question_of input.now }
+pub fn tree_question_of(input: &[u8]) -> Option<TreeQuestion>
+    ensures { as_tree_question result ≡ tree_question_of input.now }
 {
-    let read = numbers_in(input, 4);
-    TreeQuestion {
-        taken: read.numbers,
-        n: read.values[0],
-        k: read.values[1],
-        m: read.values[2],
-        source: read.values[3],
-        tree: read.values[4],
-    }
+    let [n, k, m, source, tree] = numbers_in::<5>(input)?;
+    Some(TreeQuestion {
+        n,
+        k,
+        m,
+        source,
+        tree,
+    })
 }

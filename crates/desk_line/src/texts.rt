@@ -1,46 +1,125 @@
 // A text made longer, byte after byte.
-ghost use Rattle.std.specs.Prelude.{◌≡◌, [], ◌∷◌, ◌++◌, suc, ◌*◌, ◌<◌, length};
-ghost use Rattle.desk_line.specs.Texts.{hex_digit, hex_of, decimal, input_line, refused_line, route_line, text_of, shown, Room};
+ghost use Rattle.std.specs.Prelude.{◌≡◌, [], ◌∷◌, ◌++◌, ◌+◌, ◌*◌, ◌<◌, ◌≤◌, length};
+ghost use Rattle.desk_line.specs.Texts.{hex_digit, hex_of, decimal, input_line, refused_line, route_line};
 
-use crate::Text;
+use std::marker::Model;
 
-// The text with nothing in it.
-pub(crate) fn no_text() -> Text
-    ensures { result ≡ text_of [] }
-{
-    Text {
-        bytes: [0; 128],
-        length: 0,
-    }
+// A text of at most 128 bytes, with zeros past its end: fixed memory, since there is no heap. A clause sees the bytes that it shows.
+#[derive(Clone, Copy)]
+pub struct Text {
+    bytes: [u8; 128],
+    length: usize,
 }
 
-// The text with a byte after it.
-pub(crate) fn with_byte(text: Text, byte: u8) -> Text
-    requires { Room text 1 }
-    ensures { result ≡ text_of (shown text ++ (byte ∷ [])) }
-{
-    let length = text.length;
-    let mut bytes = text.bytes;
-    bytes[length] = byte;
-    Text {
-        bytes,
-        length: length + 1,
-    }
+impl Model for Text {
+    ghost use Rattle.std.specs.Prelude.{ℕ, List};
+    ghost use Rattle.std.proofs.Common.{sym};
+
+    ghost Value = { List ℕ };
+
+    ghost use Rattle.desk_line.specs.Shown.{shown, text_of, Whole};
+
+    ghost view = { shown };
+
+    ghost invariant = { Whole };
+
+    ghost inverse = { text_of };
+
+    ghost inverse_ok = { λ t h. sym h.same };
 }
 
-// The text with all bytes of a word after it.
-pub(crate) fn with_word(text: Text, word: &[u8]) -> Text
-    requires { Room text (length word.now) }
-    ensures { result ≡ text_of (shown text ++ word.now) }
-{
-    let mut longer = text;
-    let mut i: usize = 0;
-    while i < word.len() {
-        let next = with_byte(longer, word[i]);
-        longer = next;
-        i += 1;
+impl Text {
+    // The text with nothing in it.
+    pub(crate) fn new() -> Self
+        ensures { result ≡ [] }
+    {
+        Text {
+            bytes: [0; 128],
+            length: 0,
+        }
     }
-    longer
+
+    // "input" and a newline.
+    pub(crate) fn input() -> Self
+        ensures { result ≡ input_line }
+    {
+        let mut text = Text::new();
+        text.push_word(b"input\n");
+        text
+    }
+
+    // "refused ", a number below 100 and a newline.
+    pub(crate) fn refused(number: usize) -> Self
+        requires { number < 100 }
+        ensures { result ≡ refused_line number }
+    {
+        let mut text = Text::new();
+        text.push_word(b"refused ");
+        text.push_decimal(number);
+        text.push(b'\n');
+        text
+    }
+
+    // The bytes of the text.
+    pub fn shown(&self) -> &[u8]
+        ensures { result.now ≡ self.now }
+    {
+        &self.bytes[..self.length]
+    }
+
+    // Puts a byte behind the text.
+    pub(crate) fn push(&mut self, byte: u8)
+        requires { length self.old < 128 }
+        ensures { self.new ≡ self.old ++ byte ∷ [] }
+    {
+        self.bytes[self.length] = byte;
+        self.length += 1;
+    }
+
+    // Puts all bytes of a word behind the text.
+    pub(crate) fn push_word(&mut self, word: &[u8])
+        requires { length self.old + length word.now ≤ 128 }
+        ensures { self.new ≡ self.old ++ word.now }
+    {
+        for byte in word {
+            self.push(*byte);
+        }
+    }
+
+    // Puts bytes in hex behind the text, the high digit of each first.
+    fn push_hex(&mut self, bytes: &[u8])
+        requires { length self.old + 2 * length bytes.now ≤ 128 }
+        ensures { self.new ≡ self.old ++ hex_of bytes.now }
+    {
+        for byte in bytes {
+            self.push(hex_digit(*byte / 16));
+            self.push(hex_digit(*byte % 16));
+        }
+    }
+
+    // Puts a number in decimal behind the text.
+    pub(crate) fn push_decimal(&mut self, number: usize)
+        requires { length self.old + length (decimal number) ≤ 128 }
+        ensures { self.new ≡ self.old ++ decimal number }
+    {
+        if 10 <= number {
+            self.push_decimal(number / 10);
+        }
+        self.push(b'0' + (number % 10) as u8);
+    }
+
+    // Puts a route's line behind the text: eight bytes in hex, a space and the hops, fewer than 10.
+    pub(crate) fn push_route(&mut self, route: &[u8], hops: usize)
+        requires room { length self.old + 19 ≤ 128 }
+        requires array { length route.now ≡ 8 }
+        requires few { hops < 10 }
+        ensures { self.new ≡ self.old ++ route_line route.now hops }
+    {
+        self.push_hex(route);
+        self.push(b' ');
+        self.push_decimal(hops);
+        self.push(b'\n');
+    }
 }
 
 // A number below 16 as a hex digit.
@@ -48,72 +127,5 @@ fn hex_digit(x: u8) -> u8
     requires { x < 16 }
     ensures { result ≡ hex_digit x }
 {
-    if x < 10 {
-        return b'0' + x;
-    }
-    b'a' - 10 + x
-}
-
-// The text with bytes in hex after it, the high digit of each first.
-fn with_hex(text: Text, bytes: &[u8]) -> Text
-    requires { Room text (2 * length bytes.now) }
-    ensures { result ≡ text_of (shown text ++ hex_of bytes.now) }
-{
-    let mut longer = text;
-    let mut i: usize = 0;
-    while i < bytes.len() {
-        let byte = bytes[i];
-        let half = with_byte(longer, hex_digit(byte / 16));
-        let next = with_byte(half, hex_digit(byte % 16));
-        longer = next;
-        i += 1;
-    }
-    longer
-}
-
-// The text with a number in decimal after it.
-pub(crate) fn with_decimal(text: Text, number: usize) -> Text
-    requires { Room text (length (decimal number)) }
-    ensures { result ≡ text_of (shown text ++ decimal number) }
-{
-    if number < 10 {
-        return with_byte(text, b'0' + number as u8);
-    }
-    let high = with_decimal(text, number / 10);
-    with_byte(high, b'0' + (number % 10) as u8)
-}
-
-// The text with a number in decimal and a newline after it.
-fn with_count(text: Text, count: usize) -> Text
-    requires { Room text (suc (length (decimal count))) }
-    ensures { result ≡ text_of (shown text ++ (decimal count ++ (10 ∷ []))) }
-{
-    let number = with_decimal(text, count);
-    with_byte(number, b'\n')
-}
-
-// "input" and a newline.
-pub(crate) fn input_text() -> Text
-    ensures { result ≡ text_of input_line }
-{
-    with_word(no_text(), b"input\n")
-}
-
-// "refused ", a number below 100 and a newline.
-pub(crate) fn refused_text(number: usize) -> Text
-    requires { number < 100 }
-    ensures { result ≡ text_of (refused_line number) }
-{
-    let word = with_word(no_text(), b"refused ");
-    with_count(word, number)
-}
-
-// The text with a route's line after it: eight bytes in hex, a space and the hops, fewer than 10.
-pub(crate) fn with_route(text: Text, route: &[u8], hops: usize) -> Text
-    requires { Room text 19 × (length route.now ≡ 8) × (hops < 10) }
-    ensures { result ≡ text_of (shown text ++ route_line route.now hops) }
-{
-    let hex = with_hex(text, route);
-    let gap = with_byte(hex, b' ');
-    with_count(gap, hops)
+    if x < 10 { b'0' + x } else { b'a' - 10 + x }
 }

@@ -1,5 +1,4 @@
 pub mod WordLaws
-pub mod CallLaws
 pub mod ShapeLaws
 pub mod RoomSmall
 pub mod TreeSmall

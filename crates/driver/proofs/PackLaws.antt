@@ -9,13 +9,13 @@ use native.Mathlib.Decide.{ℕ_discrete}
 use lib.ListN.{length, get_or, replicate}
 use lib.Dec.{eqb, lit<, lit≤}
 use borrow.Author.Tests.{eq-eqb, ne_eqb}
-use Rattle.refusals.specs.declared.Refusal.{Refusal}
+use Rattle.refusals.specs.Refusals.{Refusal}
 use Rattle.refusals.specs.Refusals.{plain, refused_at, answer}
 use Rattle.refusals.proofs.NumberLaws.{one_le}
 use Rattle.room.specs.declared.Shape.{Shape}
 use Rattle.path.specs.Routes.{byte_of, level_of, value_of}
 use Rattle.path.proofs.HopLaws.{byte-apart, hop-level-low, hop-old-low, hop-server}
-use Rattle.step.specs.declared.Step.{Step}
+use Rattle.step.specs.Told.{Step}
 use Rattle.step.specs.Steps.{entry, mac_at, port_at, step_refusal, at_hop, with_place, no_step, delivery, forwarded, step_answer}
 use Rattle.step.proofs.NumberLaws.{step-numbers}
 use Rattle.step.proofs.StepLaws.{with_place-number, hop_le, goes_of}
@@ -224,9 +224,6 @@ step-whole s a d i bs e =
     (λ z away. record { refused = λ m. absurd (m refl); arrived = λ t. cc; passed = λ z. refl })
 
 module _ (s : Shape) (a d i : ℕ) (bs e : List ℕ) (x : Step) (found : x ≡ step_answer s a d i bs e) where
-  pub found-fits : Fits x
-  found-fits = subst Fits (sym found) (step_fits s a d i bs e)
-
   whole : Whole x
   whole = subst Whole (sym found) (step-whole s a d i bs e)
 
@@ -252,3 +249,7 @@ module _ (s : Shape) (a d i : ℕ) (bs e : List ℕ) (x : Step) (found : x ≡ s
         let q = whole.passed z in
         let w : 16777216 * x.index + 4294967296 * x.next + 281474976710656 * p + 72057594037927936 * (64 * x.level + x.old) ≡ step_word x = omega arith in
         told _ (ap₂ (λ (u v : ℕ). record { word = u; mac = v }) w hm)
+
+-- a refused step's word by the number that the code asks of its reason
+pub refused-pack : (h : ℕ) {n m : ℕ} {y : Stepped} → n ≡ m → ◌≡◌ {A = Stepped} (record { word = m + 256 * h; mac = 0 }) y → ◌≡◌ {A = Stepped} (record { word = n + 256 * h; mac = 0 }) y
+refused-pack h e f = ap (λ (x : ℕ). record { word = x + 256 * h; mac = 0 }) e ∙ f

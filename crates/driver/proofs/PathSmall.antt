@@ -7,7 +7,7 @@ use mathlib.Core.List.{List, [], ◌∷◌, ◌++◌, map}
 use lib.Dec.{eqb, lit≤, lit<}
 use lib.ListN.{length, drop}
 use Rattle.lists.proofs.ListLaws.{length_snoc}
-use Rattle.refusals.specs.declared.Refusal.{Refusal}
+use Rattle.refusals.specs.Refusals.{Refusal}
 use Rattle.refusals.specs.Refusals.{refusal, plain, refused_at, of_route, answer}
 use Rattle.refusals.proofs.NumberLaws.{one_le}
 use Rattle.room.specs.declared.Shape.{Shape}
@@ -16,10 +16,10 @@ use Rattle.room.specs.Refusals.{shape_refusal, server_refusal}
 use Rattle.room.proofs.NumberLaws.{shape-numbers, server-numbers}
 use Rattle.room.proofs.RefusalLaws.{server_of}
 use Rattle.room.proofs.RoomLaws.{bound_le}
-use Rattle.path.specs.declared.Walked.{Walked}
-use Rattle.path.specs.declared.Writing.{Writing}
-use Rattle.path.specs.declared.Parts.{Parts}
-use Rattle.path.specs.declared.Hop.{Hop}
+use Rattle.path.specs.Told.{Walked}
+use Rattle.path.specs.Told.{Writing}
+use Rattle.path.specs.Told.{Parts}
+use Rattle.path.specs.Told.{Hop}
 use Rattle.path.specs.Bytes.{made_refusal, byte_answer, parts_refusal, no_parts, some_parts, parts_answer}
 use Rattle.path.specs.Routes.{byte_of, switch_at, switch_to, level_of, value_of}
 use Rattle.path.specs.Walks.{Walk, stopped, arrived, hop_to, hop_refusal, stops_at, fault, ended, walk_from, walk, write_fault, write_from}
@@ -66,7 +66,7 @@ pub record PartsFit (x : Parts) : Type 0 where
   pub value : x.value < 64
   pub small : Small x.refusal (256 * x.level + x.value)
 
-parts_small : (s : Shape) (b : ℕ) → PartsFit (parts_answer s b)
+pub parts_small : (s : Shape) (b : ℕ) → PartsFit (parts_answer s b)
 unfolding parts_answer
 parts_small s b =
     answer_so PartsFit (shape_refusal s) (λ r. no_parts (plain r)) _
@@ -90,7 +90,7 @@ pub record HopFit (x : Hop) : Type 0 where
   pub old : x.old < 64
   pub small : Small x.refusal (x.next + 65536 * byte_of x.level x.old)
 
-hop-small : (s : Shape) (a b : ℕ) → HopFit (hop_answer s a b)
+pub hop-small : (s : Shape) (a b : ℕ) → HopFit (hop_answer s a b)
 unfolding hop_answer hop_from byte_of
 hop-small s a b =
     answer_so HopFit (server_refusal s a) (λ r. no_hop (plain r)) _
@@ -270,3 +270,7 @@ check-small s t a d bs =
     first_small (first_stop 1 W) (first_pair 1 W)
     (stop_small s t a d 1 (arrays m bs) (omega (arith, f.most)))
     (pair_small s t a d 1 (arrays m bs) (omega (arith, f.most))))
+
+-- ---- what the numbers of the answers are below
+
+pub ruleset path_numbers = (byte_small, parts_small, hop-small, read_small, reverse-small, write-small, check-small)

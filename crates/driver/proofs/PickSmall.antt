@@ -14,7 +14,7 @@ use Rattle.room.specs.declared.Shape.{Shape}
 use Rattle.room.specs.Refusals.{ends_refusal}
 use Rattle.room.proofs.RefusalLaws.{ends_of}
 use Rattle.links.specs.Table.{table_refusal, room_refusal}
-use Rattle.pick.specs.declared.Place.{Place}
+use Rattle.pick.specs.Told.{Place}
 use Rattle.pick.specs.Picks.{fits, lists_refusal, Source, in_fresh, in_kept, nowhere, pick_source, pick_refusal}
 use Rattle.pick.specs.Chosen.{Chosen}
 use Rattle.pick.specs.Places.{place_of, place_answer}

@@ -8,12 +8,12 @@ use mathlib.Core.List.{List, [], ◌∷◌}
 use lib.Dec.{lit<, lit≤}
 use lib.ListN.{length}
 use Rattle.lists.specs.Lists.{filled}
-use Rattle.refusals.specs.declared.Refusal.{Refusal}
+use Rattle.refusals.specs.Refusals.{Refusal}
 use Rattle.refusals.specs.Refusals.{plain, answer}
 use Rattle.refusals.proofs.NumberLaws.{one_le}
 use Rattle.room.specs.declared.Shape.{Shape}
-use Rattle.room.specs.declared.Digits.{Digits}
-use Rattle.room.specs.declared.Between.{Between}
+use Rattle.room.specs.Told.{Digits}
+use Rattle.room.specs.Told.{Between}
 use Rattle.room.specs.Digits.{address_of}
 use Rattle.room.specs.Shapes.{servers_of, bound, Server, Link}
 use Rattle.room.specs.Addresses.{digits, digit, with_digit, switch_of, switches_at, differing}
@@ -22,11 +22,11 @@ use Rattle.room.specs.Answers.{no_digits, some_digits, no_switch, a_switch, no_b
 use Rattle.room.specs.Wiring.{server_at, port_refusal, switches_answer, server_at_answer}
 use Rattle.room.proofs.RefusalLaws.{valid_of, level-of, pair_of, link_of, value-of, places_of}
 use Rattle.room.proofs.NumberLaws.{shape-numbers, level-numbers, server-numbers, pair_numbers, link-numbers, value-numbers, places-numbers, port-numbers}
-use Rattle.room.proofs.FourPlaces.{sums}
+use Rattle.room.proofs.FourPlaces.{four_small}
 use Rattle.room.proofs.RoomLaws as rooms
 use Rattle.room.proofs.RoomLaws.{bound_le, digit_lt, with_server, neighbours-exactly, places_below}
 use Rattle.room.proofs.WiringLaws.{port_of, port-server}
-use Rattle.links.specs.declared.Asked.{Asked}
+use Rattle.links.specs.Told.{Asked}
 use Rattle.links.specs.Table.{failed, table_link_refusal}
 use Rattle.links.specs.Answers.{not_asked, asked, failed_answer}
 use Rattle.links.proofs.NumberLaws.{table-link-numbers}
@@ -41,9 +41,6 @@ plain_with r v h k = record { number = omega arith; route = lit< tt; hop = lit< 
 
 pub plain_fits : {r q : ℕ} {x : Refusal} (v : ℕ) → q ≤ 255 → v < 4294967296 → r ≡ q → x ≡ plain r → Small x v
 plain_fits {r} {q} {x} v h k e g = subst (λ (z : Refusal). Small z v) (sym (g ∙ ap plain e)) (plain_with q v h k)
-
-pub plain_said : (f : Shape → ℕ) {s t : Shape} {r : ℕ} {x : Refusal} {w : Answer} → w ≡ word x 0 → x ≡ plain r → r ≡ f s → s ≡ t → w ≡ word (plain (f t)) 0
-plain_said f {s} {t} {r} {x} {w} h e g k = h ∙ ap (λ (z : Refusal). word z 0) (e ∙ ap plain (g ∙ ap f k))
 
 -- ---- numbers
 
@@ -85,7 +82,7 @@ address-small s ds e =
     number_small (places_refusal s ds) (address_of s.n ds) (one_le 255 refl (places-numbers s ds))
     (λ z.
     let p = places_of s ds z in
-    omega (arith, (sums s.n ds p.valid.ports (places_below p) e).whole-fits))
+    omega (arith, four_small s.n ds p.valid.ports (places_below p) e))
 
 pub neighbour-small : (s : Shape) (a l v : ℕ) → Small (neighbour_answer s a l v).refusal (neighbour_answer s a l v).value
 unfolding neighbour_answer
@@ -196,3 +193,7 @@ pub live_said : (f : Shape → Asked) {s t : Shape} {x : Asked} {w : Answer} →
 unfolding asked_word
 live_said f {s} {t} {x} {w} h q e g =
     h ∙ ap (λ (b : Bool). word x.refusal (cond b 1 0)) (sym q) ∙ ap asked_word (e ∙ ap f g)
+
+-- ---- what the numbers of a room are below
+
+pub ruleset room_numbers = (servers-small, bound-small, switches-small, server-at-small, digit-small, address-small, neighbour-small, switch-small)

@@ -7,7 +7,7 @@ use mathlib.Core.Logic.{⊎_elim}
 use mathlib.Core.List.{List, [], ◌∷◌, map}
 use lib.ListN.{length}
 use lib.Dec.{lit≤}
-use Rattle.refusals.specs.declared.Refusal.{Refusal}
+use Rattle.refusals.specs.Refusals.{Refusal}
 use Rattle.refusals.specs.Refusals.{plain, answer}
 use Rattle.refusals.proofs.NumberLaws.{one_le}
 use Rattle.room.specs.declared.Shape.{Shape}
@@ -19,21 +19,19 @@ use Rattle.links.specs.Table.{room_refusal}
 use Rattle.links.proofs.TableLaws.{room_of}
 use Rattle.links.proofs.NumberLaws.{room-numbers}
 use Rattle.path.specs.Routes.{encode}
-use Rattle.build.specs.declared.Building.{Building}
+use Rattle.build.specs.Told.{Building}
 use Rattle.build.specs.declared.RouteSet.{RouteSet}
 use Rattle.build.specs.Built.{built_arrays}
 use Rattle.build.specs.Sets.{set_of}
 use Rattle.build.specs.Answers.{no_building, a_building, build_answer}
 use Rattle.build.proofs.ArrayLaws.{arrays-count}
-use Rattle.finder.specs.declared.Found.{Found}
+use Rattle.finder.specs.Told.{Found}
 use Rattle.finder.specs.Answers.{Finding}
 use Rattle.finder.proofs.AnswerLaws.{given-some, found-refusal, found-or-none}
-use Rattle.select.specs.declared.Selection.{Selection}
+use Rattle.select.specs.Told.{Selection}
 use Rattle.select.specs.Selection.{Selecting, GivesRoutes, selection}
 use Rattle.select.proofs.SlotLaws.{all_settled}
-use Rattle.driver.specs.declared.Answer.{Answer}
-use Rattle.driver.specs.Words.{word, Small, left}
-use Rattle.driver.specs.Routes.{FoundWord, SelectedWord}
+use Rattle.driver.specs.Words.{Small}
 use Rattle.driver.proofs.WordLaws.{none-small, plain-small}
 
 -- ---- built routes
@@ -51,12 +49,6 @@ build-small s a d x e =
     subst (λ (y : Building). SmallSet y.refusal y.routes) (sym e)
     (building_small (ends_refusal s a d) (set_of (built_arrays s a d)) (one_le 255 refl (ends-numbers s a d)) (λ z. let h = ends_of s a d z in omega (arith, arrays-count s a d, h.source.valid.levels)))
 
--- what the call says of the answer of the builder, asked with the shape t
-pub build_said : {s t : Shape} (a d : ℕ) {w : Answer} {x : Building} (lent : List ℕ) {bytes : List ℕ} → x ≡ build_answer s a d → s ≡ t → w ≡ word x.refusal x.routes.count → bytes ≡ left x.refusal.number lent x.routes.bytes → (w ≡ word (build_answer t a d).refusal (build_answer t a d).routes.count) × (bytes ≡ left (build_answer t a d).refusal.number lent (build_answer t a d).routes.bytes)
-build_said {s} {t} a d {w} {x} lent {bytes} e g h f =
-    let q : x ≡ build_answer t a d = e ∙ ap (λ (z : Shape). build_answer z a d) g in
-    (h ∙ ap (λ (y : Building). word y.refusal y.routes.count) q, f ∙ ap (λ (y : Building). left y.refusal.number lent y.routes.bytes) q)
-
 -- ---- the alternate
 
 pub find-small : {s : Shape} {t : List ℕ} {a d : ℕ} (x : Found) → Finding s t a d x → Small x.refusal x.hops
@@ -69,10 +61,6 @@ find-small {s} {t} {a} {d} x f =
     few : room_refusal s t a d ≡ 0 → x.hops < 4294967296
     few z =
         ⊎_elim (λ g. let h = (given-some g).1 in omega arith) (λ g. omega (arith, ap (λ (y : Found). y.hops) g.0)) (found-or-none f z)
-
-pub find_said : {s e : Shape} {t : List ℕ} {a d : ℕ} {w : Answer} {x : Found} {lent path : List ℕ} → Finding s t a d x → s ≡ e → w ≡ word x.refusal x.hops → path ≡ left x.refusal.number lent x.bytes → FoundWord e t a d w lent path
-find_said {t = t} {a} {d} {w} {x} {lent} {path} f g h p =
-    subst (λ (z : Shape). FoundWord z t a d w lent path) g (record { answer = x; finding = f; says = h; leaves = p })
 
 -- ---- selection
 
@@ -99,7 +87,3 @@ select-small {s} {t} {a} {d} x f =
     given c e =
         let h = all_settled t e c.slots in
         subst (λ (y : Selection). Small y.refusal y.routes.count) (sym c.answer) (chosen_small s c.routes (omega (arith, h.few, e.source.valid.levels)))
-
-pub select_said : {s e : Shape} {t : List ℕ} {a d : ℕ} {w : Answer} {x : Selection} {lent routes : List ℕ} → Selecting s t a d x → s ≡ e → w ≡ word x.refusal x.routes.count → routes ≡ left x.refusal.number lent x.routes.bytes → SelectedWord e t a d w lent routes
-select_said {t = t} {a} {d} {w} {x} {lent} {routes} f g h p =
-    subst (λ (z : Shape). SelectedWord z t a d w lent routes) g (record { answer = x; selecting = f; says = h; leaves = p })

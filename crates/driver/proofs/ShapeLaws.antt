@@ -2,12 +2,12 @@
 use Prim.Native.Nat.{ℕ, ◌+◌, ◌*◌, ◌/◌, ◌%◌, ◌≤◌, ◌<◌}
 use mathlib.Core.Path.{◌≡◌, sym, ap, ◌∙◌}
 use native.Mathlib.Omega.{arith}
+use Rattle.std.specs.Prelude.{min}
 use native.Mathlib.Decide.{dec_le}
 use borrow.Author.Tests.{le-leb, lt-leb}
 use Rattle.room.specs.Shapes.{shape_of}
 use Rattle.room.specs.Refusals.{shape_refusal}
 use Rattle.room.proofs.RefusalLaws.{valid_of, few-ports, many_ports, many_levels, much_fill}
-use Rattle.driver.specs.declared.Room.{Room}
 use Rattle.driver.specs.Rooms.{held, room_of, shape_in}
 
 pub held_is : (x : ℕ) → x ≤ 255 → x ≡ held x
@@ -18,18 +18,15 @@ pub held-most : (x : ℕ) → 255 < x → 255 ≡ held x
 unfolding held
 held-most x h = rw (lt-leb x 255 h)
 
+pub held_min : (x : ℕ) → held x ≡ min x 255
+held_min x = elim (dec_le x 255) [ yes y ↦ omega (arith, held_is x y) | no n ↦ omega (arith, held-most x (omega arith)) ]
+
 held_le : (x : ℕ) → held x ≤ 255
-held_le x = elim (dec_le x 255) [ yes y ↦ omega (arith, held_is x y) | no n ↦ omega (arith, held-most x (omega arith)) ]
+held_le x = omega (arith, held_min x)
 
 -- what is above a number below 255 stays above it
 held-above : (b x : ℕ) → b < 255 → b < x → b < held x
-held-above b x p q =
-    elim (dec_le x 255) [ yes y ↦ omega (arith, held_is x y) | no n ↦ omega (arith, held-most x (omega arith)) ]
-
--- as the program makes it
-pub room-made : {x y z : ℕ} (n k m : ℕ) → x ≡ held n → y ≡ held k → z ≡ held m → ◌≡◌ {A = Room} (record { number = x + (256 * y + 65536 * z) }) (room_of n k m)
-unfolding room_of
-room-made n k m p q r = rw (p, q, r)
+held-above b x p q = omega (arith, held_min x)
 
 -- the shape of the room of three numbers has each of them, held
 held-shape : (n k m : ℕ) → shape_in (room_of n k m) ≡ shape_of (held n) (held k) (held m)

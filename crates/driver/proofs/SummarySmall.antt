@@ -7,10 +7,10 @@ use native.Mathlib.Omega.{arith}
 use lib.Dec.{lit<}
 use mir.Syntax.{w64}
 use mir.Val.{Fits}
-use Rattle.refusals.specs.declared.Refusal.{Refusal}
+use Rattle.refusals.specs.Refusals.{Refusal}
 use Rattle.refusals.proofs.NumberLaws.{one_le}
 use Rattle.room.specs.declared.Shape.{Shape}
-use Rattle.summary.specs.declared.DeadSwitch.{DeadSwitch}
+use Rattle.summary.specs.Told.{DeadSwitch}
 use Rattle.summary.specs.Answers.{link_answer, server_answer, dead_answer, fresh_answer}
 use Rattle.summary.proofs.NumberLaws.{counted-link-numbers, counted-server-numbers, summary-numbers, entries-numbers}
 use Rattle.summary.proofs.AnswerLaws.{dead-small, dead-refusal}
@@ -51,9 +51,6 @@ module _ (s : Shape) (t c : List ℕ) {x : DeadSwitch} (e : x ≡ dead_answer s 
 
   pub dead-fits : Small x.refusal (16777216 + 65536 * x.level + x.number)
   dead-fits = dead_with _ (omega (arith, small.0, small.1))
-
-  pub none-fits : Small x.refusal 0
-  none-fits = dead_with 0 (lit< tt)
 
 pub dead_said : (f : Shape → DeadSwitch) {s t : Shape} {x : DeadSwitch} {w : Answer} → w ≡ word x.refusal (16777216 + 65536 * x.level + x.number) → x.found ≡ true → x ≡ f s → s ≡ t → w ≡ dead_word (f t)
 unfolding dead_word

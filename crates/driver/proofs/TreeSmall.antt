@@ -27,3 +27,5 @@ unfolding tree_answer
 tree-small s a l =
     number_small (link_refusal s a l) (servers_of s) (one_le 255 refl (link-numbers s a l))
     (λ z. let h = link_of s a l z in omega (arith, h.server.valid.small))
+
+pub ruleset tree_numbers = (parent-small, tree-small)

@@ -1,22 +1,33 @@
 -- Laws of the result word.
 use Prim.Native.Nat.{ℕ, zero, suc, ◌+◌, ◌*◌, ◌/◌, ◌%◌, ◌≤◌, ◌<◌}
 use native.Mathlib.Omega.{arith}
-use mathlib.Core.Path.{◌≡◌, refl, sym, ap, ap₂, ◌∙◌, subst}
+use mathlib.Core.Path.{◌≡◌, refl, ap, ap₂, ◌∙◌}
 use mathlib.Core.Logic.{◌≢◌}
 use mathlib.Core.List.{List}
 use lib.Dec.{lit<}
-use Rattle.refusals.specs.declared.Refusal.{Refusal}
+use Rattle.refusals.specs.Refusals.{Refusal}
 use Rattle.refusals.specs.Refusals.{refusal, earlier_route, earlier_hop, none, plain, answer}
+use Rattle.refusals.specs.declared.Reason.{Reason}
+use Rattle.refusals.specs.declared.Refused.{Refused}
+use Rattle.refusals.specs.Reasons.{number_of, refusal_of}
 use Rattle.room.specs.declared.Shape.{Shape}
-use Rattle.room.specs.declared.Number.{Number}
 use Rattle.room.specs.Answers.{no_number, a_number}
 use Rattle.driver.specs.declared.Answer.{Answer}
 use Rattle.driver.specs.Words.{word, refusal_in, value_in, Small, left}
 
--- the sum that the code makes is the word
-pub word_made : (r : Refusal) (v : ℕ) → ◌≡◌ {A = Answer} (record { word = 4294967296 * v + (16777216 * (16 * earlier_route r + earlier_hop r) + (65536 * r.hop + (256 * r.route + r.number))) }) (word r v)
+-- ---- what the code makes is the word
+
+pub value-word : (v : ℕ) → ◌≡◌ {A = Answer} (record { word = 4294967296 * v }) (word none v)
 unfolding word
-word_made r v = refl
+value-word v = ap (λ (x : ℕ). record { word = x }) (omega arith)
+
+pub reason-word : (r : Reason) (n : ℕ) → n ≡ number_of r → ◌≡◌ {A = Answer} (record { word = n }) (word (plain (number_of r)) 0)
+unfolding word
+reason-word r n e = ap (λ (x : ℕ). record { word = x }) (omega (arith, e))
+
+pub refused-word : (r : Refused) (n : ℕ) → n ≡ number_of r.reason → ◌≡◌ {A = Answer} (record { word = 16777216 * (16 * r.earlier_route + r.earlier_hop) + (65536 * r.hop + (256 * r.route + n)) }) (word (refusal_of r) 0)
+unfolding word
+refused-word r n e = ap (λ (x : ℕ). record { word = x }) (omega (arith, e))
 
 refusal-same : (x y : Refusal) → x.number ≡ y.number → x.route ≡ y.route → x.hop ≡ y.hop → earlier_route x ≡ earlier_route y → earlier_hop x ≡ earlier_hop y → x ≡ y
 refusal-same x y a b c d e =
@@ -45,10 +56,6 @@ module _ (r : Refusal) (v : ℕ) (h : Small r v) where
 pub said : {X : Type 0} (says : X → Answer) (f : Shape → X) {s t : Shape} {x : X} {w : Answer} → w ≡ says x → x ≡ f s → s ≡ t → w ≡ says (f t)
 said says f h e g = h ∙ ap says (e ∙ ap f g)
 
--- what is small of an answer is small of what a call answered
-pub number_fits : (y x : Number) → Small y.refusal y.value → x ≡ y → Small x.refusal x.value
-number_fits y x h e = subst (λ (z : Number). Small z.refusal z.value) (sym e) h
-
 -- ---- what is small
 
 -- no refusal, with a number
@@ -73,27 +80,3 @@ left-given (suc r) lent written h = let z : ⊥ = omega arith in absurd z
 pub left_lent : (r : ℕ) (lent written : List ℕ) → r ≢ 0 → lent ≡ left r lent written
 left_lent zero lent written h = absurd (h refl)
 left_lent (suc r) lent written h = refl
-
--- ---- what a call answered of a shape, told by the word and by the buffer left
-
-module _ {X : Type 0} (refusal : X → Refusal) (value : X → ℕ) where
-  -- what fits of the answer fits of what the call gave
-  pub told-fits : {x y : X} → Small (refusal y) (value y) → x ≡ y → Small (refusal x) (value x)
-  told-fits h e = subst (λ (z : X). Small (refusal z) (value z)) (sym e) h
-
-  module _ (f : Shape → X) {s t : Shape} {x : X} (e : x ≡ f s) (g : s ≡ t) {w : Answer} (h : w ≡ word (refusal x) (value x)) where
-    pub told-word : w ≡ word (refusal (f t)) (value (f t))
-    told-word = said (λ (z : X). word (refusal z) (value z)) f h e g
-
-    module _ (put : X → List ℕ) (lent : List ℕ) where
-      pub told-refused : (refusal x).number ≢ 0 → (w ≡ word (refusal (f t)) (value (f t))) × (lent ≡ left (refusal (f t)).number lent (put (f t)))
-      told-refused n = (
-        told-word,
-        left_lent (refusal x).number lent (put x) n ∙ ap (λ (z : X). left (refusal z).number lent (put z)) (e ∙ ap f g),
-      )
-
-      pub told-given : {b : List ℕ} → (refusal x).number ≡ 0 → b ≡ put x → (w ≡ word (refusal (f t)) (value (f t))) × (b ≡ left (refusal (f t)).number lent (put (f t)))
-      told-given n q = (
-        told-word,
-        q ∙ left-given (refusal x).number lent (put x) n ∙ ap (λ (z : X). left (refusal z).number lent (put z)) (e ∙ ap f g),
-      )

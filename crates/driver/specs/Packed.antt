@@ -2,7 +2,7 @@
 use Rattle.std.specs.Prelude.{ℕ, ◌+◌, ◌*◌, ◌/◌, ◌%◌, ◌<◌, List, [], ◌∷◌, Bool, cond, eqb, get_or}
 use Rattle.refusals.specs.Refusals.{refused_at}
 use Rattle.path.specs.Routes.{byte_of, level_of, value_of}
-use Rattle.step.specs.declared.Step.{Step}
+use Rattle.step.specs.Told.{Step}
 use Rattle.driver.specs.declared.Stepped.{Stepped}
 
 abbrev pub flag_of : Bool → ℕ

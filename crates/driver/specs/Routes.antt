@@ -1,9 +1,9 @@
 -- The search and the selection as a driver in C sees them.
 use Rattle.std.specs.Prelude.{ℕ, ◌≡◌, List}
 use Rattle.room.specs.declared.Shape.{Shape}
-use Rattle.finder.specs.declared.Found.{Found}
+use Rattle.finder.specs.Told.{Found}
 use Rattle.finder.specs.Answers.{Finding}
-use Rattle.select.specs.declared.Selection.{Selection}
+use Rattle.select.specs.Told.{Selection}
 use Rattle.select.specs.Selection.{Selecting}
 use Rattle.driver.specs.declared.Answer.{Answer}
 use Rattle.driver.specs.Words.{word, left}

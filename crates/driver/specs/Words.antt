@@ -1,20 +1,20 @@
 -- The result word of a call, and what a call leaves in a lent buffer.
 use Rattle.std.specs.Prelude.{ℕ, zero, suc, ◌+◌, ◌*◌, ◌/◌, ◌%◌, ◌<◌, List, cond}
-use Rattle.refusals.specs.declared.Refusal.{Refusal}
+use Rattle.refusals.specs.Refusals.{Refusal}
 use Rattle.refusals.specs.Refusals.{refusal, earlier_route, earlier_hop}
-use Rattle.room.specs.declared.Number.{Number}
-use Rattle.room.specs.declared.Digits.{Digits}
-use Rattle.room.specs.declared.Switch.{Switch}
-use Rattle.room.specs.declared.Between.{Between}
-use Rattle.links.specs.declared.Asked.{Asked}
-use Rattle.summary.specs.declared.DeadSwitch.{DeadSwitch}
-use Rattle.path.specs.declared.Parts.{Parts}
-use Rattle.path.specs.declared.Hop.{Hop}
-use Rattle.path.specs.declared.Reading.{Reading}
-use Rattle.path.specs.declared.Writing.{Writing}
+use Rattle.room.specs.Told.{Number}
+use Rattle.room.specs.Told.{Digits}
+use Rattle.room.specs.Told.{Switch}
+use Rattle.room.specs.Told.{Between}
+use Rattle.links.specs.Told.{Asked}
+use Rattle.summary.specs.Told.{DeadSwitch}
+use Rattle.path.specs.Told.{Parts}
+use Rattle.path.specs.Told.{Hop}
+use Rattle.path.specs.Told.{Reading}
+use Rattle.path.specs.Told.{Writing}
 use Rattle.path.specs.Routes.{byte_of}
-use Rattle.build.specs.declared.Building.{Building}
-use Rattle.pick.specs.declared.Place.{Place}
+use Rattle.build.specs.Told.{Building}
+use Rattle.pick.specs.Told.{Place}
 use Rattle.driver.specs.declared.Answer.{Answer}
 
 -- from the lowest byte: the refusal's number, its route, its hop, 16 times the earlier route plus the earlier hop, and a number of four bytes

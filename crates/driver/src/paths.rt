@@ -1,4 +1,6 @@
 // Path bytes made, taken apart, hopped by, read, written and reversed; lists of arrays checked.
+#![tactic(auto, using(crate::proofs::PathSmall::path_numbers))]
+
 ghost use Rattle.std.specs.Prelude.{◌≡◌};
 ghost use Rattle.path.specs.Answers.{hop_answer, read_answer, write_answer, reverse_answer};
 ghost use Rattle.path.specs.Bytes.{byte_answer, parts_answer};
@@ -7,15 +9,14 @@ ghost use Rattle.driver.specs.Rooms.{shape_in};
 ghost use Rattle.driver.specs.Words.{word, number_word, parts_word, hop_word, reading_word, reading_left, writing_word, writing_left};
 
 use crate::shapes::shape_in;
-use crate::words::result_word;
+use crate::words::{number_word, refused_word, value_word};
 use crate::{Answer, Room};
 
 // The path byte of a level and a value. Refusals 1, 2, 26, 3, 20, 21.
 pub fn bcube_path_byte(room: Room, level: usize, value: usize) -> Answer
     ensures { result ≡ number_word (byte_answer (shape_in room) level value) }
 {
-    let answer = path::byte_of(shape_in(room), level, value);
-    result_word(answer.refusal, answer.value)
+    number_word(path::byte_of(shape_in(room), level, value))
 }
 
 // The level and the value of a path byte, in one value: 256 times the level, plus the value.
@@ -23,8 +24,10 @@ pub fn bcube_path_byte(room: Room, level: usize, value: usize) -> Answer
 pub fn bcube_path_byte_parts(room: Room, byte: usize) -> Answer
     ensures { result ≡ parts_word (parts_answer (shape_in room) byte) }
 {
-    let parts = path::parts_of(shape_in(room), byte);
-    result_word(parts.refusal, 256 * parts.level + parts.value)
+    match path::parts_of(shape_in(room), byte) {
+        Ok(parts) => value_word(256 * parts.level + parts.value),
+        Err(refused) => refused_word(refused),
+    }
 }
 
 // The hop by a byte from a server, in one value: the next server, and 65,536 times the path byte of the way
@@ -33,8 +36,10 @@ pub fn bcube_path_byte_parts(room: Room, byte: usize) -> Answer
 pub fn bcube_hop_of(room: Room, server: usize, byte: usize) -> Answer
     ensures { result ≡ hop_word (hop_answer (shape_in room) server byte) }
 {
-    let hop = path::hop_of(shape_in(room), server, byte);
-    result_word(hop.refusal, hop.next + 65536 * (64 * hop.level + hop.old))
+    match path::hop_of(shape_in(room), server, byte) {
+        Ok(hop) => value_word(hop.next + 65536 * (64 * hop.level + hop.old)),
+        Err(refused) => refused_word(refused),
+    }
 }
 
 // The servers that an array meets, source first, into nine places with zeros past them; the value is
@@ -48,15 +53,14 @@ pub fn bcube_read(
 ) -> Answer
     ensures { (result ≡ reading_word (read_answer (shape_in room) source destination path.now)) × (servers.new ≡ reading_left servers.old (read_answer (shape_in room) source destination path.now)) }
 {
-    let shape = shape_in(room);
-    let reading = path::read_path(shape, source, destination, path);
-    let result = result_word(reading.refusal, reading.count);
-    if reading.refusal.number != 0 {
-        return result;
+    match path::read_path(shape_in(room), source, destination, path) {
+        Ok(reading) => {
+            let met = reading.servers;
+            *servers = met;
+            value_word(reading.count)
+        }
+        Err(refused) => refused_word(refused),
     }
-    let met = reading.servers;
-    *servers = met;
-    result
 }
 
 // The path bytes of servers in turn, source first, into eight bytes with zeros past them.
@@ -64,14 +68,13 @@ pub fn bcube_read(
 pub fn bcube_write(room: Room, servers: &[usize], path: &mut [u8; 8]) -> Answer
     ensures { (result ≡ writing_word (write_answer (shape_in room) servers.now)) × (path.new ≡ writing_left path.old (write_answer (shape_in room) servers.now)) }
 {
-    let writing = path::write_path(shape_in(room), servers);
-    let result = result_word(writing.refusal, 0);
-    if writing.refusal.number != 0 {
-        return result;
+    match path::write_path(shape_in(room), servers) {
+        Ok(bytes) => {
+            *path = bytes;
+            value_word(0)
+        }
+        Err(refused) => refused_word(refused),
     }
-    let bytes = writing.bytes;
-    *path = bytes;
-    result
 }
 
 // The path bytes of the route backwards, from the destination, into eight bytes.
@@ -85,15 +88,13 @@ pub fn bcube_reverse(
 ) -> Answer
     ensures { (result ≡ writing_word (reverse_answer (shape_in room) source destination path.now)) × (reversed.new ≡ writing_left reversed.old (reverse_answer (shape_in room) source destination path.now)) }
 {
-    let shape = shape_in(room);
-    let turned = path::reverse_path(shape, source, destination, path);
-    let result = result_word(turned.refusal, 0);
-    if turned.refusal.number != 0 {
-        return result;
+    match path::reverse_path(shape_in(room), source, destination, path) {
+        Ok(bytes) => {
+            *reversed = bytes;
+            value_word(0)
+        }
+        Err(refused) => refused_word(refused),
     }
-    let bytes = turned.bytes;
-    *reversed = bytes;
-    result
 }
 
 // Checks a list of arrays, one after another, as routes from source to destination over the live
@@ -107,7 +108,8 @@ pub fn bcube_check(
 ) -> Answer
     ensures { result ≡ word (check_answer (shape_in room) table.now source destination list.now) 0 }
 {
-    let shape = shape_in(room);
-    let refusal = verdict::check_list(shape, table, source, destination, list);
-    result_word(refusal, 0)
+    match verdict::check_list(shape_in(room), table, source, destination, list) {
+        Ok(()) => value_word(0),
+        Err(refused) => refused_word(refused),
+    }
 }

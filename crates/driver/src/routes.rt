@@ -6,7 +6,7 @@ ghost use Rattle.driver.specs.Words.{building_word, building_left};
 ghost use Rattle.driver.specs.Routes.{FoundWord, SelectedWord};
 
 use crate::shapes::shape_in;
-use crate::words::result_word;
+use crate::words::{reason_word, value_word};
 use crate::{Answer, Room};
 
 // The built routes of two servers, slots k down to 0, into 32 bytes with zeros past them; the value is
@@ -14,14 +14,14 @@ use crate::{Answer, Room};
 pub fn bcube_build(room: Room, source: usize, destination: usize, routes: &mut [u8; 32]) -> Answer
     ensures { (result ≡ building_word (build_answer (shape_in room) source destination)) × (routes.new ≡ building_left routes.old (build_answer (shape_in room) source destination)) }
 {
-    let shape = shape_in(room);
-    let built = build::build_routes(shape, source, destination);
-    let set = built.routes;
-    if built.refusal.number == 0 {
-        let bytes = set.bytes;
-        *routes = bytes;
+    match build::build_routes(shape_in(room), source, destination) {
+        Ok(set) => {
+            let bytes = set.bytes;
+            *routes = bytes;
+            value_word(set.count)
+        }
+        Err(reason) => reason_word(reason),
     }
-    result_word(built.refusal, set.count)
 }
 
 // The alternate, the least route over live links, into eight bytes; the value is its hops, 0 with zeros
@@ -35,13 +35,18 @@ pub fn bcube_find(
 ) -> Answer
     ensures { FoundWord (shape_in room) table.now source destination result path.old path.new }
 {
-    let shape = shape_in(room);
-    let found = finder::find_route(shape, table, source, destination);
-    if found.refusal.number == 0 {
-        let bytes = found.bytes;
-        *path = bytes;
+    match finder::find_route(shape_in(room), table, source, destination) {
+        Ok(Some(found)) => {
+            let bytes = found.bytes;
+            *path = bytes;
+            value_word(found.hops)
+        }
+        Ok(None) => {
+            *path = [0; 8];
+            value_word(0)
+        }
+        Err(reason) => reason_word(reason),
     }
-    result_word(found.refusal, found.hops)
 }
 
 // The routes selected around failed links, in slot order, into 32 bytes with zeros past them; the value
@@ -55,12 +60,12 @@ pub fn bcube_select(
 ) -> Answer
     ensures { SelectedWord (shape_in room) table.now source destination result routes.old routes.new }
 {
-    let shape = shape_in(room);
-    let selected = select::select_routes(shape, table, source, destination);
-    let set = selected.routes;
-    if selected.refusal.number == 0 {
-        let bytes = set.bytes;
-        *routes = bytes;
+    match select::select_routes(shape_in(room), table, source, destination) {
+        Ok(set) => {
+            let bytes = set.bytes;
+            *routes = bytes;
+            value_word(set.count)
+        }
+        Err(reason) => reason_word(reason),
     }
-    result_word(selected.refusal, set.count)
 }

@@ -13,16 +13,15 @@ pub fn bcube_version() -> u64
 }
 
 // A number, or 255 where it is more.
+#[tactic(auto, using(crate::proofs::ShapeLaws::held_min))]
 fn at_most_255(x: usize) -> u64
     ensures { (result ≡ held x) × (result ≤ 255) }
 {
-    if x <= 255 {
-        return x as u64;
-    }
-    255
+    x.min(255) as u64
 }
 
 // The room of three numbers, each at most 255.
+#[tactic(auto, unfolding(crate::specs::Rooms::room_of))]
 fn room_of(n: usize, k: usize, m: usize) -> Room
     ensures { result ≡ room_of n k m }
 {
@@ -49,6 +48,7 @@ pub fn bcube_filled_room(n: usize, k: usize, m: usize) -> Room
 }
 
 // The shape of a room.
+#[tactic(auto, unfolding(crate::specs::Rooms::shape_in))]
 pub(crate) fn shape_in(room: Room) -> Shape
     ensures { result ≡ shape_in room }
 {

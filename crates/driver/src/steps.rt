@@ -6,6 +6,7 @@ ghost use Rattle.driver.specs.Packed.{packed, mac_number};
 
 use crate::shapes::shape_in;
 use crate::{Room, Stepped};
+use step::Step;
 
 // A byte as a wider number.
 fn wide(byte: u8) -> u64
@@ -25,6 +26,7 @@ fn mac_number(mac: [u8; 6]) -> u64
 
 // One step of a packet at the server `here`, whose neighbour table is lent; the index is the NHI. Refusals
 // 1, 2, 26, 3, 4, 17, 7; away from the destination 18, then 8, 9, 10, 19.
+#[tactic(auto, using(crate::proofs::PackLaws::step_fits))]
 pub fn bcube_step(
     room: Room,
     here: usize,
@@ -35,26 +37,24 @@ pub fn bcube_step(
 ) -> Stepped
     ensures { result ≡ packed (step_answer (shape_in room) here destination index path.now neighbours.now) }
 {
-    let step = step::step_once(shape_in(room), here, destination, index, path, neighbours);
-    let refusal = step.refusal;
-    if refusal.number != 0 {
-        return Stepped {
-            word: refusal.number as u64 + 256 * (refusal.hop as u64),
-            mac: 0,
-        };
-    }
-    if step.delivered {
-        return Stepped {
+    match step::step_once(shape_in(room), here, destination, index, path, neighbours) {
+        Ok(Step::Delivered) => Stepped {
             word: 65536,
             mac: 0,
-        };
-    }
-    let mac = step.mac;
-    Stepped {
-        word: 16777216 * (step.index as u64)
-            + 4294967296 * (step.next as u64)
-            + 281474976710656 * wide(step.port)
-            + 72057594037927936 * (64 * step.level + step.old) as u64,
-        mac: mac_number(mac),
+        },
+        Ok(Step::Onward(onward)) => {
+            let mac = onward.mac;
+            Stepped {
+                word: 16777216 * (onward.index as u64)
+                    + 4294967296 * (onward.next as u64)
+                    + 281474976710656 * wide(onward.port)
+                    + 72057594037927936 * (64 * onward.level + onward.old) as u64,
+                mac: mac_number(mac),
+            }
+        }
+        Err(refused) => Stepped {
+            word: refused.reason.number() as u64 + 256 * (refused.hop as u64),
+            mac: 0,
+        },
     }
 }

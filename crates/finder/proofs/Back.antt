@@ -7,11 +7,10 @@ use mathlib.Core.Logic.{⊎_elim}
 use mathlib.Core.List.{List, [], ◌∷◌, ◌++◌, append-nil, append_assoc, map, map-append}
 use lib.ListN.{length, get_or, take, replicate, length-append, length-replicate}
 use lib.Seq.{take-take, length-take-le}
+use Rattle.std.specs.Prelude.{Some}
 use Rattle.lists.proofs.ListLaws.{same_at}
-use Rattle.refusals.specs.declared.Refusal.{Refusal}
-use Rattle.refusals.specs.Refusals.{none}
-use Rattle.finder.specs.declared.Found.{Found}
-use Rattle.finder.specs.Answers.{no_route}
+use Rattle.finder.specs.declared.Found.{Found as Route}
+use Rattle.finder.specs.Answers.{no_route, what_found}
 use Rattle.finder.specs.Hops.{turned}
 use Rattle.finder.specs.State.{trail}
 use Rattle.finder.specs.Kept.{keyed}
@@ -115,21 +114,22 @@ module _ {k root : ℕ} {back queue : List ℕ} {dst : ℕ} (p : Reached k root 
 
 -- ---- hop after hop, back from the destination
 
--- what holds at each turn: `bytes` are those of the last hops, and `at` is where they begin
+-- what holds at each turn: `bytes` are those of the last hops, and `at` is where they begin, the destination before the first
 pub record Tracing (k root : ℕ) (back queue : List ℕ) (dst : ℕ) (bytes : List ℕ) (hops at : ℕ) : Type 0 where
   pub few : hops ≤ 8
   pub long : length bytes ≡ 8
   pub rest : (i : ℕ) → hops ≤ i → get_or bytes i 0 ≡ 0
+  pub starts : hops ≡ 0 → at ≡ dst
   pub along : (p : Reached k root back queue dst) → Along p bytes hops at
 
 module _ {k root : ℕ} {back queue : List ℕ} {dst : ℕ} where
-  pub tracing_starts : (m : ℕ) → m ≡ 8 → Tracing k root back queue dst (replicate m 0) 0 dst
+  tracing_starts : (m : ℕ) → m ≡ 8 → Tracing k root back queue dst (replicate m 0) 0 dst
   tracing_starts m e =
-      record { few = omega arith; long = length-replicate {A = ℕ} m 0 ∙ e; rest = λ i h. same_at 0 m i; along = λ p. along-start p (replicate m 0) }
+      record { few = omega arith; long = length-replicate {A = ℕ} m 0 ∙ e; rest = λ i h. same_at 0 m i; starts = λ z. refl; along = λ p. along-start p (replicate m 0) }
 
   module _ {bytes : List ℕ} {hops at : ℕ} (h : Tracing k root back queue dst bytes hops at) where
     -- the hop before, put in front
-    pub tracing_more : (at ≡ root → ⊥) → (hops ≡ 8 → ⊥) → (next : List ℕ) → next ≡ ((k - get_or back at 0 % 256 / 64) * 64 + get_or back at 0 % 256 % 64) ∷ take 7 bytes
+    tracing_more : (at ≡ root → ⊥) → (hops ≡ 8 → ⊥) → (next : List ℕ) → next ≡ ((k - get_or back at 0 % 256 / 64) * 64 + get_or back at 0 % 256 % 64) ∷ take 7 bytes
         → Tracing k root back queue dst next (hops + 1) (get_or queue (get_or back at 0 / 256) 0)
     unfolding turned
     tracing_more away less next e =
@@ -138,6 +138,7 @@ module _ {k root : ℕ} {back queue : List ℕ} {dst : ℕ} where
           few = omega (arith, h.few);
           long = long-front b bytes h.long;
           rest = rest-front b bytes hops h.rest;
+          starts = λ z. absurd (omega arith);
           along = λ p. along-step p (h.along p) away (omega (arith, h.few)) b refl;
         })
       where
@@ -145,21 +146,38 @@ module _ {k root : ℕ} {back queue : List ℕ} {dst : ℕ} where
         b = turned k (get_or back at 0 % 256)
 
     -- a ninth hop
-    pub tracing_over : (at ≡ root → ⊥) → hops ≡ 8 → (r : Found) → r ≡ no_route 0 → TracedBack k root back queue dst r
-    tracing_over away full r e =
-        rw e
-        (record {
+    tracing_over : (at ≡ root → ⊥) → hops ≡ 8 → TracedBack k root back queue dst (no_route 0)
+    tracing_over away full =
+        record {
           refusal = refl;
           traced = λ p. record { fits = λ few. absurd (omega (arith, more p (h.along p) away h.long h.few)); over = λ many. refl; long = refl; rest = λ i few. same_at 0 8 i };
-        })
+        }
 
     -- the root
-    pub tracing_ends : at ≡ root → (q : Refusal) → q ≡ none → TracedBack k root back queue dst (record { refusal = q; hops = hops; bytes = bytes })
-    tracing_ends here q e =
-        record {
-          refusal = e;
-          traced = λ p.
-              let w = along-end p (h.along p) here in
-              let l = ap length w ∙ length-take-le hops bytes (omega (arith, h.few, h.long)) in
-              record { fits = λ few. (sym l, sym w); over = λ many. absurd (omega (arith, h.few)); long = h.long; rest = h.rest };
-        }
+    pub tracing_ends : at ≡ root → (f : Route) → f ≡ record { hops = hops; bytes = bytes } → (root ≡ dst → ⊥) → TracedBack k root back queue dst (what_found (Some f)) × (0 < f.hops)
+    tracing_ends here f e differ =
+        rw e (
+          record {
+            refusal = refl;
+            traced = λ p.
+                let w = along-end p (h.along p) here in
+                let l = ap length w ∙ length-take-le hops bytes (omega (arith, h.few, h.long)) in
+                record { fits = λ few. (sym l, sym w); over = λ many. absurd (omega (arith, h.few)); long = h.long; rest = h.rest };
+          },
+          ⊎_elim (λ lt. lt) (λ ge. absurd (differ (sym here ∙ h.starts (omega arith)))) (split 0 hops),
+        )
+
+-- the same up to the eighth hop, and after a ninth that there is no route of eight
+pub record Retracing (k root : ℕ) (back queue : List ℕ) (dst : ℕ) (bytes : List ℕ) (hops at : ℕ) : Type 0 where
+  pub tracing : hops ≤ 8 → Tracing k root back queue dst bytes hops at
+  pub over : 8 < hops → TracedBack k root back queue dst (no_route 0)
+
+module _ {k root : ℕ} {back queue : List ℕ} {dst : ℕ} where
+  pub retracing_starts : (m : ℕ) → m ≡ 8 → Retracing k root back queue dst (replicate m 0) 0 dst
+  retracing_starts m e = record { tracing = λ h. tracing_starts m e; over = λ h. absurd (let z : ⊥ = omega arith in z) }
+
+  pub retracing_more : {bytes : List ℕ} {hops at : ℕ} → Tracing k root back queue dst bytes hops at → (at ≡ root → ⊥) → (next : List ℕ)
+      → next ≡ ((k - get_or back at 0 % 256 / 64) * 64 + get_or back at 0 % 256 % 64) ∷ take 7 bytes
+      → Retracing k root back queue dst next (hops + 1) (get_or queue (get_or back at 0 / 256) 0)
+  retracing_more t away next e =
+      record { tracing = λ h. tracing_more t away (λ z. omega arith) next e; over = λ h. tracing_over t away (omega (arith, t.few)) }

@@ -13,7 +13,7 @@ use Rattle.room.specs.Shapes.{Ends}
 use Rattle.links.specs.Table.{room_refusal}
 use Rattle.links.proofs.TableLaws.{room_of}
 use Rattle.path.specs.Routes.{byte_to, encode}
-use Rattle.finder.specs.declared.Found.{Found}
+use Rattle.finder.specs.Told.{Found}
 use Rattle.finder.specs.Answers.{no_route, a_route, Finding}
 use Rattle.finder.specs.Walks.{Leads, Least}
 use Rattle.finder.specs.Hops.{turned, step_of, Ok}
@@ -25,10 +25,6 @@ use Rattle.finder.proofs.Theory.{found_least, none-leads}
 use Rattle.finder.proofs.Hops.{Kept_in, ok_low}
 use Rattle.finder.proofs.Walking.{met, met_long, met_bytes'}
 use Rattle.finder.proofs.Least.{least_alternate, no_walk-no_route}
-
-pub refused-answer : {s : Shape} {t : List ℕ} {a d : ℕ} (q : ℕ) → q ≡ room_refusal s t a d → (q ≡ 0 → ⊥) → (r : Found) → r ≡ no_route q → Finding s t a d r
-refused-answer q e ne r f =
-    record { refused = λ n. f ∙ ap no_route e; given = λ z. absurd (ne (e ∙ z)); none = λ z. absurd (ne (e ∙ z)) }
 
 -- ---- eight bytes
 
@@ -77,12 +73,12 @@ module _ {s : Shape} {t : List ℕ} {a d : ℕ} {back queue : List ℕ} {n : ℕ
   at-d = omega (arith, given.destination.below, given.destination.valid.small)
 
   -- the destination is not found: there is no route
-  pub none_found : get_or back d 0 ≡ no_parent → (r : Found) → r ≡ no_route 0 → Finding s t a d r
-  none_found free r er =
+  pub none_found : get_or back d 0 ≡ no_parent → Finding s t a d (no_route 0)
+  none_found free =
       record {
         refused = λ ne. absurd (ne pre);
-        given = λ z h. absurd (omega (arith, ap (λ (x : Found). x.hops) er));
-        none = λ z h. (er, no_walk-no_route s t a d no_walk);
+        given = λ z h. absurd (omega arith);
+        none = λ z h. (refl, no_walk-no_route s t a d no_walk);
       }
     where
       no_walk : (xs : List ℕ) → length xs ≤ 8 → Leads (step_of s) (Ok s t) a xs d → ⊥

@@ -1,5 +1,5 @@
 -- What holds at each turn of the three loops of the scan, and how one follows from another.
-use Prim.Native.Nat.{ℕ, ◌+◌, ◌-◌, ◌*◌, ◌/◌, ◌<◌, ◌≤◌}
+use Prim.Native.Nat.{ℕ, suc, ◌+◌, ◌-◌, ◌*◌, ◌/◌, ◌<◌, ◌≤◌}
 use native.Mathlib.Omega.{arith}
 use native.Mathlib.Nat.{add-mul}
 use native.Mathlib.Decide.{ℕ_discrete}
@@ -159,7 +159,7 @@ module _ {s : Shape} {t : List ℕ} {a d : ℕ} {back queue marks : List ℕ} {h
   pub here-small : AtServer s t a d back queue marks head tail → head < tail → get_or queue head 0 < 4096
   here-small h p = omega (arith, h.kept.inside head p, h.kept.within)
 
-  pub levels-start : AtServer s t a d back queue marks head tail → head < tail → AtLevel s t a d (get_or queue head 0) back queue marks head tail (s.k + 1)
+  pub levels-start : AtServer s t a d back queue marks head tail → head < tail → AtLevel s t a d (get_or queue head 0) back queue marks head tail (suc s.k)
   levels-start h p =
       record {
         valid = h.valid;
@@ -172,14 +172,14 @@ module _ {s : Shape} {t : List ℕ} {a d : ℕ} {back queue marks : List ℕ} {h
         kept = recast refl (omega arith) h.kept;
       }
 
-  module _ {u level : ℕ} (h : AtLevel s t a d u back queue marks head tail level) (p : 0 < level) where
+  module _ {u level : ℕ} (h : AtLevel s t a d u back queue marks head tail (suc level)) where
     here-server : Server s u
     here-server = record { valid = h.valid; below = h.server }
 
-    pub here-link : Link s u (level - 1)
+    pub here-link : Link s u level
     here-link = record { server = here-server; level = omega (arith, h.below) }
 
-    pub values_start : (side : Side) → Sided s t marks u (level - 1) side → AtValue s t a d u side marks back queue marks head tail (level - 1) 0 side.first
+    pub values_start : (side : Side) → Sided s t marks u level side → AtValue s t a d u side marks back queue marks head tail level 0 side.first
     values_start side sided =
         record {
           valid = h.valid;
@@ -189,9 +189,9 @@ module _ {s : Shape} {t : List ℕ} {a d : ℕ} {back queue marks : List ℕ} {h
           server = h.server;
           below = omega (arith, h.below);
           sided = sided;
-          most = (omega arith, omega (arith, sided.most, bound_le h.valid (level - 1), h.valid.ports));
+          most = (omega arith, omega (arith, sided.most, bound_le h.valid level, h.valid.ports));
           next = omega arith;
-          passed = λ z. ⊎_elim inl (λ ne. inr (h.swept.scanned (level - 1) u (omega (arith, h.below)) here-server ne)) (sided.none z);
+          passed = λ z. ⊎_elim inl (λ ne. inr (h.swept.scanned level u (omega (arith, h.below)) here-server ne)) (sided.none z);
           sweeping = sweep_starts h.swept;
           kept = recast refl (omega (arith, h.below)) h.kept;
         }
@@ -302,6 +302,10 @@ module _ {s : Shape} {t : List ℕ} {a d : ℕ} {back queue marks : List ℕ} {h
             let k = next_level h.valid head level h.below (recast refl (omega (arith, h.most.0, y.0)) h.kept) in
             let m = level_scans h.valid h.place h.below server k (ap (λ (x : ℕ). failed t x level) h.here ∙ y.1) in
             level-done (sweep_ends h.sweeping (subst (λ (x : ℕ). Scanned s t queue tail level x) h.here m)) k
+
+  -- from a level to the next lower one
+  pub level-lower : {u level : ℕ} → AtLevel s t a d u back queue marks head tail level → 0 < level → AtLevel s t a d u back queue marks head tail (suc (level - 1))
+  level-lower {u} {level} h p = let q : level ≡ suc (level - 1) = omega arith in subst (AtLevel s t a d u back queue marks head tail) q h
 
   pub levels-end : {u level : ℕ} → AtLevel s t a d u back queue marks head tail level → level ≤ 0 → AtServer s t a d back queue marks (head + 1) tail
   levels-end {level = level} h p = record { valid = h.valid; ends = h.ends; swept = h.swept; kept = next-server h.valid head (recast refl (omega arith) h.kept) }

@@ -1,25 +1,20 @@
 -- The servers at a switch that are to be tried: all, or none.
-use Prim.Native.Nat.{ℕ, ◌+◌, ◌*◌, ◌<◌}
+use Prim.Native.Nat.{ℕ}
 use native.Mathlib.Omega.{arith}
 use mathlib.Core.Path.{◌≡◌, sym, ◌∙◌, subst}
-use mathlib.Core.Logic.{◌≢◌, ◌⊎◌, inl, inr}
+use mathlib.Core.Logic.{inl}
 use mathlib.Core.Bool.{Bool, true, false}
 use mathlib.Core.List.{List}
-use lib.ListN.{get_or}
 use Rattle.room.specs.declared.Shape.{Shape}
 use Rattle.room.specs.declared.Side.{Side}
 use Rattle.room.specs.Shapes.{Link}
 use Rattle.room.specs.Sides.{side_of}
 use Rattle.room.proofs.RoomLaws.{bound-two}
 use Rattle.room.proofs.SideLaws.{side_reach, side_count, side_small}
-use Rattle.links.specs.Table.{failed, live}
+use Rattle.links.specs.Table.{live}
 use Rattle.links.proofs.TableLaws.{live-exactly}
-use Rattle.finder.specs.Scan.{mark_at, Sided}
+use Rattle.finder.specs.Scan.{Sided}
 use Rattle.finder.proofs.Hops.{link_shut}
-
--- the mark has a place
-pub mark-inside : {s : Shape} {u l : ℕ} → Link s u l → u * 4 + l < 16384
-mark-inside h = omega (arith, h.level, h.server.valid.levels, h.server.below, h.server.valid.small)
 
 module _ {s : Shape} {u l : ℕ} (h : Link s u l) (t marks : List ℕ) where
   pub sided_live : (f : Bool) → f ≡ live t l u u → f ≡ true → (x : Side) → x ≡ side_of s u l → Sided s t marks u l x
@@ -33,13 +28,13 @@ module _ {s : Shape} {u l : ℕ} (h : Link s u l) (t marks : List ℕ) where
         none = λ m. absurd (omega (arith, side_count h, bound-two h.server.valid l));
       })
 
-  -- nothing to try
-  sided_none : (failed t u l ≡ true) ⊎ (get_or marks (mark_at l u) 0 ≢ 0) → Sided s t marks u l (record { first = 0; stride = 0; count = 0 })
-  sided_none why =
-      record { reach = λ v b. absurd (omega arith); short = omega arith; most = omega arith; all = λ m. absurd (omega arith); none = λ m. why }
-
+  -- nothing to try, where the link is failed
   pub sided_dead : (f : Bool) → f ≡ live t l u u → f ≡ false → Sided s t marks u l (record { first = 0; stride = 0; count = 0 })
-  sided_dead f i z = sided_none (inl (link_shut t l u (sym i ∙ z)))
-
-  pub sided_marked : (get_or marks (u * 4 + l) 0 ≡ 0 → ⊥) → Sided s t marks u l (record { first = 0; stride = 0; count = 0 })
-  sided_marked ne = sided_none (inr ne)
+  sided_dead f i z =
+      record {
+        reach = λ v b. absurd (omega arith);
+        short = omega arith;
+        most = omega arith;
+        all = λ m. absurd (omega arith);
+        none = λ m. inl (link_shut t l u (sym i ∙ z));
+      }

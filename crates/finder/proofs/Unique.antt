@@ -8,9 +8,10 @@ use mathlib.Core.List.{List}
 use Rattle.refusals.specs.Determined.{Determined}
 use Rattle.room.specs.declared.Shape.{Shape}
 use Rattle.links.specs.Table.{room_refusal}
-use Rattle.finder.specs.declared.Found.{Found}
+use Rattle.finder.specs.Told.{Found}
 use Rattle.finder.specs.Answers.{a_route, GivesAlternate, Finding}
 use Rattle.finder.proofs.Order.{split}
+use Rattle.finder.proofs.AnswerLaws.{found-same}
 use Rattle.finder.proofs.OneAlternate.{alternate-unique}
 use Rattle.finder.proofs.finding.find_route.Reads as find_route
 use Rattle.finder.proofs.finding.find_route.Kinds as find_route_kinds
@@ -32,4 +33,4 @@ finding-unique s t a d x y f g =
         u.answer ∙ ap (a_route s) (alternate-unique u.alternate v.alternate) ∙ sym v.answer
 
 pub find-route-unique : Determined 1 find_route_kinds.ps find_route_kinds.r find_route.Post
-find-route-unique κs a x y s t e f = finding-unique _ _ _ _ x y e f
+find-route-unique κs a x y s t e f = found-same x y e.1 f.1 (finding-unique _ _ _ _ _ _ e.0 f.0)

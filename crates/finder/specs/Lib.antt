@@ -1,4 +1,5 @@
 pub mod Alternates
+pub mod Told
 pub mod Answers
 pub mod Walks
 pub mod Hops

@@ -1,7 +1,7 @@
 -- The way back from the destination, read out of the tables.
 use Rattle.std.specs.Prelude.{ℕ, ◌*◌, ◌/◌, ◌%◌, ◌<◌, ◌≤◌, ◌≡◌, List, map, length, get_or, take}
 use Rattle.refusals.specs.Refusals.{none}
-use Rattle.finder.specs.declared.Found.{Found}
+use Rattle.finder.specs.Told.{Found}
 use Rattle.finder.specs.Hops.{turned}
 use Rattle.finder.specs.State.{trail}
 use Rattle.finder.specs.Kept.{keyed}

@@ -1,16 +1,15 @@
 // The scan: breadth first from the source, levels from k down and values from 0 up, until the
 // destination is met.
-ghost use Rattle.std.specs.Prelude.{◌≡◌, ℕ, ◌<◌, ◌≤◌, List, length};
+ghost use Rattle.std.specs.Prelude.{◌≡◌, ℕ, ◌<◌, ◌≤◌, Ok, List, length};
 ghost use Rattle.room.specs.declared.Shape.{Shape as AShape};
 ghost use Rattle.room.specs.Shapes.{servers_of, Link};
 ghost use Rattle.links.specs.Table.{room_refusal};
-ghost use Rattle.finder.specs.Hops.{step_of, Ok};
+ghost use Rattle.finder.specs.Hops.{step_of, Ok as Allowed};
 ghost use Rattle.finder.specs.Kept.{Blank, Kept};
 ghost use Rattle.finder.specs.Scan.{Sided, Visiting, Visited};
-ghost use Rattle.finder.specs.Answers.{Finding};
+ghost use Rattle.finder.specs.Answers.{what_found, HasHops, Finding};
 
 use crate::Found;
-use crate::answers::no_route;
 use crate::trace::retrace;
 use links::is_live;
 use room::{Shape, Side, side_of};
@@ -67,7 +66,7 @@ fn visit(
 // The tables with the source alone in them.
 fn begin(back: &mut [u32; 4096], queue: &mut [u16; 4096], source: usize)
     requires { (source < 4096) × Blank back.old × (length queue.old ≡ 4096) }
-    ensures { (s : AShape) (t : List ℕ) → servers_of s ≤ 4096 → source < servers_of s → Kept (step_of s) (Ok s t) (servers_of s) source back.new queue.new 1 0 }
+    ensures { (s : AShape) (t : List ℕ) → servers_of s ≤ 4096 → source < servers_of s → Kept (step_of s) (Allowed s t) (servers_of s) source back.new queue.new 1 0 }
 {
     back[source] = 0;
     queue[0] = source as u16;
@@ -75,28 +74,29 @@ fn begin(back: &mut [u32; 4096], queue: &mut [u16; 4096], source: usize)
 
 // The least route, where nothing is refused: servers in the order in which they are found, levels down
 // from k, values up from 0; a switch is scanned once.
-pub(crate) fn search(shape: Shape, table: &[u8], source: usize, destination: usize) -> Found
+pub(crate) fn search(shape: Shape, table: &[u8], source: usize, destination: usize) -> Option<Found>
     requires { room_refusal shape table.now source destination ≡ 0 }
-    ensures { Finding shape table.now source destination result }
+    ensures { Finding shape table.now source destination (what_found result) × HasHops (Ok result) }
 {
+    // Arrays filled with a no-parent value, and not options: the rules' own form.
     let mut back = [NONE; 4096];
     let mut queue = [NOBODY; 4096];
     begin(&mut back, &mut queue, source);
     let mut marks = [0u8; 16384];
     let mut head: usize = 0;
     let mut tail: usize = 1;
+    // A `while`: the queue grows as it is gone through (the label is the rules' own form, to stop at the first arrival).
     'scan: while head < tail {
         let here = queue[head] as usize;
-        let mut level = shape.k + 1;
-        while 0 < level {
-            level -= 1;
+        for level in (0..=shape.k).rev() {
             let side = to_scan(shape, table, &marks, here, level);
             let mut w = side.first;
             for v in 0..side.count {
                 marks[w * 4 + level] = 1;
                 if back[w] == NONE {
                     tail = visit(shape, table, &mut back, &mut queue, head, tail, level, v, w);
-                    if back[destination] != NONE {
+                    let arrived = back[destination] != NONE;
+                    if arrived {
                         break 'scan;
                     }
                 }
@@ -106,7 +106,7 @@ pub(crate) fn search(shape: Shape, table: &[u8], source: usize, destination: usi
         head += 1;
     }
     if back[destination] == NONE {
-        return no_route(0);
+        return None;
     }
     retrace(shape.k, &back, &queue, source, destination)
 }

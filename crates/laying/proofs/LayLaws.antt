@@ -5,16 +5,16 @@ use mathlib.Core.Logic.{◌↔◌}
 use mathlib.Core.Bool.{or-false}
 use mathlib.Core.List.{List, [], ◌∷◌}
 use native.Mathlib.Omega.{arith}
-use lib.ListN.{length, take}
-use Rattle.lists.proofs.ListLaws.{take-filled, length-filled}
-use Rattle.refusals.specs.declared.Refusal.{Refusal}
+use lib.ListN.{take}
+use Rattle.lists.proofs.ListLaws.{take-filled}
+use Rattle.refusals.specs.Refusals.{Refusal}
 use Rattle.refusals.specs.Refusals.{none, plain}
 use Rattle.refusals.proofs.AnswerLaws.{answer-refused, answer-given, answered, answer-none}
 use Rattle.room.specs.declared.Shape.{Shape}
 use Rattle.room.specs.Shapes.{Ends}
 use Rattle.links.specs.Table.{room_refusal, TableOf}
 use Rattle.links.proofs.TableLaws.{room_of, room-none}
-use Rattle.path.specs.declared.Reading.{Reading}
+use Rattle.path.specs.Told.{Reading}
 use Rattle.path.specs.Routes.{Route, Encodes}
 use Rattle.path.specs.Answers.{read_answer}
 use Rattle.path.proofs.ReverseLaws.{source-server, dest_server, ends_differ}
@@ -25,8 +25,8 @@ use Rattle.laying.proofs.MarkLaws.{marks-same}
 
 -- ---- where nothing is refused
 
-pub room-table : (s : Shape) (t : List ℕ) (a d n : ℕ) → n ≡ room_refusal s t a d → n ≡ 0 → TableOf s t
-room-table s t a d n e z = (room_of s t a d (sym e ∙ z)).1
+pub room-table : (s : Shape) (t : List ℕ) (a d : ℕ) → 0 ≡ room_refusal s t a d → TableOf s t
+room-table s t a d e = (room_of s t a d (sym e)).1
 
 -- ---- the route that is read, laid
 
@@ -34,19 +34,19 @@ laid_one : {s : Shape} {t u : List ℕ} (vs : List ℕ) → Marks s t (takes s v
 unfolding taken
 laid_one {s} vs h = marks-same (takes s vs) (taken s (vs ∷ [])) (λ x l k. sym (or-false (takes s vs x l))) h
 
-module _ (s : Shape) (t : List ℕ) (a d : ℕ) (bs : List ℕ) (n : ℕ) (e : n ≡ room_refusal s t a d) where
-  pub lays_refused : (n ≡ 0 → ⊥) → (r : Refusal) → r ≡ plain n → Lays s t a d bs r t
+module _ (s : Shape) (t : List ℕ) (a d : ℕ) (bs : List ℕ) where
+  pub lays_refused : (n : ℕ) → n ≡ room_refusal s t a d → (n ≡ 0 → ⊥) → (r : Refusal) → r ≡ plain n → Lays s t a d bs r t
   unfolding lay_refusal
-  lays_refused ne r q =
+  lays_refused n e ne r q =
       record { refusal = answer-refused n _ plain r _ q e ne; kept = λ m. refl; laid = λ z. absurd (ne (sym (ap (λ (x : Refusal). x.number) q) ∙ z)) }
 
-  module _ (z : n ≡ 0) (x : Reading) (q : x ≡ read_answer s a d bs) where
+  module _ (e : 0 ≡ room_refusal s t a d) (x : Reading) (q : x ≡ read_answer s a d bs) where
     lay_read : x.refusal ≡ lay_refusal s t a d bs
     unfolding lay_refusal
-    lay_read = answer-given n _ plain _ _ e z (ap (λ (y : Reading). y.refusal) q)
+    lay_read = answer-given 0 _ plain _ _ e refl (ap (λ (y : Reading). y.refusal) q)
 
-    pub lays_unread : (x.refusal.number ≡ 0 → ⊥) → Lays s t a d bs x.refusal t
-    lays_unread ne = record { refusal = lay_read; kept = λ m. refl; laid = λ y. absurd (ne y) }
+    pub lays_unread : (x.refusal.number ≡ 0 → ⊥) → (r : Refusal) → r ≡ x.refusal → Lays s t a d bs r t
+    lays_unread ne r p = record { refusal = p ∙ lay_read; kept = λ m. refl; laid = λ y. absurd (ne (sym (ap (λ (w : Refusal). w.number) p) ∙ y)) }
 
     module _ (y : x.refusal.number ≡ 0) where
       read_is : (vs : List ℕ) × Encodes s [] a d bs vs
@@ -55,20 +55,19 @@ module _ (s : Shape) (t : List ℕ) (a d : ℕ) (bs : List ℕ) (n : ℕ) (e : n
       read-servers : take x.count x.servers ≡ read_is.0
       read-servers = ap (λ (w : Reading). take w.count w.servers) (q ∙ read-given read_is.1) ∙ take-filled 9 read_is.0
 
-      pub read-inside : x.count ≤ length x.servers
+      pub read-inside : x.count ≤ 9
       read-inside =
           let f = read_is.1.route.route.few in
-          let w = q ∙ read-given read_is.1 in
-          omega (arith, ap (λ (v : Reading). v.count) w, ap (λ (v : Reading). length v.servers) w, length-filled 9 read_is.0 f)
+          omega (arith, ap (λ (v : Reading). v.count) (q ∙ read-given read_is.1))
 
       pub read-route : Route s [] (take x.count x.servers)
       read-route = subst (Route s []) (sym read-servers) read_is.1.route.route
 
-      pub lays_done : {u : List ℕ} → Marks s t (takes s (take x.count x.servers)) u → (r : Refusal) → r ≡ none → Lays s t a d bs r u
-      lays_done {u} h r o =
+      pub lays_done : {u : List ℕ} → Marks s t (takes s (take x.count x.servers)) u → Lays s t a d bs none u
+      lays_done {u} h =
           record {
-            refusal = o ∙ sym (ap (λ (w : Reading). w.refusal) (q ∙ read-given read_is.1)) ∙ lay_read;
-            kept = λ m. absurd (m (ap (λ (w : Refusal). w.number) o));
+            refusal = sym (ap (λ (w : Reading). w.refusal) (q ∙ read-given read_is.1)) ∙ lay_read;
+            kept = λ m. absurd (m refl);
             laid = λ w vs k. laid_one vs (subst (λ (us : List ℕ). Marks s t (takes s us) u) (read-servers ∙ encodes_unique read_is.1 k) h);
           }
 

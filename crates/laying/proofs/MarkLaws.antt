@@ -3,21 +3,21 @@ use Prim.Native.Nat.{ℕ, suc, ◌+◌, ◌-◌, ◌*◌, ◌≤◌, ◌<◌}
 use mathlib.Core.Path.{◌≡◌, refl, sym, ap, ap₂, ◌∙◌, subst}
 use mathlib.Core.Logic.{◌⊎◌, inl, inr, ⊎_elim}
 use mathlib.Core.Bool.{Bool, true, false, cond, ◌&&◌, ◌||◌, and-true, and-false, or-true, or-false, or_assoc, and-or_distrib_left}
-use mathlib.Core.List.{List, []}
+use mathlib.Core.List.{List, [], ◌∷◌}
 use native.Mathlib.Omega.{arith}
 use native.Mathlib.Numerals.{add-one}
 use native.Mathlib.Nat.{add-mul}
 use native.Mathlib.Decide.{ℕ_discrete, dec_lt}
 use lib.Dec.{ltb, eqb}
-use lib.ListN.{length, get_or, take, drop}
-use lib.Seq.{take-suc, take_all}
+use lib.ListN.{length, get_or, take, drop, length-drop}
+use lib.Seq.{take-suc, take_all, get_or-drop, drop-drop}
 use borrow.Author.Tests.{eq-eqb, ne_eqb, lt-ltb, le-ltb}
 use Rattle.lists.specs.Lists.{is_in, middle}
-use Rattle.lists.proofs.ListLaws.{in_snoc, length_turn, turn_at, length-middle, middle-at}
+use Rattle.lists.proofs.ListLaws.{in_snoc, length_turn, turn_at}
 use Rattle.room.specs.declared.Shape.{Shape}
 use Rattle.room.specs.Shapes.{bound, Server, Link, Value}
 use Rattle.room.specs.declared.Side.{Side}
-use Rattle.room.specs.declared.Between.{Between}
+use Rattle.room.specs.Told.{Between}
 use Rattle.room.specs.Addresses.{digit, with_digit, switch_of}
 use Rattle.room.specs.Answers.{only_level, between_answer}
 use Rattle.room.specs.Sides.{side_of}
@@ -188,10 +188,6 @@ value-at : {s : Shape} {y m : ℕ} {side : Side} → Link s y m → side ≡ sid
 value-at h e v q = record { link = h; value = omega (arith, values h e) }
 
 module _ {t : List ℕ} {y m : ℕ} {side : Side} where
-  pub side_start : MarkedSide t y m side t 0 side.first
-  side_start =
-      record { below = omega arith; next = omega arith; long = refl; marks = λ s h e k. marks-none (up_to_value s y m 0) k (value_none s y m) }
-
   module _ {s : Shape} (h : Link s y m) (e : side ≡ side_of s y m) where
     module _ {u : List ℕ} {v other : ℕ} (p : MarkedSide t y m side u v other) where
       side_server : v < side.count → other ≡ with_digit s m v y
@@ -254,12 +250,15 @@ module _ {s : Shape} {w vs : List ℕ} (route : Route s w vs) (i : ℕ) (h : i +
   hop-next : get_or vs (i + 1) 0 ≡ get_or vs (suc i) 0
   hop-next = ap (λ (j : ℕ). get_or vs j 0) (add-one i)
 
-  hop-level : b.level ≡ level_to s (get_or vs i 0) (get_or vs (suc i) 0)
-  hop-level =
+  hop_adjacent : b ≡ only_level (level_to s (get_or vs i 0) (get_or vs (suc i) 0) ∷ [])
+  hop_adjacent =
       let f : b ≡ between_answer s (get_or vs i 0) (get_or vs (suc i) 0) = e ∙ ap (between_answer s (get_or vs i 0)) hop-next in
       let ha = route.servers i (omega arith) in
       let hb = route.servers (suc i) hop-inside in
-      ap (λ (x : Between). x.level) (between-answered ha hb b f ∙ ap only_level ((neighbours-exactly ha hb (level_to s (get_or vs i 0) (get_or vs (suc i) 0))).1 (route.hops i hop-inside)))
+      between-answered ha hb b f ∙ ap only_level ((neighbours-exactly ha hb (level_to s (get_or vs i 0) (get_or vs (suc i) 0))).1 (route.hops i hop-inside))
+
+  hop-level : b.level ≡ level_to s (get_or vs i 0) (get_or vs (suc i) 0)
+  hop-level = ap (λ (x : Between). x.level) hop_adjacent
 
   pub hop-link : Link s (get_or vs i 0) b.level
   hop-link = record { server = route.servers i (omega arith); level = omega (arith, hop-level, (route.hops i hop-inside).level) }
@@ -267,6 +266,42 @@ module _ {s : Shape} {w vs : List ℕ} (route : Route s w vs) (i : ℕ) (h : i +
   pub hop-switch : switch_at s b.level (get_or vs i 0) ≡ get_or (switches_of s vs) i 0
   unfolding switches_of switch_to
   hop-switch = ap (λ (l : ℕ). switch_at s l (get_or vs i 0)) hop-level ∙ sym (turn_at (switch_to s) vs i hop-inside)
+
+-- what is left of a list at place i, and of what follows its first: the two ends of the hops from there on
+pub record HopsLeft (vs : List ℕ) (i : ℕ) (froms tos : List ℕ) : Type 0 where
+  pub from : froms ≡ drop i vs
+  pub to : tos ≡ drop (i + 1) vs
+
+pub hops_all : (vs : List ℕ) {froms tos : List ℕ} → froms ≡ vs → tos ≡ take (length vs - 1) (drop 1 vs) → HopsLeft vs 0 froms tos
+hops_all vs e f = record { from = e; to = f ∙ take_all (length vs - 1) (drop 1 vs) (omega (arith, length-drop 1 vs)) }
+
+module _ {vs : List ℕ} {i : ℕ} {froms tos : List ℕ} (h : HopsLeft vs i froms tos) where
+  pub no_from : length froms ≡ 0 → length vs ≤ i + 1
+  no_from e = omega (arith, ap length h.from, length-drop i vs)
+
+  pub no_to : length tos ≡ 0 → length vs ≤ i + 1
+  no_to e = omega (arith, ap length h.to, length-drop (i + 1) vs)
+
+hop_cut : (vs : List ℕ) (i x : ℕ) (xs : List ℕ) → drop i vs ≡ x ∷ xs → (i < length vs) × (x ≡ get_or vs i 0) × (xs ≡ drop (i + 1) vs)
+hop_cut vs i x xs e =
+    let n : i + 0 ≡ i = omega arith in (
+      omega (arith, length-drop i vs, ap length e),
+      sym (sym (get_or-drop i vs 0 0 ∙ ap (λ (j : ℕ). get_or vs j 0) n) ∙ ap (λ (ys : List ℕ). get_or ys 0 0) e),
+      sym (sym (drop-drop 1 i vs) ∙ ap (drop 1) e),
+    )
+
+-- one hop, and those after it
+pub record HopHere (vs : List ℕ) (i x y : ℕ) (froms tos : List ℕ) : Type 0 where
+  pub more : i + 1 < length vs
+  pub from : x ≡ get_or vs i 0
+  pub to : y ≡ get_or vs (i + 1) 0
+  pub left : HopsLeft vs (i + 1) froms tos
+
+pub hop_here : {vs : List ℕ} {i x y : ℕ} {froms tos xs ys : List ℕ} → HopsLeft vs i froms tos → froms ≡ x ∷ xs → tos ≡ y ∷ ys → HopHere vs i x y xs ys
+hop_here {vs} {i} {x} {y} {froms} {tos} {xs} {ys} h e f =
+    let a = hop_cut vs i x xs (sym h.from ∙ e) in
+    let b = hop_cut vs (i + 1) y ys (sym h.to ∙ f) in
+    record { more = b.0; from = a.1; to = b.1; left = record { from = a.2; to = b.2 } }
 
 pub switches-long : (s : Shape) (vs : List ℕ) → length (switches_of s vs) ≡ length vs - 1
 unfolding switches_of
@@ -276,9 +311,24 @@ switches-long s vs = length_turn (switch_to s) vs
 abbrev pub MarkedSwitches : (s : Shape) (t vs : List ℕ) (i : ℕ) (u : List ℕ) → Type 0
 MarkedSwitches s t vs i u = MarkedAmong (λ x l. switch_at s l x) s t (switches_of s vs) i u
 
-pub switches-step : {s : Shape} {t u v w vs : List ℕ} {i : ℕ} → Route s w vs → MarkedSwitches s t vs i u → i + 1 < length vs → (b : Between) → b ≡ between_answer s (get_or vs i 0) (get_or vs (i + 1) 0) → Marks s u (λ x l. eqb (switch_at s l x) (switch_at s b.level (get_or vs i 0))) v → MarkedSwitches s t vs (i + 1) v
-switches-step {s} {vs = vs} {i = i} route p h b e q =
-    among-step p (omega (arith, switches-long s vs)) (switch_at s b.level (get_or vs i 0)) (hop-switch route i h b e) q
+module _ {s : Shape} {w vs : List ℕ} {i x y : ℕ} {froms tos : List ℕ} (route : Route s w vs) (h : HopHere vs i x y froms tos) (b : Between) (e : b ≡ between_answer s x y) where
+  here : b ≡ between_answer s (get_or vs i 0) (get_or vs (i + 1) 0)
+  here = e ∙ ap₂ (between_answer s) h.from h.to
+
+  -- they are neighbours, and the question is not refused
+  pub here-adjacent : b.adjacent ≡ true
+  here-adjacent = ap (λ (z : Between). z.adjacent) (hop_adjacent route i h.more b here)
+
+  pub here-asked : b.refusal.number ≡ 0
+  here-asked = ap (λ (z : Between). z.refusal.number) (hop_adjacent route i h.more b here)
+
+  pub here-link : Link s x b.level
+  here-link = subst (λ (z : ℕ). Link s z b.level) (sym h.from) (hop-link route i h.more b here)
+
+  pub switches-step : {t u v : List ℕ} → MarkedSwitches s t vs i u → Marks s u (λ x' l. eqb (switch_at s l x') (switch_at s b.level x)) v → (j : ℕ) → j ≡ i + 1 → MarkedSwitches s t vs j v × HopsLeft vs j froms tos
+  switches-step {t} {u} {v} p q j e' =
+      let n = among-step p (omega (arith, switches-long s vs, h.more)) (switch_at s b.level x) (ap (switch_at s b.level) h.from ∙ hop-switch route i h.more b here) q in
+      subst (λ (m : ℕ). MarkedSwitches s t vs m v × HopsLeft vs m froms tos) (sym e') (n, h.left)
 
 pub switches-done : {s : Shape} {t u : List ℕ} {i : ℕ} (vs : List ℕ) → MarkedSwitches s t vs i u → length vs ≤ i + 1 → Marks s t (λ x l. is_in (switch_at s l x) (switches_of s vs)) u
 switches-done {s} vs p h = among-done p (omega (arith, switches-long s vs))
@@ -288,11 +338,6 @@ switches-done {s} vs p h = among-done p (omega (arith, switches-long s vs))
 middle_part : (vs : List ℕ) → take (length vs - 1 - 1) (drop 1 vs) ≡ middle vs
 unfolding middle
 middle_part vs = let e : length vs - 1 - 1 ≡ length vs - 2 = omega arith in ap (λ (m : ℕ). take m (drop 1 vs)) e
-
-pub middle-servers : {s : Shape} {w vs : List ℕ} → Route s w vs → (i : ℕ) → i < length (take (length vs - 1 - 1) (drop 1 vs)) → Server s (get_or (take (length vs - 1 - 1) (drop 1 vs)) i 0)
-middle-servers {s} {w} {vs} h =
-    subst (λ (us : List ℕ). (i : ℕ) → i < length us → Server s (get_or us i 0)) (sym (middle_part vs))
-    (λ i p. subst (Server s) (sym (middle-at vs i (omega (arith, length-middle vs)))) (h.servers (suc i) (omega (arith, length-middle vs))))
 
 pub route-marks : {s : Shape} {t u v : List ℕ} (vs : List ℕ) → Marks s t (λ x l. is_in x (take (length vs - 1 - 1) (drop 1 vs))) u → Marks s u (λ x l. is_in (switch_at s l x) (switches_of s vs)) v → Marks s t (takes s vs) v
 unfolding takes

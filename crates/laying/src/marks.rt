@@ -15,10 +15,8 @@ fn mark_server(shape: Shape, copy: &mut [u8], server: usize)
     requires { Server shape server × TableOf shape copy.old }
     ensures { Marks shape copy.old (λ x l. eqb x server) copy.new }
 {
-    let mut level: usize = 0;
-    while level <= shape.k {
+    for level in 0..=shape.k {
         mark(&mut *copy, server, level);
-        level += 1;
     }
 }
 
@@ -40,10 +38,8 @@ fn mark_servers(shape: Shape, copy: &mut [u8], servers: &[usize])
     requires { ((i : ℕ) → i < length servers.now → Server shape (get_or servers.now i 0)) × TableOf shape copy.old }
     ensures { Marks shape copy.old (λ x l. is_in x servers.now) copy.new }
 {
-    let mut i: usize = 0;
-    while i < servers.len() {
-        mark_server(shape, &mut *copy, servers[i]);
-        i += 1;
+    for server in servers {
+        mark_server(shape, &mut *copy, *server);
     }
 }
 
@@ -52,12 +48,12 @@ fn mark_switches(shape: Shape, copy: &mut [u8], servers: &[usize])
     requires { Route shape [] servers.now × TableOf shape copy.old }
     ensures { Marks shape copy.old (λ x l. is_in (switch_at shape l x) (switches_of shape servers.now)) copy.new }
 {
-    let mut i: usize = 0;
-    while i + 1 < servers.len() {
-        let from = servers[i];
-        let hop = room::level_between(shape, from, servers[i + 1]);
-        mark_switch(shape, &mut *copy, from, hop.level);
-        i += 1;
+    for (from, to) in servers.iter().zip(&servers[1..]) {
+        match room::level_between(shape, *from, *to) {
+            Ok(Some(level)) => mark_switch(shape, &mut *copy, *from, level),
+            Ok(None) => unreachable!(),
+            Err(_) => unreachable!(),
+        }
     }
 }
 

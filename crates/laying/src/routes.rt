@@ -1,9 +1,10 @@
 // The call, and what it refuses.
+ghost use Rattle.refusals.specs.Reasons.{told_where};
 ghost use Rattle.laying.specs.Answers.{Lays};
 
 use crate::marks::mark_route;
 use links::room_refusal;
-use refusals::Refusal;
+use refusals::Refused;
 use room::Shape;
 
 // Lays the route of an array into a failed-link table: marks each link of its middle servers, and each
@@ -15,20 +16,11 @@ pub fn lay_route(
     source: usize,
     destination: usize,
     path: &[u8],
-) -> Refusal
-    ensures { Lays shape table.old source destination path.now result table.new }
+) -> Result<(), Refused>
+    ensures { Lays shape table.old source destination path.now (told_where result) table.new }
 {
-    let number = room_refusal(shape, &*table, source, destination);
-    if number != 0 {
-        return Refusal::plain(number);
-    }
-    let reading = path::read_path(shape, source, destination, path);
-    let refusal = reading.refusal;
-    if refusal.number != 0 {
-        return refusal;
-    }
-    let count = reading.count;
-    let servers = reading.servers;
-    mark_route(shape, &mut *table, &servers[..count]);
-    Refusal::none()
+    room_refusal(shape, &*table, source, destination)?;
+    let reading = path::read_path(shape, source, destination, path)?;
+    mark_route(shape, &mut *table, &reading.servers[..reading.count]);
+    Ok(())
 }

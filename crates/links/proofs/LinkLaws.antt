@@ -1,68 +1,72 @@
 -- What the programs over bytes and tables compute.
-use Prim.Native.Nat.{ℕ, suc, ◌+◌, ◌-◌, ◌/◌, ◌%◌, ◌^◌, ◌≤◌, ◌<◌, max}
-use mathlib.Core.Path.{◌≡◌, refl, sym, ap, ap₂, ◌∙◌}
-use mathlib.Core.Bool.{Bool, true, false, cond, ◌&&◌}
-use mathlib.Core.List.{List, [], ◌∷◌}
+use Prim.Native.Nat.{ℕ, suc, ◌+◌, ◌-◌, ◌*◌, ◌/◌, ◌%◌, ◌^◌, ◌≤◌, ◌<◌, max}
+use mathlib.Core.Path.{◌≡◌, refl, sym, ap, ◌∙◌}
+use mathlib.Core.Bool.{Bool, true, false, cond, ◌&&◌, and_assoc, and-true}
+use mathlib.Core.List.{List}
+use mathlib.Core.Logic.{◌≢◌}
 use native.Mathlib.Numerals.{add-one}
 use native.Mathlib.Omega.{arith}
-use native.Mathlib.Decide.{dec_lt}
-use native.Mathlib.Nat.{one-le-pow}
+use native.Mathlib.Decide.{ℕ_discrete}
+use native.Mathlib.Nat.{one-le-pow, mod-lt}
 use lib.Dec.{ltb, eqb, lit<}
 use lib.ListN.{length, get_or, set, drop, drop_of_length-le, get_or-eq_default}
 use lib.Seq.{set_out}
 use borrow.Author.Tests.{eq-eqb, ne_eqb, lt-ltb, le-ltb}
+use lib.Bits.{bit_and}
+use Rattle.std.specs.Int.{w8}
+use Rattle.std.specs.Int.RustNames.{bit_or}
+use Rattle.std.proofs.lemmas.Bool.Decides.{nat_tests}
+use Rattle.std.proofs.lemmas.Nat.{and_le_l, or_lt, one_shl}
+use Rattle.std.proofs.lemmas.Nat.Bits.{shr_and_one, bit_at_set_same, bit_at_set_other, bit_at_clear_same, bit_at_clear_other}
 use Rattle.lists.proofs.ListLaws.{left}
-use Rattle.refusals.specs.declared.Refusal.{Refusal}
-use Rattle.refusals.specs.Refusals.{none, plain}
-use Rattle.refusals.proofs.AnswerLaws.{answer-refused, answer-given}
+use Rattle.std.specs.Prelude.{Result}
+use Rattle.refusals.specs.declared.Reason.{Reason}
+use Rattle.refusals.specs.Reasons.{tells}
+use Rattle.refusals.proofs.ReasonLaws.{tells-same}
 use Rattle.room.specs.declared.Shape.{Shape}
 use Rattle.room.specs.Shapes.{servers_of, server_count}
 use Rattle.room.specs.Refusals.{shape_refusal, server_refusal, link_refusal, ends_refusal}
 use Rattle.room.proofs.PowerLaws.{count-servers}
 use Rattle.room.proofs.RefusalLaws.{valid_of, valid-none, server_of, link_of, ends_of}
-use Rattle.links.specs.Table.{bit, failed, live, with_bit, changed, changed_in, fits_levels, bits_fit, table_refusal, table_link_refusal}
-use Rattle.links.specs.declared.Asked.{Asked}
-use Rattle.links.specs.Answers.{not_asked, asked, failed_answer}
-use Rattle.links.proofs.BitLaws.{bit-none, bit_le, put_same, put-raised, put-lowered, put_lt}
-use Rattle.links.proofs.TableLaws.{changed-in, live_sender, live_receiver, live-exactly}
+use Rattle.links.specs.Table.{bit, failed, with_bit, changed, changed_in, fits_levels, bits_fit, table_refusal}
+use Rattle.links.specs.Told.{Asked}
+use Rattle.links.specs.Answers.{not_asked, asked}
+use Rattle.links.proofs.BitLaws.{bit-none, put-bit, put_other, put_lt, bits_same}
+use Rattle.links.proofs.TableLaws.{changed-in}
 
--- ---- bytes, where w is the weight of bit l, and b whether it is set
-
--- the one level below 8 that is none of 0 to 6
-past_three : (l : ℕ) → (l ≡ 0 → ⊥) → (l ≡ 1 → ⊥) → (l ≡ 2 → ⊥) → (l ≡ 3 → ⊥) → 4 ≤ l
-past_three l a b d e = omega arith
-
-past_six : (l : ℕ) → 4 ≤ l → (l ≡ 4 → ⊥) → (l ≡ 5 → ⊥) → (l ≡ 6 → ⊥) → l < 8 → 128 ≡ 2 ^ l
-past_six l m f g h p = let q : l ≡ 7 = omega arith in rw q
-
-pub weight_last : (l : ℕ) → (l ≡ 0 → ⊥) → (l ≡ 1 → ⊥) → (l ≡ 2 → ⊥) → (l ≡ 3 → ⊥) → (l ≡ 4 → ⊥) → (l ≡ 5 → ⊥) → (l ≡ 6 → ⊥) → l < 8 → 128 ≡ 2 ^ l
-weight_last l a b d e = past_six l (past_three l a b d e)
-
-pub weight_pos : (l w : ℕ) → w ≡ 2 ^ l → 0 < w
-weight_pos l w e = rw e (one-le-pow l 2 (lit< tt))
+-- ---- bytes, by shifts and masks
 
 pub bit_past : (l x : ℕ) → x < 256 → 8 ≤ l → false ≡ bit l x
 bit_past l x h p = sym (bit-none 8 l x h p)
 
-pub bit_by : (l x w : ℕ) → w ≡ 2 ^ l → eqb (x / w % 2) 1 ≡ bit l x
+pub bit_by : (l x : ℕ) → eqb (bit_and (x / 2 ^ l) 1) 1 ≡ bit l x
 unfolding bit
-bit_by l x w e = ap (λ (y : ℕ). eqb (x / y % 2) 1) e
+bit_by l x = ap (λ (y : ℕ). eqb y 1) (shr_and_one x l)
 
--- a bit that is as it is wanted
-pub put-kept : (l x : ℕ) (b : Bool) → b ≡ bit l x → (d : Bool) → b ≡ d → x ≡ with_bit d l x
-put-kept l x b e d h = sym (put_same d l x (sym e ∙ h))
+-- a byte whose bit l is b, and whose others are as they were
+put_by : (b : Bool) (l x y : ℕ) → l < 8 → x < 256 → y < 256 → bit l y ≡ b → ((m : ℕ) → m < 8 → m ≢ l → bit m y ≡ bit m x) → y ≡ with_bit b l x
+put_by b l x y h p q same other = bits_same 8 y (with_bit b l x) q (put_lt b 8 l x h p) each
+  where
+    each : (m : ℕ) → m < 8 → bit m y ≡ bit m (with_bit b l x)
+    each m k =
+        elim (ℕ_discrete m l) [
+          | yes e ↦ rw e (same ∙ sym (put-bit b l x))
+          | no n ↦ other m k n ∙ sym (put_other b l m x n)
+        ]
 
-pub raise_made : (l x w : ℕ) (b : Bool) → b ≡ bit l x → b ≡ false → w ≡ 2 ^ l → x + w ≡ with_bit true l x
-raise_made l x w b e h q = ap (λ (y : ℕ). x + y) q ∙ sym (put-raised l x (sym e ∙ h))
+pub or_sets : (l x : ℕ) → l < 8 → x < 256 → bit_or x (1 * 2 ^ l % 256) ≡ with_bit true l x
+unfolding bit
+or_sets l x h p =
+    put_by true l x _ h p (or_lt 8 x (1 * 2 ^ l % 256) p (mod-lt (1 * 2 ^ l) (lit< tt)))
+    (ap (λ (y : ℕ). eqb y 1) (bit_at_set_same w8 x l h))
+    (λ m k n. ap (λ (y : ℕ). eqb y 1) (bit_at_set_other w8 x l h m n))
 
-pub raise_fits : (l x w : ℕ) (b : Bool) → b ≡ bit l x → b ≡ false → w ≡ 2 ^ l → l < 8 → x < 256 → x + w < 256
-raise_fits l x w b e h q p r = rw (raise_made l x w b e h q) (put_lt true 8 l x p r)
-
-pub lower-made : (l x w : ℕ) (b : Bool) → b ≡ bit l x → b ≡ true → w ≡ 2 ^ l → x - w ≡ with_bit false l x
-lower-made l x w b e h q = ap (λ (y : ℕ). x - y) q ∙ sym (put-lowered l x (sym e ∙ h))
-
-pub lower-fits : (l x w : ℕ) (b : Bool) → b ≡ bit l x → b ≡ true → w ≡ 2 ^ l → w ≤ x
-lower-fits l x w b e h q = rw q (bit_le l x (sym e ∙ h))
+pub and_resets : (l x : ℕ) → l < 8 → x < 256 → bit_and x (255 - 1 * 2 ^ l % 256) ≡ with_bit false l x
+unfolding bit
+and_resets l x h p =
+    put_by false l x _ h p (omega (arith, and_le_l x (255 - 1 * 2 ^ l % 256)))
+    (ap (λ (y : ℕ). eqb y 1) (bit_at_clear_same w8 x l h))
+    (λ m k n. ap (λ (y : ℕ). eqb y 1) (bit_at_clear_other w8 x l h m k n))
 
 -- ---- one link changed, with no test
 
@@ -89,51 +93,25 @@ pub failed-past : (t : List ℕ) (a l : ℕ) → length t ≤ a → false ≡ fa
 unfolding failed
 failed-past t a l h = sym (ap (bit l) (get_or-eq_default t 0 h) ∙ bit-none 0 l 0 (lit< tt) (omega arith))
 
-pub sender_failed : (t : List ℕ) (l a b : ℕ) (r : Bool) → r ≡ failed t a l → r ≡ true → false ≡ live t l a b
-sender_failed t l a b r e h = sym (live_sender t l a b (sym e ∙ h))
-
-pub receiver_failed : (t : List ℕ) (l a b : ℕ) (r : Bool) → r ≡ failed t b l → r ≡ true → false ≡ live t l a b
-receiver_failed t l a b r e h = sym (live_receiver t l a b (sym e ∙ h))
-
-pub neither_failed : (t : List ℕ) (l a b : ℕ) (r q : Bool) → r ≡ failed t a l → r ≡ false → q ≡ failed t b l → q ≡ false → true ≡ live t l a b
-neither_failed t l a b r q e h d g = sym ((live-exactly t l a b).1 (sym e ∙ h, sym d ∙ g))
-
--- the greatest of a list
-unfoldable pub greatest : List ℕ → ℕ
-greatest [] = 0
-greatest (x ∷ xs) = max x (greatest xs)
-
-pub greatest-next : (t : List ℕ) (i : ℕ) → i < length t → greatest (drop i t) ≡ max (get_or t i 0) (greatest (drop (i + 1) t))
-unfolding greatest
-greatest-next t i h = rw (left t i 0 h)
-
+-- the greatest of two fits where both do
 max-fits : (k x y : ℕ) → fits_levels k (max x y) ≡ (fits_levels k x && fits_levels k y)
 unfolding fits_levels
-max-fits k x y =
-    let w = 2 ^ suc k in
-    elim (dec_lt x w) [
-      | yes p ↦ elim (dec_lt y w) [
-        | yes q ↦ let r : max x y < w = omega arith in rw (lt-ltb x w p, lt-ltb y w q, lt-ltb (max x y) w r)
-        | no q ↦ let r : w ≤ max x y = omega arith in rw (lt-ltb x w p, le-ltb y w (omega arith), le-ltb (max x y) w r)
-      ]
-      | no p ↦ let r : w ≤ max x y = omega arith in rw (le-ltb x w (omega arith), le-ltb (max x y) w r)
-    ]
+max-fits k x y = grind (arith, nat_tests)
 
--- where the greatest fits, all do
-greatest-fits : (k : ℕ) (xs : List ℕ) → fits_levels k (greatest xs) ≡ bits_fit k xs
-unfolding greatest bits_fit fits_levels
-greatest-fits k [] = lt-ltb 0 (2 ^ suc k) (one-le-pow (suc k) 2 (lit< tt))
-greatest-fits k (x ∷ xs) = max-fits k x (greatest xs) ∙ ap (λ (b : Bool). fits_levels k x && b) (greatest-fits k xs)
+-- m is the greatest before place i
+pub fits_start : (k : ℕ) (t : List ℕ) → (fits_levels k 0 && bits_fit k t) ≡ bits_fit k t
+unfolding fits_levels
+fits_start k t = rw (lt-ltb 0 (2 ^ suc k) (one-le-pow (suc k) 2 (lit< tt)))
 
--- m is the greatest before place i, w what a byte has to be below
-pub greatest-end : (k w m i : ℕ) (t : List ℕ) → w ≡ 2 ^ (k + 1) → length t ≤ i → max m (greatest (drop i t)) ≡ greatest t → ltb m w ≡ bits_fit k t
-unfolding fits_levels greatest
-greatest-end k w m i t e h g =
-    let f : m ≡ greatest t = last (drop_of_length-le t h) in
-    ap₂ ltb f (e ∙ ap (λ (x : ℕ). 2 ^ x) (add-one k)) ∙ greatest-fits k t
-  where
-    last : drop i t ≡ [] → m ≡ greatest t
-    last q = let z : max m 0 ≡ greatest t = ap (λ (xs : List ℕ). max m (greatest xs)) (sym q) ∙ g in omega arith
+pub fits_next : (k m i : ℕ) (t : List ℕ) → i < length t → (fits_levels k (max m (get_or t i 0)) && bits_fit k (drop (i + 1) t)) ≡ (fits_levels k m && bits_fit k (drop i t))
+unfolding bits_fit
+fits_next k m i t h = rw (left t i 0 h, max-fits k m (get_or t i 0), and_assoc)
+
+pub fits_end : (k m i : ℕ) (t : List ℕ) → k ≤ 3 → length t ≤ i → (fits_levels k m && bits_fit k (drop i t)) ≡ bits_fit k t → ltb m (1 * 2 ^ (k + 1) % 256) ≡ bits_fit k t
+unfolding fits_levels bits_fit
+fits_end k m i t p h e =
+    let w : (fits_levels k m && true) ≡ bits_fit k t = ap (λ (xs : List ℕ). fits_levels k m && bits_fit k xs) (sym (drop_of_length-le t h)) ∙ e in
+    rw (one_shl (k + 1) 8 (omega arith), add-one) (sym (and-true (ltb m (2 ^ suc k))) ∙ w)
 
 -- x is the number of servers that the program counted, b whether the bits fit
 module _ (s : Shape) (t : List ℕ) (x : ℕ) (z : shape_refusal s ≡ 0) (e : x ≡ server_count s) where
@@ -157,24 +135,17 @@ pub shape-levels : (s : Shape) → shape_refusal s ≡ 0 → s.k ≤ 3
 shape-levels s z = (valid_of s z).levels
 
 -- where a link is not refused the shape is not, nor where a server is not, nor two ends
-pub link-shape : (s : Shape) (a l r : ℕ) → r ≡ link_refusal s a l → r ≡ 0 → shape_refusal s ≡ 0
-link-shape s a l r e h = sym (valid-none (link_of s a l (sym e ∙ h)).server.valid)
+pub link-shape : (s : Shape) (a l : ℕ) → 0 ≡ link_refusal s a l → shape_refusal s ≡ 0
+link-shape s a l e = sym (valid-none (link_of s a l (sym e)).server.valid)
 
-pub server-shape : (s : Shape) (a r : ℕ) → r ≡ server_refusal s a → r ≡ 0 → shape_refusal s ≡ 0
-server-shape s a r e h = sym (valid-none (server_of s a (sym e ∙ h)).valid)
+pub server-shape : (s : Shape) (a : ℕ) → 0 ≡ server_refusal s a → shape_refusal s ≡ 0
+server-shape s a e = sym (valid-none (server_of s a (sym e)).valid)
 
-pub ends_shape : (s : Shape) (a d r : ℕ) → r ≡ ends_refusal s a d → r ≡ 0 → shape_refusal s ≡ 0
-ends_shape s a d r e h = sym (valid-none (ends_of s a d (sym e ∙ h)).source.valid)
+pub ends_shape : (s : Shape) (a d : ℕ) → 0 ≡ ends_refusal s a d → shape_refusal s ≡ 0
+ends_shape s a d e = sym (valid-none (ends_of s a d (sym e)).source.valid)
 
--- ---- a link asked for: r is what was found of the tests
+-- ---- a link asked for
 
-module _ (s : Shape) (t : List ℕ) (a l r : ℕ) (e : r ≡ table_link_refusal s t a l) where
-  pub asked-refused : (x : Refusal) → x ≡ plain r → (r ≡ 0 → ⊥) → ◌≡◌ {A = Asked} (record { refusal = x; failed = false }) (failed_answer s t a l)
-  unfolding failed_answer
-  asked-refused x f h =
-      answer-refused r _ not_asked _ (asked (failed t a l)) (ap (λ (y : Refusal). record { refusal = y; failed = false }) f) e h
-
-  pub asked-given : (x : Refusal) (b : Bool) → x ≡ none → r ≡ 0 → b ≡ failed t a l → ◌≡◌ {A = Asked} (record { refusal = x; failed = b }) (failed_answer s t a l)
-  unfolding failed_answer
-  asked-given x b f h g =
-      answer-given r _ not_asked _ (asked (failed t a l)) e h (ap₂ (λ (y : Refusal) (d : Bool). record { refusal = y; failed = d }) f g)
+-- two results that tell the same are one
+pub asked-same : (x y : Result Bool Reason) → tells not_asked asked x ≡ tells not_asked asked y → x ≡ y
+asked-same = tells-same not_asked asked (λ (x : Asked). x.refusal.number) (λ (x : Asked). x.failed) (λ r. refl) (λ x. refl) (λ x. refl)

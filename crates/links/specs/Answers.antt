@@ -2,7 +2,7 @@
 use Rattle.std.specs.Prelude.{ℕ, List, Bool, false}
 use Rattle.refusals.specs.Refusals.{none, plain, answer}
 use Rattle.room.specs.declared.Shape.{Shape}
-use Rattle.links.specs.declared.Asked.{Asked}
+use Rattle.links.specs.Told.{Asked}
 use Rattle.links.specs.Table.{failed, table_link_refusal}
 
 abbrev pub not_asked : ℕ → Asked

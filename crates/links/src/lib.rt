@@ -3,7 +3,6 @@
 // clears it does by `summary`, which keeps the count of each switch beside it.
 #![tactic(auto)]
 
-use refusals::Refusal;
 // bits.rt: the bits of a byte
 mod bits;
 // changes.rt: one link changed, with no test of a room
@@ -13,15 +12,8 @@ mod links;
 // tables.rt: a whole table, and the links of a hop
 mod tables;
 
-pub use changes::{clear, mark};
+pub use changes::{clear, mark, put};
 pub use links::failed_link;
 pub use tables::{
     is_failed, is_live, room_refusal, table_link_refusal, table_refusal, table_server_refusal,
 };
-
-// Whether a link is failed; or a refusal and false.
-#[derive(Clone, Copy)]
-pub struct Asked {
-    pub refusal: Refusal,
-    pub failed: bool,
-}

@@ -13,7 +13,7 @@ use lib.Dec.{leb, eqb}
 use borrow.Author.Tests.{eq-eqb, ne_eqb, eqb-true, eqb-false, leb-true, le-leb, not-true}
 use Rattle.lists.proofs.ListLaws.{both_held, length_snoc, snoc_last, length_turn, turn_at, length-filled, take-filled, filled_at, filled-past}
 use Rattle.lists.specs.Lists.{is_in, in_turn, filled}
-use Rattle.refusals.specs.declared.Refusal.{Refusal}
+use Rattle.refusals.specs.Refusals.{Refusal}
 use Rattle.refusals.specs.Refusals.{none, plain, refused_at, ◌or_else◌, ◌unless◌}
 use Rattle.refusals.proofs.ChainLaws.{or_else_zero, chain_goes, test_held}
 use Rattle.refusals.proofs.AnswerLaws.{answered, answer-none}
@@ -26,9 +26,9 @@ use Rattle.room.proofs.RefusalLaws.{valid-none, server_of, server-none, ends_of,
 use Rattle.room.proofs.RoomLaws.{neighbours-exactly}
 use Rattle.links.specs.Table.{bit, failed, live}
 use Rattle.links.proofs.TableLaws.{live_empty}
-use Rattle.path.specs.declared.Walked.{Walked}
-use Rattle.path.specs.declared.Reading.{Reading}
-use Rattle.path.specs.declared.Writing.{Writing}
+use Rattle.path.specs.Told.{Walked}
+use Rattle.path.specs.Told.{Reading}
+use Rattle.path.specs.Told.{Writing}
 use Rattle.path.specs.Routes.{switch_at, level_to, switch_to, byte_to, switches_of, encode, Route, Prefix, Encodes}
 use Rattle.path.specs.Walks.{Walk, stopped, arrived, hop_to, hop_refusal, again, stops_at, fault, ended, walk_from, walk, single, write_fault, write_from}
 use Rattle.path.specs.Answers.{array_refusal, no_walk, walked, walk_answer, reading, read_answer, no_writing, reversed, reverse_answer, servers_refusal, write_refusal, written, on_the_way, write_answer}

@@ -3,9 +3,7 @@ use Prim.Native.Nat.{ℕ, suc, ◌+◌, ◌-◌, ◌*◌, ◌/◌, ◌^◌, ◌�
 use mathlib.Core.Path.{◌≡◌, refl, ◌∙◌}
 use native.Mathlib.Omega.{arith}
 use native.Mathlib.Decide.{dec_le}
-use native.Mathlib.Nat.{mul-add, mul-one, mul-le-mul, mul-le-mul_left, pow-zero, pow-suc, pow-le-pow_right}
-use mir.Syntax.{w64}
-use mir.Val.{Fits}
+use native.Mathlib.Nat.{mul-add, mul-one, mul-le-mul_left, pow-zero, pow-suc, pow-le-pow_right}
 use Rattle.room.specs.declared.Shape.{Shape}
 use Rattle.room.specs.Shapes.{Link}
 use Rattle.room.specs.Addresses.{digit}
@@ -89,8 +87,4 @@ module _ {s : Shape} {a b : ℕ} (h : Next s a b) (d : ℕ) (e : d ≡ (a - b) +
         | no u ↦ omega (arith, h.hop.level, h.from.valid.levels)
       ]
 
-  pub square_fits : Fits w64 (s.n * s.n)
-  square_fits = let f = h.from.valid.ports in omega (arith, mul-le-mul f f)
-
-  pub cube_fits : Fits w64 (s.n * s.n * s.n)
-  cube_fits = let f = h.from.valid.ports in omega (arith, mul-le-mul (mul-le-mul f f) f)
+pub ruleset hop_levels = (level-zero, level-one, level-two, level_three)

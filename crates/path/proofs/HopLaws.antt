@@ -7,20 +7,24 @@ use mathlib.Core.Bool.{Bool, true, false, not, ◌&&◌}
 use mathlib.Core.List.{List, [], ◌∷◌}
 use native.Mathlib.Omega.{arith}
 use native.Mathlib.Decide.{ℕ_discrete, dec_lt}
-use native.Mathlib.Nat.{mod-lt}
 use lib.ListN.{get_or}
-use mir.Syntax.{w32, w64}
+use mir.Syntax.{w64}
 use mir.Val.{Fits}
 use lib.Dec.{ltb, leb, eqb}
 use borrow.Author.Tests.{lt-ltb, le-ltb, le-leb, lt-leb, ltb-true, leb-true, eqb-true, eqb-false, eq-eqb, ne_eqb, not-true, not-false}
+use Rattle.std.specs.Prelude.{Result, Ok, Err, IsErrAnd, MatchResult}
+use Rattle.std.proofs.lemmas.Result.{err_from_is_err_and}
 use Rattle.lists.proofs.ListLaws.{both_held}
-use Rattle.refusals.specs.declared.Refusal.{Refusal}
-use Rattle.refusals.specs.Refusals.{none, plain, refused_at, ◌or_else◌, ◌unless◌}
+use Rattle.refusals.specs.declared.Reason.{Reason}
+use Rattle.refusals.specs.declared.Refused.{Refused}
+use Rattle.refusals.specs.Reasons.{number_of, refusal_of, tells, tells_where}
+use Rattle.path.specs.declared.Hop.{Hop as Hopped}
+use Rattle.refusals.specs.Refusals.{refused_at, ◌or_else◌, ◌unless◌}
 use Rattle.refusals.proofs.ChainLaws.{or_else_zero, test_held, at-most_holds, below_holds}
 use Rattle.refusals.proofs.AnswerLaws.{answer-refused, answer-given, answer-number, answered}
 use Rattle.room.specs.declared.Shape.{Shape}
-use Rattle.room.specs.declared.Number.{Number}
-use Rattle.room.specs.declared.Switch.{Switch}
+use Rattle.room.specs.Told.{Number}
+use Rattle.room.specs.Told.{Switch}
 use Rattle.room.specs.Shapes.{bound, power_of, Server, Link, Value}
 use Rattle.room.specs.Digits.{differ_from}
 use Rattle.room.specs.Addresses.{digits, digit, with_digit, switch_of, differing, Neighbours}
@@ -32,10 +36,10 @@ use Rattle.room.proofs.RefusalLaws.{server_of, server-none}
 use Rattle.room.proofs.AnswerLaws.{digit-answered, switch-answered}
 use Rattle.room.proofs.RoomLaws.{bound_le, digit_lt, digit_closed_at, with_server, with_same, with_beside, beside_with, same_switch, switch-small, neighbours-exactly, weight_pos}
 use Rattle.room.proofs.SideLaws.{Moved, moved, power-link}
-use Rattle.path.specs.declared.Hop.{Hop}
+use Rattle.path.specs.Told.{Hop}
 use Rattle.path.specs.Routes.{byte_of, level_of, value_of, switch_at, level_to, switch_to, byte_to}
 use Rattle.path.specs.Walks.{hop_to, hop_refusal}
-use Rattle.path.specs.Answers.{no_hop, hop_by, hop_from, hop_answer}
+use Rattle.path.specs.Answers.{no_hop, stops_hop, the_hop, a_hop, hop_by, hop_from, hop_answer}
 use Rattle.path.specs.Inside.{hop_fault}
 
 -- ---- what the calls of the room found
@@ -141,13 +145,7 @@ module _ (k l v m : ℕ) where
   unfolding hop_fault ◌or_else◌
   fault_ten h g = simp (le-leb l k h, lt-ltb v m g)
 
--- no hop, with its number at hop 1 of route 1
-abbrev pub stops_hop : ℕ → Hop
-stops_hop r = no_hop (refused_at r 1 1)
-
--- a digit is a number of 64 bits
-pub digit-fits : (a p n : ℕ) → 0 < n → Fits w32 n → Fits w64 (a / p % n)
-digit-fits a p n h f = omega (arith, mod-lt (a / p) h)
+pub ruleset hop_faults = (fault-eight, fault_nine, fault_ten)
 
 module _ (s : Shape) (a b l v : ℕ) (el : l ≡ level_of b) (ev : v ≡ value_of b) where
   refuses : (r : ℕ) (x : Hop) → suc r ≡ hop_refusal s a b → x ≡ stops_hop (suc r) → x ≡ hop_from s a b
@@ -209,14 +207,14 @@ module _ (s : Shape) (a b l v : ℕ) (el : l ≡ level_of b) (ev : v ≡ value_o
           fits : Moved s a l v p
           fits = moved sets p weight
 
-          goes : o ≢ v → (r : Refusal) → r ≡ none → record { refusal = r; next = a - o * p + v * p; level = l; old = o } ≡ hop_from s a b
+          goes : o ≢ v → a_hop (a - o * p + v * p) l o ≡ hop_from s a b
           unfolding hop_from hop_to
-          goes e r er =
+          goes e =
               let n : Named s a b = (rw (← el, ← ev) sets, rw (← el, ← ev) (λ z. e (own ∙ z))) in
               let w : a - o * p + v * p ≡ with_digit s (level_of b) (value_of b) a =
               ap (λ (x : ℕ). a - x * p + v * p) eo ∙ fits.whole ∙ ap₂ (λ (x y : ℕ). with_digit s x y a) el ev in
               answer-given 0 _ stops_hop _ _ (sym ((hop-exactly here b).1 n)) refl
-              (rw (er, w, own, el))
+              (rw (w, own, el))
 
           same : (x : Hop) → o ≡ v → x ≡ stops_hop 10 → x ≡ hop_from s a b
           unfolding hop_refusal ◌or_else◌
@@ -231,20 +229,14 @@ module _ (s : Shape) (a b l v : ℕ) (el : l ≡ level_of b) (ev : v ≡ value_o
                 let y = both_held (ltb v m) _ x.1 in
                 (leb-true l s.k x.0, ltb-true v m y.0, eqb-false o v (not-true _ y.1))
 
-            -- what is taken off and put on
-            pub own-there : o * p ≤ a
-            own-there = subst (λ (x : ℕ). x * p ≤ a) (sym eo) (fits passed.0 passed.1).own
-
-            pub own-fits : Fits w64 (o * p)
-            own-fits = omega (arith, own-there, here.below, here.valid.small)
-
+            -- what is put on
             pub new-fits : Fits w64 (v * p)
             new-fits = let f = fits passed.0 passed.1 in omega (arith, f.new)
 
             pub next_fits : Fits w64 (a - o * p + v * p)
             next_fits = let f = fits passed.0 passed.1 in omega (arith, f.new, here.below, here.valid.small)
 
-            pub hop-goes : (r : Refusal) → r ≡ none → record { refusal = r; next = a - o * p + v * p; level = l; old = o } ≡ hop_from s a b
+            pub hop-goes : a_hop (a - o * p + v * p) l o ≡ hop_from s a b
             hop-goes = goes passed.0 passed.1 passed.2
 
           hop_ten : t ≡ false → l ≤ s.k → v < m → (x : Hop) → x ≡ stops_hop 10 → x ≡ hop_from s a b
@@ -253,16 +245,23 @@ module _ (s : Shape) (a b l v : ℕ) (el : l ≡ level_of b) (ev : v ≡ value_o
               same level q x (eqb-true o v (not-false _ e)) f
 
           -- 8, 9 or 10
-          pub hop-none : t ≡ false → (q : ℕ) → q ≡ hop_fault s.k l v m → (x : Hop) → x ≡ stops_hop q → x ≡ hop_from s a b
-          hop-none h q e x f =
+          pub hop-none : t ≡ false → (q : ℕ) → q ≡ hop_fault s.k l v m → stops_hop q ≡ hop_from s a b
+          hop-none h q e =
               elim (dec_lt s.k l) [
-                | yes y ↦ hop_eight x y (f ∙ ap stops_hop (e ∙ sym (fault-eight s.k l v m y)))
+                | yes y ↦ hop_eight _ y (ap stops_hop (e ∙ sym (fault-eight s.k l v m y)))
                 | no y ↦ let k : l ≤ s.k = omega arith in
                     elim (dec_lt v m) [
-                      | no z ↦ let w : m ≤ v = omega arith in hop_nine x k w (f ∙ ap stops_hop (e ∙ sym (fault_nine s.k l v m k w)))
-                      | yes z ↦ hop_ten h k z x (f ∙ ap stops_hop (e ∙ sym (fault_ten s.k l v m k z)))
+                      | no z ↦ let w : m ≤ v = omega arith in hop_nine _ k w (ap stops_hop (e ∙ sym (fault_nine s.k l v m k w)))
+                      | yes z ↦ hop_ten h k z _ (ap stops_hop (e ∙ sym (fault_ten s.k l v m k z)))
                     ]
               ]
+
+pub ruleset hop_sizes = (hop-server-fits, hop-weight-fits, hop-ports_fit, hop-weight, hop-ports, new-fits, next_fits, hop-goes, hop-none)
+
+-- y is what was made of x, which is told of the hop: its reason as a refusal at hop 1 of route 1
+pub hop_told : (s : Shape) (a b : ℕ) (x : Result Hopped Reason) → tells stops_hop the_hop x ≡ hop_from s a b → {post : Reason → Refused → Type 0} (y : Result Hopped Refused) → MatchResult x (λ h. y ≡ Ok h) (λ e. IsErrAnd y (post e)) → ((e : Reason) (q : Refused) → post e q → refusal_of q ≡ refused_at (number_of e) 1 1) → tells_where no_hop the_hop y ≡ hop_from s a b
+hop_told s a b (Ok h) e y m k = ap (tells_where no_hop the_hop) m ∙ e
+hop_told s a b (Err r) e y m k = let z = err_from_is_err_and y m in rw (z.1) (ap no_hop (k r z.0 z.2)) ∙ e
 
 -- ---- for a caller: the number is that of the byte, and with none the hop leads where it says
 
@@ -285,18 +284,6 @@ hop_tested h b = rw (← server-none h)
 
 pub hop-known : {s : Shape} {a : ℕ} → Server s a → (b : ℕ) (x : Hop) → x ≡ hop_answer s a b → x ≡ hop_from s a b
 hop-known h b x e = e ∙ sym (hop_tested h b)
-
--- ---- the hop as a call of its own, r being what the server's tests found
-
-module _ (s : Shape) (a b r : ℕ) (e : r ≡ server_refusal s a) where
-  pub hop-refused : r ≢ 0 → (q : Refusal) → q ≡ plain r → (x : Hop) → x ≡ no_hop q → x ≡ hop_answer s a b
-  unfolding hop_answer
-  hop-refused n q f x k = answer-refused r _ (λ (y : ℕ). no_hop (plain y)) x _ (k ∙ ap no_hop f) e n
-
-  module _ (z : r ≡ 0) where
-    pub hop-tried : (x : Hop) → x ≡ hop_from s a b → x ≡ hop_answer s a b
-    unfolding hop_answer
-    hop-tried x k = answer-given r _ (λ (y : ℕ). no_hop (plain y)) x _ e z k
 
 -- ---- where a hop leads
 

@@ -9,4 +9,5 @@ pub mod DistanceLaws
 pub mod WriteLaws
 pub mod WayLaws
 pub mod ByteLaws
+pub mod ToldLaws
 pub mod Unique

@@ -5,20 +5,27 @@ use mathlib.Core.Logic.{◌≢◌}
 use mathlib.Core.Bool.{Bool, true, false, not, cond, ◌||◌, or-false}
 use mathlib.Core.List.{List, [], ◌∷◌, ◌++◌}
 use native.Mathlib.Omega.{arith}
-use lib.ListN.{length}
+use lib.ListN.{length, get_or}
 use lib.Dec.{eqb}
 use borrow.Author.Tests.{ne_eqb, not-true}
+use Rattle.std.specs.Prelude.{Option, Some, None, MatchOption}
+use Rattle.std.specs.Option.{unwrap_or}
 use Rattle.lists.specs.Lists.{is_in, place_in}
 use Rattle.lists.proofs.ListLaws.{in_snoc}
-use Rattle.lists.proofs.FirstPlaces.{place-most, place_found, place-missing, place_snoc}
-use Rattle.refusals.specs.declared.Refusal.{Refusal}
+use Rattle.lists.proofs.FirstPlaces.{passed_here, passed-all, place-most, place_found, place-missing, place_snoc}
+use Rattle.refusals.specs.Refusals.{Refusal}
 use Rattle.refusals.specs.Refusals.{refused_at, with_earlier, ◌or_else◌, ◌unless◌, OneOf}
 use Rattle.refusals.proofs.AnswerLaws.{answer-refused, answer-number, answered}
 use Rattle.refusals.proofs.ChainLaws.{or_else_zero, test_held}
 use Rattle.refusals.proofs.NumberLaws.{test_one, chain_one}
 use Rattle.path.specs.Walks.{again, again_numbers, earlier_of, stops_at}
-use Rattle.path.specs.declared.Tried.{Tried}
+use Rattle.path.specs.Told.{Tried}
 use Rattle.path.specs.Inside.{no_try, adds, added, newly}
+
+-- the first place of x in a list, or none where it is not there
+pub place-of : (x : ℕ) (xs : List ℕ) (p : Option ℕ) → MatchOption p ((j : ℕ) → j < length xs → get_or xs j 0 ≢ x) (λ i. (i < length xs) × (get_or xs i 0 ≡ x) × ((j : ℕ) → j < i → get_or xs j 0 ≢ x)) → unwrap_or p (length xs) ≡ place_in x xs
+place-of x xs None h = passed-all x xs (length xs) (record { within = omega arith; not_yet = h }) (omega arith)
+place-of x xs (Some i) h = passed_here x xs i (record { within = omega (arith, h.0); not_yet = h.2 }) h.0 h.1
 
 module _ (met used : List ℕ) (b w : ℕ) where
   pub again-none : again met used b w ≡ 0 → (is_in b met ≡ false) × (is_in w used ≡ false)
@@ -143,8 +150,13 @@ module _ (r : ℕ) (met used : List ℕ) (b w : ℕ) (x : Tried) (e : x ≡ adde
   added-switch z =
       ap (λ (y : Tried). y.switch) (answered (λ (y : Tried). y.number) (λ n. no_try (earlier_of n met used b w) n) (λ n. refl) r x (adds w) e z).1
 
-  -- as refusal n at hop h, with the earlier hop beside it
-  pub added-refusal : x.number ≢ 0 → (h : ℕ) (n : Refusal) → n ≡ refused_at x.number 1 h → (m : Refusal) → m ≡ with_earlier 0 x.earlier n → m ≡ stops_at r h met used b w
-  added-refusal z h n f m k =
-      let y : x ≡ no_try (earlier_of r met used b w) r = e ∙ sym (answer-refused r r (λ i. no_try (earlier_of i met used b w) i) _ (adds w) refl refl (λ q. z (added-number ∙ q))) in
-      k ∙ ap (with_earlier 0 x.earlier) f ∙ ap (λ (i : Tried). with_earlier 0 i.earlier (refused_at i.number 1 h)) y
+  module _ (z : x.number ≢ 0) where
+    stopped_by : x ≡ no_try (earlier_of r met used b w) r
+    stopped_by = e ∙ sym (answer-refused r r (λ i. no_try (earlier_of i met used b w) i) _ (adds w) refl refl (λ q. z (added-number ∙ q)))
+
+    pub added-earlier : x.earlier ≡ earlier_of r met used b w
+    added-earlier = ap (λ (i : Tried). i.earlier) stopped_by
+
+    -- as refusal n at hop h, with the earlier hop beside it
+    pub added-refusal : (h : ℕ) (n : Refusal) → n ≡ refused_at x.number 1 h → (m : Refusal) → m ≡ with_earlier 0 x.earlier n → m ≡ stops_at r h met used b w
+    added-refusal h n f m k = k ∙ ap (with_earlier 0 x.earlier) f ∙ ap (λ (i : Tried). with_earlier 0 i.earlier (refused_at i.number 1 h)) stopped_by

@@ -1,64 +1,55 @@
 -- Laws of what a walk answers: reading and reversal take it from the way, and the way back is the number's bytes.
-use Prim.Native.Nat.{ℕ, zero, suc, ◌+◌, ◌-◌, ◌*◌, ◌/◌, ◌%◌, ◌≤◌, ◌<◌}
+use Prim.Native.Nat.{ℕ, zero, suc, ◌+◌, ◌-◌, ◌*◌, ◌/◌, ◌%◌, ◌^◌, ◌≤◌, ◌<◌}
 use mathlib.Core.Path.{◌≡◌, refl, sym, ap, ap₂, ◌∙◌, subst}
 use mathlib.Core.Logic.{◌≢◌}
 use mathlib.Core.List.{List, [], ◌∷◌, ◌++◌, reverse}
 use native.Mathlib.Omega.{arith}
-use native.Mathlib.Nat.{div-div-eq-div-mul}
+use native.Mathlib.Nat.{div-div-eq-div-mul, mul_comm, pow-suc}
+use Rattle.std.specs.Int.{byte_at, bytes_low_first, to_le_bytes}
 use lib.ListN.{length, get_or, replicate, length-reverse}
 use mir.Syntax.{w64}
 use mir.Val.{Fits}
 use Rattle.lists.specs.Lists.{in_turn, filled}
 use Rattle.lists.proofs.ListLaws.{length_turn, filled_at}
-use Rattle.refusals.specs.declared.Refusal.{Refusal}
-use Rattle.refusals.specs.Refusals.{plain, answer}
+use Rattle.refusals.specs.Refusals.{Refusal, plain, answer}
+use Rattle.refusals.specs.declared.Refused.{Refused}
+use Rattle.refusals.specs.Reasons.{refusal_of}
+use Rattle.refusals.proofs.ReasonLaws.{reason-some}
 use Rattle.refusals.proofs.AnswerLaws.{answer-none}
 use Rattle.room.specs.declared.Shape.{Shape}
-use Rattle.path.specs.declared.Walked.{Walked}
-use Rattle.path.specs.declared.Way.{Way}
-use Rattle.path.specs.declared.Reading.{Reading}
-use Rattle.path.specs.declared.Writing.{Writing}
+use Rattle.path.specs.Told.{Walked, Way}
 use Rattle.path.specs.Routes.{byte_to, encode, Route, Encodes}
 use Rattle.path.specs.Walks.{Walk, stopped, arrived, walk}
-use Rattle.path.specs.Answers.{array_refusal, no_walk, walked, walk_answer, reading, read_answer, no_writing, reversed, reverse_answer}
-use Rattle.path.specs.Inside.{no_reading, low_first, low_bytes, back_over, no_way, a_way, way_of, way_answer, WalkLeaves}
+use Rattle.path.specs.Answers.{array_refusal, no_walk, walked, walk_answer, no_reading, reading, read_answer, no_writing, reversed, reverse_answer}
+use Rattle.path.specs.Inside.{low_first, back_over, no_way, a_way, way_of, way_answer, WalkLeaves}
 use Rattle.path.proofs.ReverseLaws.{route-reverse}
 use Rattle.path.proofs.CodecLaws.{encode-small, encodes_none, encodes_walk, walk-exactly, walk-given, reverse-given}
 
 -- ---- bytes of a number, the lowest first
 
+-- the bytes from the second on are those of the number without its lowest
+bytes_on : (i m x : ℕ) → bytes_low_first (suc i) m x ≡ bytes_low_first i m (x / 256)
+bytes_on i zero x = refl
+bytes_on i (suc m) x = ap₂ (λ (b : ℕ) (bs : List ℕ). b ∷ bs) (byte_on i) (bytes_on (suc i) m x)
+  where
+    byte_on : (j : ℕ) → byte_at (suc j) x ≡ byte_at j (x / 256)
+    byte_on zero = refl
+    byte_on (suc j) = ap (λ (y : ℕ). y % 256) (sym (div-div-eq-div-mul x 256 (256 ^ suc j) ∙ ap (λ (y : ℕ). x / y) (sym (pow-suc 256 (suc j) ∙ mul_comm (256 ^ suc j) 256))))
+
 -- what bytes were put together gives them back, with zeros past them
-pub low-bytes : (m : ℕ) (bs : List ℕ) → ((i : ℕ) → i < length bs → get_or bs i 0 < 256) → length bs ≤ m → low_bytes m (low_first bs) ≡ filled m bs
-unfolding low_bytes low_first filled
+low-bytes : (m : ℕ) (bs : List ℕ) → ((i : ℕ) → i < length bs → get_or bs i 0 < 256) → length bs ≤ m → bytes_low_first 0 m (low_first bs) ≡ filled m bs
+unfolding low_first filled
 low-bytes zero [] h few = refl
 low-bytes zero (b ∷ bs) h few = let z : ⊥ = omega arith in absurd z
 low-bytes (suc m) [] h few =
     let e : suc (m - 0) ≡ suc m - 0 = omega arith in
-    ap (λ (xs : List ℕ). 0 ∷ xs) (low-bytes m [] (λ i p. let z : ⊥ = omega arith in absurd z) (omega arith)) ∙ ap (λ (n : ℕ). replicate n 0) e
+    ap (λ (xs : List ℕ). 0 ∷ xs) (bytes_on 0 m 0 ∙ low-bytes m [] (λ i p. let z : ⊥ = omega arith in absurd z) (omega arith)) ∙ ap (λ (n : ℕ). replicate n 0) e
 low-bytes (suc m) (b ∷ bs) h few =
     let first = h 0 (omega arith) in
     let e : (b + 256 * low_first bs) % 256 ≡ b = omega arith in
     let f : (b + 256 * low_first bs) / 256 ≡ low_first bs = omega arith in
     let g : m - length bs ≡ suc m - suc (length bs) = omega arith in
-    ap₂ (λ (x : ℕ) (xs : List ℕ). x ∷ xs) e (ap (low_bytes m) f ∙ low-bytes m bs (λ i p. h (suc i) (omega arith)) (omega arith) ∙ ap (λ (n : ℕ). bs ++ replicate n 0) g)
-
--- the eight bytes as the program takes them
-pub low-eight : (x : ℕ) (b c d e f g h i : ℕ) → b ≡ x % 256 → c ≡ x / 256 % 256 → d ≡ x / 65536 % 256 → e ≡ x / 16777216 % 256 → f ≡ x / 4294967296 % 256 → g ≡ x / 1099511627776 % 256 → h ≡ x / 281474976710656 % 256 → i ≡ x / 72057594037927936 % 256 → (b ∷ c ∷ d ∷ e ∷ f ∷ g ∷ h ∷ i ∷ []) ≡ low_bytes 8 x
-unfolding low_bytes
-low-eight x b c d e f g h i eb ec ed ee ef eg eh ei =
-    let q2 : x / 65536 ≡ x / 256 / 256 = sym (div-div-eq-div-mul x 256 256) in
-    let q3 : x / 16777216 ≡ x / 256 / 256 / 256 = sym (div-div-eq-div-mul x 65536 256) ∙ on q2 in
-    let q4 : x / 4294967296 ≡ x / 256 / 256 / 256 / 256 = sym (div-div-eq-div-mul x 16777216 256) ∙ on q3 in
-    let q5 : x / 1099511627776 ≡ x / 256 / 256 / 256 / 256 / 256 = sym (div-div-eq-div-mul x 4294967296 256) ∙ on q4 in
-    let q6 : x / 281474976710656 ≡ x / 256 / 256 / 256 / 256 / 256 / 256 = sym (div-div-eq-div-mul x 1099511627776 256) ∙ on q5 in
-    let q7 : x / 72057594037927936 ≡ x / 256 / 256 / 256 / 256 / 256 / 256 / 256 = sym (div-div-eq-div-mul x 281474976710656 256) ∙ on q6 in
-    rw (eb, ec, ed ∙ low q2, ee ∙ low q3, ef ∙ low q4, eg ∙ low q5, eh ∙ low q6, ei ∙ low q7)
-  where
-    on : {y z : ℕ} → y ≡ z → y / 256 ≡ z / 256
-    on = ap (λ (n : ℕ). n / 256)
-
-    low : {y z : ℕ} → y ≡ z → y % 256 ≡ z % 256
-    low = ap (λ (n : ℕ). n % 256)
+    ap₂ (λ (x : ℕ) (xs : List ℕ). x ∷ xs) e (bytes_on 0 m (b + 256 * low_first bs) ∙ ap (bytes_low_first 0 m) f ∙ low-bytes m bs (λ i p. h (suc i) (omega arith)) (omega arith) ∙ ap (λ (n : ℕ). bs ++ replicate n 0) g)
 
 -- ---- the way of a route
 
@@ -67,7 +58,7 @@ unfolding way_answer
 way-given {s} h = answer-none _ _ _ (encodes_none h) ∙ ap (way_of s) (encodes_walk h)
 
 -- the bytes of the way back are those of the route backwards
-way_back : {s : Shape} {t vs : List ℕ} → Route s t vs → low_bytes 8 (back_over s vs) ≡ encode s (reverse vs)
+way_back : {s : Shape} {t vs : List ℕ} → Route s t vs → to_le_bytes w64 (back_over s vs) ≡ encode s (reverse vs)
 unfolding back_over encode
 way_back {s} {t} {vs} r =
     let xs = in_turn (byte_to s) (reverse vs) in
@@ -97,9 +88,6 @@ module _ (s : Shape) (t : List ℕ) (a d : ℕ) (bs : List ℕ) (w : Way) {met u
       go zero (arrived vs ws) n = absurd (n refl)
       go (suc q) k n = refl
 
-  pub walk_refuses : w.refusal.number ≢ 0 → (x : Walked) → x ≡ no_walk w.refusal → x ≡ walk_answer s t a d bs
-  walk_refuses n x e = e ∙ stopped-walk n
-
   module _ (z : w.refusal.number ≡ 0) where
     abbrev found : (vs : List ℕ) × Encodes s t a d bs vs
     found = (walk-exactly s t a d bs).0 (sym (ap (λ (x : Refusal). x.number) way-refusal) ∙ z)
@@ -117,21 +105,24 @@ module _ (s : Shape) (t : List ℕ) (a d : ℕ) (bs : List ℕ) (w : Way) {met u
     pub walk_answers : record { refusal = w.refusal; count = w.hops + 1; servers = met; switches = used } ≡ walk_answer s t a d bs
     walk_answers = rw (way-refusal, walk-count, g.servers z, g.switches z)
 
+pub walk_refuses : (s : Shape) (t : List ℕ) (a d : ℕ) (bs : List ℕ) (r : Refused) {met used : List ℕ} → WalkLeaves s t a d bs (no_way (refusal_of r)) met used → no_walk (refusal_of r) ≡ walk_answer s t a d bs
+walk_refuses s t a d bs r g = stopped-walk s t a d bs _ g (reason-some r.reason)
+
 -- ---- plain reading and reversal
 
-module _ (s : Shape) (a d : ℕ) (bs : List ℕ) (w : Way) {met used : List ℕ} (g : WalkLeaves s [] a d bs w met used) where
-  pub read_refuses : w.refusal.number ≢ 0 → (x : Reading) → x ≡ no_reading w.refusal → x ≡ read_answer s a d bs
-  unfolding read_answer
-  read_refuses n x e = e ∙ ap reading (stopped-walk s [] a d bs w g n)
+pub read_refuses : (s : Shape) (a d : ℕ) (bs : List ℕ) (r : Refused) {met used : List ℕ} → WalkLeaves s [] a d bs (no_way (refusal_of r)) met used → no_reading (refusal_of r) ≡ read_answer s a d bs
+unfolding read_answer
+read_refuses s a d bs r g = ap reading (walk_refuses s [] a d bs r g)
 
+module _ (s : Shape) (a d : ℕ) (bs : List ℕ) (w : Way) {met used : List ℕ} (g : WalkLeaves s [] a d bs w met used) where
   pub read_answers : w.refusal.number ≡ 0 → record { refusal = w.refusal; count = w.hops + 1; servers = met } ≡ read_answer s a d bs
   unfolding read_answer
   read_answers z = ap reading (walk_answers s [] a d bs w g z)
 
-  pub reverse_refuses : w.refusal.number ≢ 0 → (x : Writing) → x ≡ no_writing w.refusal → x ≡ reverse_answer s a d bs
+  reverse_stops : w.refusal.number ≢ 0 → no_writing w.refusal ≡ reverse_answer s a d bs
   unfolding walk_answer reverse_answer
-  reverse_refuses n x e =
-      e ∙ ap no_writing r ∙ go (array_refusal s a d bs) (walk s [] a d bs) (λ z. n (ap (λ (x : Refusal). x.number) r ∙ z))
+  reverse_stops n =
+      ap no_writing r ∙ go (array_refusal s a d bs) (walk s [] a d bs) (λ z. n (ap (λ (x : Refusal). x.number) r ∙ z))
     where
       r : w.refusal ≡ (walk_answer s [] a d bs).refusal
       r = way-refusal s [] a d bs w g
@@ -141,9 +132,12 @@ module _ (s : Shape) (a d : ℕ) (bs : List ℕ) (w : Way) {met used : List ℕ}
       go zero (arrived vs ws) n = absurd (n refl)
       go (suc q) k n = refl
 
-  pub reverse_answers : w.refusal.number ≡ 0 → (ys : List ℕ) → ys ≡ low_bytes 8 w.back → record { refusal = w.refusal; bytes = ys } ≡ reverse_answer s a d bs
+  pub reverse_answers : w.refusal.number ≡ 0 → (ys : List ℕ) → ys ≡ to_le_bytes w64 w.back → record { refusal = w.refusal; bytes = ys } ≡ reverse_answer s a d bs
   reverse_answers z ys e =
       let f = found s [] a d bs w g z in
       let m = made s [] a d bs w g z in
-      let y = e ∙ ap (λ (x : Way). low_bytes 8 x.back) m ∙ way_back f.1.route.route in
+      let y = e ∙ ap (λ (x : Way). to_le_bytes w64 x.back) m ∙ way_back f.1.route.route in
       rw (ap (λ (x : Way). x.refusal) m, y) (sym (reverse-given f.1))
+
+pub reverse_refuses : (s : Shape) (a d : ℕ) (bs : List ℕ) (r : Refused) {met used : List ℕ} → WalkLeaves s [] a d bs (no_way (refusal_of r)) met used → no_writing (refusal_of r) ≡ reverse_answer s a d bs
+reverse_refuses s a d bs r g = reverse_stops s a d bs _ g (reason-some r.reason)

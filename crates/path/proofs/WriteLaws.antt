@@ -1,5 +1,5 @@
 -- Laws of writing: the byte of one hop, servers in turn, and what is refused on the way.
-use Prim.Native.Nat.{ℕ, suc, ◌+◌, ◌-◌, ◌*◌, ◌≤◌, ◌<◌}
+use Prim.Native.Nat.{ℕ, ◌+◌, ◌-◌, ◌*◌, ◌≤◌, ◌<◌}
 use mathlib.Core.Path.{◌≡◌, refl, sym, ap, ap₂, ◌∙◌}
 use mathlib.Core.Logic.{◌≢◌}
 use mathlib.Core.Bool.{Bool, true, false, ◌&&◌}
@@ -8,33 +8,35 @@ use native.Mathlib.Numerals.{add-one}
 use native.Mathlib.Omega.{arith}
 use lib.Dec.{leb}
 use lib.ListN.{length, get_or, set, take, drop, replicate, drop_of_length-le, length-set, length-drop}
-use lib.Seq.{take-suc, append_snoc, length-take-le}
+use lib.Seq.{take-suc, append_snoc}
 use mir.Syntax.{w64}
 use mir.Val.{Fits}
 use borrow.Author.Tests.{eq-eqb, ne_eqb, le-leb, lt-leb}
+use Rattle.std.specs.Prelude.{Result, Ok, Err, MatchResult}
 use Rattle.lists.proofs.ListLaws.{left, filled_is, rest_on, taken_on}
 use Rattle.lists.specs.Lists.{in_turn, filled}
-use Rattle.refusals.specs.declared.Refusal.{Refusal}
-use Rattle.refusals.specs.Refusals.{none, plain, refused_at, with_earlier, ◌or_else◌, ◌unless◌, answer}
-use Rattle.refusals.proofs.AnswerLaws.{answer-same, answer_chain, answer-refused, answer-given}
+use Rattle.refusals.specs.declared.Reason.{Reason}
+use Rattle.refusals.specs.declared.Refused.{Refused}
+use Rattle.refusals.specs.Reasons.{number_of, refusal_of}
+use Rattle.refusals.proofs.ReasonLaws.{reason-some}
+use Rattle.refusals.specs.Refusals.{Refusal, none, plain, refused_at, with_earlier, ◌or_else◌, ◌unless◌, answer}
+use Rattle.refusals.proofs.AnswerLaws.{answer-same, answer_chain, answer-given}
 use Rattle.refusals.proofs.ChainLaws.{or_else_left, chain_stops, chain_goes, same-refused, apart-passed}
 use Rattle.room.specs.declared.Shape.{Shape}
-use Rattle.room.specs.declared.Number.{Number}
-use Rattle.room.specs.declared.Between.{Between}
+use Rattle.room.specs.Told.{Number, Between}
 use Rattle.room.specs.Shapes.{Server}
 use Rattle.room.specs.Addresses.{digit, differing}
 use Rattle.room.specs.Refusals.{shape_refusal, server_refusal, pair_refusal, link_refusal}
-use Rattle.room.specs.Answers.{only_level, between_answer, digit_answer}
+use Rattle.room.specs.Answers.{no_number, no_between, only_level, between_answer, digit_answer}
 use Rattle.room.proofs.RefusalLaws.{link-none, pair_of, pair_none}
-use Rattle.room.proofs.AnswerLaws.{between-answered}
+use Rattle.room.proofs.AnswerLaws.{between-answered, digit-answered}
 use Rattle.room.proofs.RoomLaws.{digit_lt, bound_le, neighbours-exactly}
-use Rattle.path.specs.declared.Tried.{Tried}
-use Rattle.path.specs.declared.Writing.{Writing}
+use Rattle.path.specs.declared.faults.Fault.{Fault}
+use Rattle.path.specs.Told.{Tried, Writing}
 use Rattle.path.specs.Routes.{byte_of, level_to, switch_at, switch_to, byte_to, encode, Route}
-use Rattle.path.specs.Inside.{Next}
 use Rattle.path.specs.Walks.{single, earlier_of, stops_at, write_fault, write_from}
 use Rattle.path.specs.Answers.{servers_refusal, write_refusal, no_writing, a_writing, written, on_the_way, write_answer}
-use Rattle.path.specs.Inside.{no_try, newly, tried_to}
+use Rattle.path.specs.Inside.{no_try, adds, tried_as, newly, tried_to, Next}
 use Rattle.path.proofs.HopLaws.{digit-found}
 use Rattle.path.proofs.CodecLaws.{Listed, listed_of, way-route, single-one}
 use Rattle.path.proofs.RepeatLaws.{earlier-none, added-number, added-switch, added-refusal}
@@ -49,13 +51,15 @@ pub next_level : {s : Shape} {a b : ℕ} → Next s a b → (x : Between) → x 
 next_level n x e =
     ap (λ (y : Between). y.level) (between-answered n.from n.to x e ∙ ap only_level (next-differing n))
 
+-- the digit of the server hopped to is not refused
+pub byte-there : {s : Shape} {a b : ℕ} (n : Next s a b) (l : ℕ) → l ≡ level_to s a b → (r : Reason) → no_number (number_of r) ≡ digit_answer s b l → ⊥
+byte-there {s} {a} {b} n l e r f =
+    reason-some r (ap (λ (x : Number). x.refusal.number) (digit-answered (record { server = n.to; level = n.hop.level }) _ (f ∙ ap (digit_answer s b) e)))
+
 -- what the code finds of a hop: its level l and the new value
 module _ {s : Shape} {a b : ℕ} (n : Next s a b) (l : ℕ) (e : l ≡ level_to s a b) (y : Number) (f : y ≡ digit_answer s b l) where
   byte-value : y.value ≡ digit s (level_to s a b) b
   byte-value = digit-found (record { server = n.to; level = n.hop.level }) y (f ∙ ap (digit_answer s b) e)
-
-  pub byte-level : Fits w64 (64 * l)
-  byte-level = omega (arith, n.hop.level, n.to.valid.levels)
 
   pub byte_small : 64 * l + y.value < 256
   byte_small =
@@ -69,10 +73,6 @@ module _ {s : Shape} {a b : ℕ} (n : Next s a b) (l : ℕ) (e : l ≡ level_to 
   pub byte_is : 64 * l + y.value ≡ byte_to s a b
   unfolding byte_to byte_of
   byte_is = ap₂ (λ (i v : ℕ). 64 * i + v) e byte-value
-
--- two in a row on a route
-pub route-next : {s : Shape} {t vs : List ℕ} → Route s t vs → (i : ℕ) → i + 1 < length vs → Next s (get_or vs i 0) (get_or vs (i + 1) 0)
-route-next h i p = rw add-one (record { from = h.servers i (omega arith); to = h.servers (suc i) (rw add-one at p); hop = h.hops i (rw add-one at p) })
 
 -- ---- one after the other
 
@@ -94,9 +94,6 @@ pub record Putting (s : Shape) (vs bytes : List ℕ) (i : ℕ) : Type 0 where
   pub long : length bytes ≡ 8
   pub blank : drop i bytes ≡ replicate (8 - i) 0
   pub same : take i bytes ++ in_turn (byte_to s) (drop i vs) ≡ in_turn (byte_to s) vs
-
-pub put-start : (s : Shape) (vs : List ℕ) → Putting s vs (replicate 8 0) 0
-put-start s vs = record { within = omega arith; long = refl; blank = refl; same = refl }
 
 pub put_next : {s : Shape} {vs bytes : List ℕ} {i : ℕ} → Putting s vs bytes i → Route s [] vs → i + 1 < length vs → (x : ℕ) → x ≡ byte_to s (get_or vs i 0) (get_or vs (i + 1) 0) → Putting s vs (set bytes i x) (i + 1)
 put_next {s} {vs} {bytes} {i} g v h x e =
@@ -120,59 +117,56 @@ put-end {s} {vs} {bytes} {i} g h =
 
 -- the loop's invariant: what refuses the servers from i on refuses the list
 pub record FineTo (s : Shape) (vs : List ℕ) (i : ℕ) : Type 0 where
-  pub within : i ≤ length vs
   pub same : servers_refusal s (drop i vs) ≡ servers_refusal s vs
-
-pub fine_start : (s : Shape) (vs : List ℕ) → FineTo s vs 0
-fine_start s vs = record { within = omega arith; same = refl }
 
 module _ {s : Shape} {vs : List ℕ} {i : ℕ} (g : FineTo s vs i) where
   pub fine_end : length vs ≤ i → 0 ≡ servers_refusal s vs
   unfolding servers_refusal
   fine_end h = (rw (drop_of_length-le vs h)) ∙ g.same
 
-  module _ (h : i < length vs) (r : ℕ) (e : r ≡ server_refusal s (get_or vs i 0)) where
-    pub fine_stop : (r ≡ 0 → ⊥) → r ≡ servers_refusal s vs
+  module _ (h : i < length vs) where
+    pub fine_stop : (r : Reason) → number_of r ≡ server_refusal s (get_or vs i 0) → number_of r ≡ servers_refusal s vs
     unfolding servers_refusal
-    fine_stop n = (rw (left vs i 0 h, ← e) (sym (or_else_left r _ n))) ∙ g.same
+    fine_stop r e = (rw (left vs i 0 h, ← e) (sym (or_else_left (number_of r) _ (reason-some r)))) ∙ g.same
 
-    pub fine_next : r ≡ 0 → FineTo s vs (i + 1)
+    pub fine_next : 0 ≡ server_refusal s (get_or vs i 0) → FineTo s vs (i + 1)
     unfolding servers_refusal ◌or_else◌
-    fine_next z = record { within = omega arith; same = sym (rw (left vs i 0 h, ← e, z)) ∙ g.same }
+    fine_next e = record { same = sym (rw (left vs i 0 h, ← e)) ∙ g.same }
 
--- ---- and the list: r is what was found of the shape, q of the servers
+-- ---- and the list
 
-module _ (s : Shape) (vs : List ℕ) (r : ℕ) (e : r ≡ shape_refusal s) where
-  pub write_shape : (r ≡ 0 → ⊥) → r ≡ write_refusal s vs
+module _ (s : Shape) (vs : List ℕ) where
+  pub write_shape : (r : Reason) → number_of r ≡ shape_refusal s → number_of r ≡ write_refusal s vs
   unfolding write_refusal
-  write_shape n = chain_stops _ _ _ (chain_stops _ _ _ (chain_stops _ _ _ e n) n) n
+  write_shape r e = chain_stops _ _ _ (chain_stops _ _ _ (chain_stops _ _ _ e (reason-some r)) (reason-some r)) (reason-some r)
 
-  module _ (z : r ≡ 0) where
-    count-refused : 22 ≡ 22 unless (leb 2 (length vs) && leb (length vs) 9) → 22 ≡ write_refusal s vs
+  module _ (e : 0 ≡ shape_refusal s) where
+    count_refused : 22 ≡ 22 unless (leb 2 (length vs) && leb (length vs) 9) → 22 ≡ write_refusal s vs
     unfolding write_refusal
-    count-refused h = chain_stops _ _ _ (chain_stops _ _ _ (chain_goes _ _ _ _ e z h) (λ y. omega arith)) (λ y. omega arith)
+    count_refused h = chain_stops _ _ _ (chain_stops _ _ _ (chain_goes _ _ _ _ e refl h) (λ y. omega arith)) (λ y. omega arith)
 
     pub write-few : length vs < 2 → 22 ≡ write_refusal s vs
-    write-few h = count-refused (simp (lt-leb 2 (length vs) h))
+    write-few h = count_refused (simp (lt-leb 2 (length vs) h))
 
     pub write_many : 2 ≤ length vs → 9 < length vs → 22 ≡ write_refusal s vs
-    write_many h p = count-refused (simp (le-leb 2 (length vs) h, lt-leb (length vs) 9 p))
+    write_many h p = count_refused (simp (le-leb 2 (length vs) h, lt-leb (length vs) 9 p))
 
-    module _ (some : 2 ≤ length vs) (few : length vs ≤ 9) (q : ℕ) (f : q ≡ servers_refusal s vs) where
+    module _ (some : 2 ≤ length vs) (few : length vs ≤ 9) where
       passed : 0 ≡ shape_refusal s or_else 22 unless (leb 2 (length vs) && leb (length vs) 9)
-      passed = chain_goes _ _ _ _ e z (simp (le-leb 2 (length vs) some, le-leb (length vs) 9 few))
+      passed = chain_goes _ _ _ _ e refl (simp (le-leb 2 (length vs) some, le-leb (length vs) 9 few))
 
-      pub write-server : (q ≡ 0 → ⊥) → q ≡ write_refusal s vs
+      pub write-server : (r : Reason) → number_of r ≡ servers_refusal s vs → number_of r ≡ write_refusal s vs
       unfolding write_refusal
-      write-server n = chain_stops _ _ _ (chain_goes _ _ _ _ passed refl f) n
+      write-server r f = chain_stops _ _ _ (chain_goes _ _ _ _ passed refl f) (reason-some r)
 
-      pub write_same : q ≡ 0 → get_or vs 0 0 ≡ get_or vs (length vs - 1) 0 → 5 ≡ write_refusal s vs
-      unfolding write_refusal
-      write_same y h = chain_goes _ _ _ _ (chain_goes _ _ _ _ passed refl f) y (same-refused _ _ _ h)
+      module _ (f : 0 ≡ servers_refusal s vs) where
+        pub write_same : get_or vs 0 0 ≡ get_or vs (length vs - 1) 0 → 5 ≡ write_refusal s vs
+        unfolding write_refusal
+        write_same h = chain_goes _ _ _ _ (chain_goes _ _ _ _ passed refl f) refl (same-refused _ _ _ h)
 
-      pub write-apart : q ≡ 0 → (get_or vs 0 0 ≡ get_or vs (length vs - 1) 0 → ⊥) → 0 ≡ write_refusal s vs
-      unfolding write_refusal
-      write-apart y h = chain_goes _ _ _ _ (chain_goes _ _ _ _ passed refl f) y (apart-passed _ _ _ h)
+        pub write-apart : (get_or vs 0 0 ≡ get_or vs (length vs - 1) 0 → ⊥) → 0 ≡ write_refusal s vs
+        unfolding write_refusal
+        write-apart h = chain_goes _ _ _ _ (chain_goes _ _ _ _ passed refl f) refl (apart-passed _ _ _ h)
 
 -- ---- one hop: 23, then 28 and 29
 
@@ -185,6 +179,17 @@ single-next : {s : Shape} {a b : ℕ} → Server s a → Server s b → single (
 unfolding level_to
 single-next {s} {a} {b} ha hb e =
     record { from = ha; to = hb; hop = (neighbours-exactly ha hb (get_or (differing s a b) 0 0)).0 (single-one (differing s a b) e) }
+
+-- two servers of the room are not refused
+pub between-there : (s : Shape) (a b : ℕ) → pair_refusal s a b ≡ 0 → (r : Reason) → no_between (number_of r) ≡ between_answer s a b → ⊥
+between-there s a b p r e =
+    let h = pair_of s a b p in
+    reason-some r (ap (λ (x : Between). x.refusal.number) (between-answered h.0 h.1 _ e) ∙ none-between (differing s a b))
+  where
+    none-between : (ls : List ℕ) → (only_level ls).refusal.number ≡ 0
+    none-between [] = refl
+    none-between (l ∷ []) = refl
+    none-between (l ∷ m ∷ ls) = refl
 
 module _ (s : Shape) (a b : ℕ) (p : pair_refusal s a b ≡ 0) (x : Between) (e : x ≡ between_answer s a b) where
   adjacent_single : x.adjacent ≡ single (differing s a b)
@@ -260,7 +265,6 @@ module _ (s : Shape) (vs used : List ℕ) (i : ℕ) (h : i + 1 < length vs) (x :
 -- the loop's invariant: what is left to write from here gives the whole answer
 pub record Way (s : Shape) (vs used : List ℕ) (i : ℕ) : Type 0 where
   pub fine : Listed s vs
-  pub within : i < length vs
   pub wide : length used ≡ 8
   pub same : write_from s i (take (i + 1) vs) (take i used) (get_or vs i 0) (drop (i + 1) vs) ≡ on_the_way s vs
 
@@ -270,60 +274,53 @@ way-start s vs e = go vs (listed_of s vs e)
   where
     go : (vs : List ℕ) → Listed s vs → Way s vs (replicate 8 0) 0
     go [] h = let z : ⊥ = omega (arith, h.some) in absurd z
-    go (v ∷ vs) h = record { fine = h; within = omega (arith, h.some); wide = refl; same = refl }
+    go (v ∷ vs) h = record { fine = h; wide = refl; same = refl }
 
 module _ {s : Shape} {vs used : List ℕ} {i : ℕ} (g : Way s vs used i) where
-  pub way_end : length vs ≤ i + 1 → (r : Refusal) → r ≡ none → r ≡ on_the_way s vs
+  pub way_end : length vs ≤ i + 1 → none ≡ on_the_way s vs
   unfolding write_from
-  way_end h r f = f ∙ (rw (drop_of_length-le vs h)) ∙ g.same
+  way_end h = (rw (drop_of_length-le vs h)) ∙ g.same
 
   module _ (h : i + 1 < length vs) where
-    -- the servers met and the switches used so far
-    pub way-met : i + 1 ≡ length (take (i + 1) vs)
-    way-met = sym (length-take-le (i + 1) vs (omega arith))
-
-    pub way_used : i ≡ length (take i used)
-    way_used = sym (length-take-le i used (omega (arith, g.wide, g.fine.few)))
-
     pub way_pair : pair_refusal s (get_or vs i 0) (get_or vs (i + 1) 0) ≡ 0
     way_pair = sym (pair_none (g.fine.servers.each i (omega arith)) (g.fine.servers.each (i + 1) h))
 
-    module _ (x : Tried) (e : x ≡ tried_to s (take (i + 1) vs) (take i used) (get_or vs i 0) (get_or vs (i + 1) 0)) where
-      pub way_stop : (x.number ≡ 0 → ⊥) → (m : Refusal) → m ≡ refused_at x.number 1 (i + 1) → (r : Refusal) → r ≡ with_earlier 0 x.earlier m → r ≡ on_the_way s vs
-      way_stop n m f r k =
-          to-refusal s (take (i + 1) vs) (take i used) (get_or vs i 0) (get_or vs (i + 1) 0) x e n (i + 1) m f r k ∙ way-refused s vs used i h x e n ∙ g.same
+    -- x is what was found of the hop
+    module _ (x : Result ℕ Fault) (e : tried_as x ≡ tried_to s (take (i + 1) vs) (take i used) (get_or vs i 0) (get_or vs (i + 1) 0)) where
+      -- r is what was made of its fault
+      pub way_stop : {change : Fault → Type 0} (r : Refused) → MatchResult x (λ v. ◌≡◌ {A = Result ℕ Refused} (Err r) (Ok v)) change → ((f : Fault) → change f → refusal_of r ≡ with_earlier 0 f.earlier (refused_at (number_of f.reason) 1 (i + 1))) → refusal_of r ≡ on_the_way s vs
+      way_stop {change} r m k = go x e m
+        where
+          go : (y : Result ℕ Fault) → tried_as y ≡ tried_to s (take (i + 1) vs) (take i used) (get_or vs i 0) (get_or vs (i + 1) 0) → MatchResult y (λ v. ◌≡◌ {A = Result ℕ Refused} (Err r) (Ok v)) change → refusal_of r ≡ on_the_way s vs
+          go (Ok w) f p = cc
+          go (Err w) f p =
+              let n = reason-some w.reason in
+              to-refusal s (take (i + 1) vs) (take i used) (get_or vs i 0) (get_or vs (i + 1) 0) (tried_as (Err w)) f n (i + 1) _ refl _ (k w p) ∙ way-refused s vs used i h (tried_as (Err w)) f n ∙ g.same
 
-      pub way_next : x.number ≡ 0 → Way s vs (set used i x.switch) (i + 1)
-      way_next z =
-          record {
-            fine = g.fine;
-            within = h;
-            wide = length-set used i x.switch ∙ g.wide;
-            same = way_on s vs used i h x e (omega (arith, g.fine.few)) z ∙ g.same;
-          }
+      -- w is the switch that a `?` gave
+      pub way_next : (w : ℕ) → MatchResult x (λ v. ◌≡◌ {A = Result ℕ Refused} (Ok w) (Ok v)) (λ f. ⊥) → Way s vs (set used i w) (i + 1)
+      way_next w m = go x e m
+        where
+          goes : adds w ≡ tried_to s (take (i + 1) vs) (take i used) (get_or vs i 0) (get_or vs (i + 1) 0) → Way s vs (set used i w) (i + 1)
+          goes f = record { fine = g.fine; wide = length-set used i w ∙ g.wide; same = way_on s vs used i h (adds w) f (omega (arith, g.fine.few)) refl ∙ g.same }
 
--- ---- what is answered: n is what was found of the list, r of the way
+          go : (y : Result ℕ Fault) → tried_as y ≡ tried_to s (take (i + 1) vs) (take i used) (get_or vs i 0) (get_or vs (i + 1) 0) → MatchResult y (λ v. ◌≡◌ {A = Result ℕ Refused} (Ok w) (Ok v)) (λ f. ⊥) → Way s vs (set used i w) (i + 1)
+          go (Ok v) f p = let q : w ≡ v = cc in goes (ap adds q ∙ f)
+          go (Err v) f p = absurd p
 
-module _ (s : Shape) (vs : List ℕ) (n : ℕ) (e : n ≡ write_refusal s vs) where
-  pub list_refused : (n ≡ 0 → ⊥) → (r : Refusal) → r ≡ plain n → (x : Writing) → x ≡ no_writing r → x ≡ write_answer s vs
+-- ---- what is answered
+
+module _ (s : Shape) (vs : List ℕ) (e : 0 ≡ write_refusal s vs) where
+  written_is : (r : Refusal) → r ≡ on_the_way s vs → (x : Writing) → x ≡ written s vs r → x ≡ write_answer s vs
   unfolding write_answer
-  list_refused h r f x k = answer-refused n _ (λ (m : ℕ). no_writing (plain m)) x _ (k ∙ ap no_writing f) e h
+  written_is r f x k = answer-given 0 _ (λ (m : ℕ). no_writing (plain m)) x _ e refl (k ∙ ap (written s vs) f)
 
-  module _ (z : n ≡ 0) where
-    pub list_fine : write_refusal s vs ≡ 0
-    list_fine = sym e ∙ z
+  pub way_refuses : (r : Refused) → refusal_of r ≡ on_the_way s vs → no_writing (refusal_of r) ≡ write_answer s vs
+  way_refuses r f = written_is (refusal_of r) f _ (rw (ne_eqb (number_of r.reason) 0 (reason-some r.reason)))
 
-    module _ (r : Refusal) (f : r ≡ on_the_way s vs) where
-      written_is : (x : Writing) → x ≡ written s vs r → x ≡ write_answer s vs
-      unfolding write_answer
-      written_is x k = answer-given n _ (λ (m : ℕ). no_writing (plain m)) x _ e z (k ∙ ap (written s vs) f)
+  module _ (f : none ≡ on_the_way s vs) where
+    pub way-taken : Route s [] vs
+    way-taken = way-route vs (listed_of s vs (sym e)) (sym (ap (λ (q : Refusal). q.number) f))
 
-      pub way_refuses : (r.number ≡ 0 → ⊥) → (x : Writing) → x ≡ no_writing r → x ≡ write_answer s vs
-      way_refuses h x k = written_is x (rw (ne_eqb r.number 0 h) k)
-
-      module _ (y : r.number ≡ 0) where
-        pub way-taken : Route s [] vs
-        way-taken = way-route vs (listed_of s vs list_fine) (sym (ap (λ (q : Refusal). q.number) f) ∙ y)
-
-        pub way-written : (x : Writing) → x ≡ a_writing (encode s vs) → x ≡ write_answer s vs
-        way-written x k = written_is x (rw (eq-eqb r.number 0 y) k)
+    pub way-written : (bs : List ℕ) → bs ≡ encode s vs → a_writing bs ≡ write_answer s vs
+    way-written bs k = written_is none f _ (ap a_writing k)

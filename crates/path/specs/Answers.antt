@@ -1,15 +1,18 @@
 -- What each call on path bytes answers. On a refusal all but the refusal is zero.
 use Rattle.std.specs.Prelude.{ℕ, ◌-◌, List, [], ◌∷◌, ◌++◌, reverse, not, cond, ◌&&◌, leb, eqb, length, get_or, replicate}
 use Rattle.lists.specs.Lists.{filled}
-use Rattle.refusals.specs.declared.Refusal.{Refusal}
+use Rattle.refusals.specs.Refusals.{Refusal}
 use Rattle.refusals.specs.Refusals.{none, plain, refused_at, ◌or_else◌, ◌unless◌, answer}
 use Rattle.room.specs.declared.Shape.{Shape}
 use Rattle.room.specs.Addresses.{digit}
 use Rattle.room.specs.Refusals.{shape_refusal, shape_numbers, server_refusal, ends_refusal, ends_numbers}
-use Rattle.path.specs.declared.Hop.{Hop}
-use Rattle.path.specs.declared.Walked.{Walked}
-use Rattle.path.specs.declared.Reading.{Reading}
-use Rattle.path.specs.declared.Writing.{Writing}
+use Rattle.path.specs.declared.Hop.{Hop as Hopped}
+use Rattle.path.specs.declared.Walked.{Walked as WalkedArray}
+use Rattle.path.specs.declared.Reading.{Reading as ReadArray}
+use Rattle.path.specs.Told.{Hop}
+use Rattle.path.specs.Told.{Walked}
+use Rattle.path.specs.Told.{Reading}
+use Rattle.path.specs.Told.{Writing}
 use Rattle.path.specs.Routes.{level_of, encode}
 use Rattle.path.specs.Walks.{Walk, stopped, arrived, hop_to, hop_refusal, walk, write_from}
 
@@ -20,6 +23,14 @@ no_hop r = record { refusal = r; next = 0; level = 0; old = 0 }
 
 abbrev pub a_hop : ℕ → ℕ → ℕ → Hop
 a_hop a l v = record { refusal = none; next = a; level = l; old = v }
+
+-- what is told of a hop
+abbrev pub the_hop : Hopped → Hop
+the_hop h = a_hop h.next h.level h.old
+
+-- no hop, by a number that is refused at hop 1 of route 1
+abbrev pub stops_hop : ℕ → Hop
+stops_hop r = no_hop (refused_at r 1 1)
 
 -- by byte b from server a, where nothing refuses it
 abbrev pub hop_by : Shape → ℕ → ℕ → Hop
@@ -45,6 +56,10 @@ array_numbers = ends_numbers ++ (7 ∷ [])
 abbrev pub no_walk : Refusal → Walked
 no_walk r = record { refusal = r; count = 0; servers = replicate 9 0; switches = replicate 8 0 }
 
+-- what is told of an array that was walked
+abbrev pub the_walk : WalkedArray → Walked
+the_walk w = record { refusal = none; count = w.count; servers = w.servers; switches = w.switches }
+
 abbrev pub walked : Walk → Walked
 walked (stopped r) = no_walk r
 walked (arrived vs ws) = record { refusal = none; count = length vs; servers = filled 9 vs; switches = filled 8 ws }
@@ -53,6 +68,13 @@ unfoldable pub walk_answer : Shape → List ℕ → ℕ → ℕ → List ℕ →
 walk_answer s t a d bs = answer (array_refusal s a d bs) (λ r. no_walk (plain r)) (walked (walk s t a d bs))
 
 -- ---- plain reading and reversal: no link is failed
+
+abbrev pub no_reading : Refusal → Reading
+no_reading r = record { refusal = r; count = 0; servers = replicate 9 0 }
+
+-- what is told of an array that was read
+abbrev pub the_reading : ReadArray → Reading
+the_reading w = record { refusal = none; count = w.count; servers = w.servers }
 
 abbrev pub reading : Walked → Reading
 reading w = record { refusal = w.refusal; count = w.count; servers = w.servers }

@@ -1,13 +1,14 @@
 -- One path byte by itself: made of a level and a value, and taken apart.
 use Rattle.std.specs.Prelude.{ℕ, ◌≤◌, ◌<◌, List, [], ◌∷◌, ◌++◌, ltb, leb}
-use Rattle.refusals.specs.declared.Refusal.{Refusal}
+use Rattle.refusals.specs.Refusals.{Refusal}
 use Rattle.refusals.specs.Refusals.{none, plain, refused_at, ◌or_else◌, ◌unless◌, answer}
 use Rattle.room.specs.declared.Shape.{Shape}
-use Rattle.room.specs.declared.Number.{Number}
+use Rattle.room.specs.Told.{Number}
 use Rattle.room.specs.Shapes.{bound, Valid}
 use Rattle.room.specs.Refusals.{shape_refusal, level_refusal, level_numbers}
 use Rattle.room.specs.Answers.{no_number, a_number}
-use Rattle.path.specs.declared.Parts.{Parts}
+use Rattle.path.specs.declared.Parts.{Parts as Taken}
+use Rattle.path.specs.Told.{Parts}
 use Rattle.path.specs.Routes.{byte_of, level_of, value_of}
 
 -- a level and a value that some server has there: 1, 2, 26, 3, 20, 21
@@ -38,6 +39,10 @@ no_parts r = record { refusal = r; level = 0; value = 0 }
 
 abbrev pub some_parts : ℕ → ℕ → Parts
 some_parts l v = record { refusal = none; level = l; value = v }
+
+-- what is told of the parts
+abbrev pub the_parts : Taken → Parts
+the_parts p = some_parts p.level p.value
 
 -- its level and its value: 1, 2, 26, 3; then 8 and 9, at hop 1 of route 1
 unfoldable pub parts_answer : Shape → ℕ → Parts

@@ -1,19 +1,18 @@
 -- What the private functions of this crate answer and ask. No public contract cites this file.
-use Rattle.std.specs.Prelude.{ℕ, zero, suc, ◌+◌, ◌-◌, ◌*◌, ◌/◌, ◌%◌, ◌≡◌, List, [], ◌∷◌, reverse, cond, ltb, leb, eqb, length, replicate}
+use Rattle.std.specs.Prelude.{ℕ, ◌+◌, ◌-◌, ◌*◌, ◌≡◌, Result, Ok, Err, List, [], ◌∷◌, ◌++◌, reverse, cond, ltb, leb, eqb, length, replicate}
 use Rattle.lists.specs.Lists.{in_turn}
-use Rattle.refusals.specs.declared.Refusal.{Refusal}
-use Rattle.refusals.specs.Refusals.{none, plain, refused_at, ◌or_else◌, ◌unless◌, answer}
+use Rattle.refusals.specs.Refusals.{Refusal, none, plain, refused_at, ◌or_else◌, ◌unless◌, answer}
 use Rattle.room.specs.declared.Shape.{Shape}
 use Rattle.room.specs.Shapes.{Server}
 use Rattle.room.specs.Addresses.{Neighbours}
-use Rattle.links.specs.Table.{live}
-use Rattle.path.specs.declared.Hop.{Hop}
-use Rattle.path.specs.declared.Tried.{Tried}
-use Rattle.path.specs.declared.Way.{Way}
-use Rattle.path.specs.declared.Reading.{Reading}
-use Rattle.path.specs.Routes.{level_to, switch_at, switch_to, byte_to}
-use Rattle.path.specs.Walks.{Walk, stopped, arrived, again, earlier_of, walk, write_fault}
-use Rattle.path.specs.Answers.{array_refusal, walk_answer}
+use Rattle.refusals.specs.Reasons.{number_of}
+use Rattle.path.specs.declared.faults.Fault.{Fault}
+use Rattle.path.specs.declared.walks.Taken.{Taken}
+use Rattle.path.specs.declared.Way.{Way as Gone}
+use Rattle.path.specs.Told.{Tried, Way}
+use Rattle.path.specs.Routes.{level_of, level_to, switch_at, switch_to, byte_to}
+use Rattle.path.specs.Walks.{Walk, stopped, arrived, hop_to, again, earlier_of, fault, walk, write_fault}
+use Rattle.path.specs.Answers.{the_hop, hop_by, array_refusal, walk_answer}
 
 -- ---- one hop
 
@@ -30,6 +29,11 @@ no_try e r = record { number = r; earlier = e; switch = 0 }
 abbrev pub adds : ℕ → Tried
 adds w = record { number = 0; earlier = 0; switch = w }
 
+-- what a try tells: the switch that the hop adds, or why it adds none
+abbrev pub tried_as : Result ℕ Fault → Tried
+tried_as (Ok w) = adds w
+tried_as (Err f) = no_try f.earlier (number_of f.reason)
+
 -- server b and switch w, where r is what refuses the hop
 abbrev pub added : ℕ → List ℕ → List ℕ → ℕ → ℕ → Tried
 added r met used b w = answer r (λ x. no_try (earlier_of x met used b w) x) (adds w)
@@ -38,10 +42,16 @@ added r met used b w = answer r (λ x. no_try (earlier_of x met used b w) x) (ad
 unfoldable pub newly : List ℕ → List ℕ → ℕ → ℕ → Tried
 newly met used b w = added (again met used b w) met used b w
 
--- the hop h from server a, when an array is walked: what refuses the hop, 11, 28, 29
-unfoldable pub tried : Shape → List ℕ → List ℕ → List ℕ → ℕ → Hop → Tried
-tried s t met used a h =
-    answer h.refusal.number (no_try 0) (answer (11 unless live t h.level a h.next) (no_try 0) (newly met used h.next (switch_at s h.level a)))
+-- the hop by byte b from server a, when an array is walked, after the servers met and a itself: nothing refuses it
+pub record Takes (s : Shape) (t met used : List ℕ) (a b : ℕ) (h : Taken) : Type 0 where
+  pub free : 0 ≡ fault s t (met ++ (a ∷ [])) used a b
+  pub hop : the_hop h.hop ≡ hop_by s a b
+  pub switch : h.switch ≡ switch_at s (level_of b) a
+
+-- or why it is refused: 8 to 11, 28, 29
+pub record Faults (s : Shape) (t met used : List ℕ) (a b : ℕ) (f : Fault) : Type 0 where
+  pub number : number_of f.reason ≡ fault s t (met ++ (a ∷ [])) used a b
+  pub earlier : f.earlier ≡ earlier_of (fault s t (met ++ (a ∷ [])) used a b) (met ++ (a ∷ [])) used (hop_to s a b) (switch_at s (level_of b) a)
 
 -- the hop from server a to server b, when servers are written: 23, 28, 29
 unfoldable pub tried_to : Shape → List ℕ → List ℕ → ℕ → ℕ → Tried
@@ -53,20 +63,12 @@ pub record Next (s : Shape) (a b : ℕ) : Type 0 where
   pub to : Server s b
   pub hop : Neighbours s (level_to s a b) a b
 
-abbrev pub no_reading : Refusal → Reading
-no_reading r = record { refusal = r; count = 0; servers = replicate 9 0 }
-
 -- ---- the way of an array, and back
 
 -- bytes as one number, the first lowest
 unfoldable pub low_first : List ℕ → ℕ
 low_first [] = 0
 low_first (b ∷ bs) = b + 256 * low_first bs
-
--- so many bytes of a number, the lowest first
-unfoldable pub low_bytes : ℕ → ℕ → List ℕ
-low_bytes zero x = []
-low_bytes (suc m) x = x % 256 ∷ low_bytes m (x / 256)
 
 -- the path bytes of the way back over these servers
 unfoldable pub back_over : Shape → List ℕ → ℕ
@@ -77,6 +79,10 @@ no_way r = record { refusal = r; hops = 0; back = 0 }
 
 abbrev pub a_way : ℕ → ℕ → Way
 a_way h x = record { refusal = none; hops = h; back = x }
+
+-- what is told of a way
+abbrev pub the_way : Gone → Way
+the_way w = a_way w.hops w.back
 
 -- arrived after h hops, with the way back x; the bytes left begin at place i, counted from 0: 14
 unfoldable pub ended_way : ℕ → ℕ → ℕ → List ℕ → Way

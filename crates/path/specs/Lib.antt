@@ -1,3 +1,4 @@
+pub mod Told
 pub mod Routes
 pub mod Walks
 pub mod Answers

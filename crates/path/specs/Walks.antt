@@ -1,7 +1,7 @@
 -- The reading rule: from the source, byte after byte, to the first arrival; the bytes after that are zero.
 use Rattle.std.specs.Prelude.{ℕ, suc, ◌+◌, List, [], ◌∷◌, ◌++◌, Bool, true, false, not, cond, ltb, leb, eqb}
 use Rattle.lists.specs.Lists.{is_in, place_in}
-use Rattle.refusals.specs.declared.Refusal.{Refusal}
+use Rattle.refusals.specs.Refusals.{Refusal}
 use Rattle.refusals.specs.Refusals.{none, refused_at, with_earlier, ◌or_else◌, ◌unless◌}
 use Rattle.room.specs.declared.Shape.{Shape}
 use Rattle.room.specs.Shapes.{bound}

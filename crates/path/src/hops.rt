@@ -1,13 +1,13 @@
 // One hop, by its byte.
 ghost use Rattle.std.specs.Prelude.{◌≡◌, ◌/◌, ◌%◌, ◌<◌, not, ◌&&◌, ltb, leb, eqb};
-ghost use Rattle.refusals.specs.Refusals.{refused_at};
+ghost use Rattle.refusals.specs.Reasons.{number_of, tells, tells_where};
 ghost use Rattle.room.specs.Refusals.{server_refusal};
 ghost use Rattle.path.specs.Routes.{level_of, value_of};
-ghost use Rattle.path.specs.Answers.{no_hop, hop_from, hop_answer};
+ghost use Rattle.path.specs.Answers.{no_hop, stops_hop, the_hop, hop_from, hop_answer};
 ghost use Rattle.path.specs.Inside.{hop_fault};
 
 use crate::Hop;
-use refusals::Refusal;
+use refusals::{Reason, Refused};
 use room::{Shape, digit_bound, power, server_refusal};
 
 // The level that a path byte names; of a number that is no byte one above 3.
@@ -22,24 +22,6 @@ pub fn value_of(byte: usize) -> usize
     ensures { result ≡ value_of byte }
 {
     byte % 64
-}
-
-fn no_hop(refusal: Refusal) -> Hop
-    ensures { result ≡ no_hop refusal }
-{
-    Hop {
-        refusal,
-        next: 0,
-        level: 0,
-        old: 0,
-    }
-}
-
-// No hop, by a number that is refused at hop 1 of route 1.
-fn refused_hop(number: usize) -> Hop
-    ensures { result ≡ no_hop (refused_at number 1 1) }
-{
-    no_hop(Refusal::at(number, 1, 1))
 }
 
 // The digit of a server at the level of this weight, by divisions of 32 bits.
@@ -58,22 +40,24 @@ fn is_hop(k: usize, level: usize, value: usize, bound: usize, own: usize) -> boo
 }
 
 // Why a level and a value that are no hop are none: 8, 9, else 10.
-fn hop_fault(k: usize, level: usize, value: usize, bound: usize) -> usize
-    ensures { result ≡ hop_fault k level value bound }
+#[tactic(auto, using(crate::proofs::HopLaws::hop_faults))]
+fn hop_fault(k: usize, level: usize, value: usize, bound: usize) -> Reason
+    ensures { number_of result ≡ hop_fault k level value bound }
 {
     if k < level {
-        return Refusal::POSITION;
+        return Reason::Position;
     }
     if bound <= value {
-        return Refusal::VALUE;
+        return Reason::Value;
     }
-    Refusal::NO_CHANGE
+    Reason::NoChange
 }
 
 // The hop by a byte from a server of the room, by one power of n. Refusals 8, 9, 10.
-pub(crate) fn hop_from(shape: Shape, server: usize, byte: usize) -> Hop
+#[tactic(auto, using(crate::proofs::HopLaws::hop_sizes))]
+pub(crate) fn hop_from(shape: Shape, server: usize, byte: usize) -> Result<Hop, Reason>
     requires { server_refusal shape server ≡ 0 }
-    ensures { result ≡ hop_from shape server byte }
+    ensures { tells stops_hop the_hop result ≡ hop_from shape server byte }
 {
     let level = level_of(byte);
     let value = value_of(byte);
@@ -82,23 +66,20 @@ pub(crate) fn hop_from(shape: Shape, server: usize, byte: usize) -> Hop
     let weight = power(shape.n, level % 4);
     let own = digit_by(server as u32, weight as u32, shape.n as u32);
     if is_hop(shape.k, level, value, bound, own) {
-        return Hop {
-            refusal: Refusal::none(),
+        return Ok(Hop {
             next: server - own * weight + value * weight,
             level,
             old: own,
-        };
+        });
     }
-    refused_hop(hop_fault(shape.k, level, value, bound))
+    Err(hop_fault(shape.k, level, value, bound))
 }
 
 // The hop by a byte from a server. Refusals 1, 2, 26, 3, 4; then, as at hop 1 of route 1, 8, 9, 10.
-pub fn hop_of(shape: Shape, server: usize, byte: usize) -> Hop
-    ensures { result ≡ hop_answer shape server byte }
+#[inline]
+pub fn hop_of(shape: Shape, server: usize, byte: usize) -> Result<Hop, Refused>
+    ensures { tells_where no_hop the_hop result ≡ hop_answer shape server byte }
 {
-    let number = server_refusal(shape, server);
-    if number != 0 {
-        return no_hop(Refusal::plain(number));
-    }
-    hop_from(shape, server, byte)
+    server_refusal(shape, server)?;
+    hop_from(shape, server, byte).map_err(|reason| Refused::at(reason, 1, 1))
 }

@@ -1,9 +1,10 @@
 // Path bytes: one hop, and whole arrays read, written and reversed.
 #![tactic(auto)]
 
-use refusals::Refusal;
 // bytes.rt: one path byte by itself
 mod bytes;
+// faults.rt: why a hop is not taken
+mod faults;
 // hops.rt: one hop, by its byte
 mod hops;
 // readings.rt: plain reading
@@ -25,61 +26,42 @@ pub use reversals::reverse_path;
 pub use walks::walk;
 pub use writings::write_path;
 
-// The level and the value of a path byte; or a refusal and zeros.
-#[derive(Clone, Copy)]
+// The level and the value of a path byte.
+#[derive(Clone, Copy, PartialEq, Eq)]
 pub struct Parts {
-    pub refusal: Refusal,
     pub level: usize,
     pub value: usize,
 }
 
-// Where a hop leads, its level, and the value that it replaces there; or a refusal and zeros.
-#[derive(Clone, Copy)]
+// Where a hop leads, its level, and the value that it replaces there.
+#[derive(Clone, Copy, PartialEq, Eq)]
 pub struct Hop {
-    pub refusal: Refusal,
     pub next: usize,
     pub level: usize,
     pub old: usize,
 }
 
-// The switch that a hop adds to a route; or the number of its refusal and the earlier hop that it names.
-#[derive(Clone, Copy)]
-pub(crate) struct Tried {
-    pub(crate) number: usize,
-    pub(crate) earlier: usize,
-    pub(crate) switch: usize,
-}
-
 // The number of hops that an array makes, and the path bytes of its way back as one number, the first
-// byte lowest; or a refusal and zeros.
+// byte lowest.
 #[derive(Clone, Copy)]
 pub(crate) struct Way {
-    pub(crate) refusal: Refusal,
     pub(crate) hops: usize,
     pub(crate) back: u64,
 }
 
-// The servers that an array meets, source first, and the switches that it uses; or a refusal and
-// zeros. A switch is one number, 4096 times its level plus its number there.
+// The servers that an array meets, source first, and the switches that it uses, with zeros past them. A switch is
+// one number, 4096 times its level plus its number there. Fixed arrays and a count, since there is no heap.
 #[derive(Clone, Copy)]
 pub struct Walked {
-    pub refusal: Refusal,
     pub count: usize,
     pub servers: [usize; 9],
     pub switches: [usize; 8],
 }
 
-// The servers that an array meets, source first, with their count; or a refusal and zeros.
+// The servers that an array meets, source first, with their count and zeros past them. A fixed array and a count, since
+// there is no heap.
 #[derive(Clone, Copy)]
 pub struct Reading {
-    pub refusal: Refusal,
     pub count: usize,
     pub servers: [usize; 9],
-}
-
-// The eight bytes of a route; or a refusal and zeros.
-#[derive(Clone, Copy)]
-pub struct Writing {
-    pub refusal: Refusal,
-    pub bytes: [u8; 8],
 }

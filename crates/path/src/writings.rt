@@ -1,42 +1,25 @@
 // The bytes of servers in turn.
-ghost use Rattle.std.specs.Prelude.{◌≡◌, ◌+◌, ◌-◌, []};
+ghost use Rattle.std.specs.Prelude.{◌≡◌, []};
+ghost use Rattle.refusals.specs.Reasons.{told, told_where, tells_where};
 ghost use Rattle.room.specs.Refusals.{pair_refusal};
 ghost use Rattle.path.specs.Routes.{level_to, byte_to, encode, Route};
-ghost use Rattle.path.specs.Inside.{Next, tried_to};
+ghost use Rattle.path.specs.Inside.{Next, tried_as, tried_to};
 ghost use Rattle.path.specs.Answers.{no_writing, a_writing, servers_refusal, write_refusal, on_the_way, write_answer};
 
-use crate::repeats::{add_hop, no_try, switch_at};
-use crate::{Tried, Writing};
-use refusals::Refusal;
+use crate::faults::Fault;
+use crate::repeats::{add_hop, switch_at};
+use refusals::{Reason, Refused};
 use room::{Shape, digit_of, level_between, server_refusal, shape_refusal};
-
-pub(crate) fn no_writing(refusal: Refusal) -> Writing
-    ensures { result ≡ no_writing refusal }
-{
-    Writing {
-        refusal,
-        bytes: [0; 8],
-    }
-}
-
-// How far two servers are apart, as numbers.
-fn distance(one: usize, other: usize) -> usize
-    ensures { result ≡ (one - other) + (other - one) }
-{
-    if one < other {
-        return other - one;
-    }
-    one - other
-}
 
 // The level of the hop from a server to its neighbour: they are apart by the level's power of n or more, and by less
 // than the next.
+#[tactic(auto, using(crate::proofs::DistanceLaws::hop_levels))]
 fn level_to(shape: Shape, from: usize, to: usize) -> usize
     requires { Next shape from to }
     ensures { result ≡ level_to shape from to }
 {
     let n = shape.n;
-    let apart = distance(from, to);
+    let apart = from.abs_diff(to);
     if apart < n {
         return 0;
     }
@@ -55,8 +38,10 @@ fn byte_to(shape: Shape, from: usize, to: usize) -> u8
     ensures { result ≡ byte_to shape from to }
 {
     let level = level_to(shape, from, to);
-    let digit = digit_of(shape, to, level);
-    (64 * level + digit.value) as u8
+    match digit_of(shape, to, level) {
+        Ok(digit) => (64 * level + digit) as u8,
+        Err(_) => unreachable!(),
+    }
 }
 
 // The bytes of servers in turn, and zeros after them.
@@ -65,113 +50,81 @@ fn put_bytes(shape: Shape, servers: &[usize]) -> [u8; 8]
     ensures { result ≡ encode shape servers.now }
 {
     let mut bytes: [u8; 8] = [0; 8];
-    let mut i: usize = 0;
-    while i + 1 < servers.len() {
-        let next = i + 1;
-        bytes[i] = byte_to(shape, servers[i], servers[next]);
-        i = next;
+    for i in 0..servers.len() - 1 {
+        bytes[i] = byte_to(shape, servers[i], servers[i + 1]);
     }
     bytes
 }
 
-fn a_writing(shape: Shape, servers: &[usize]) -> Writing
-    requires { Route shape [] servers.now }
-    ensures { result ≡ a_writing (encode shape servers.now) }
+// The first of 1, 2, 26, 3, 4 that refuses one of the servers.
+fn servers_refusal(shape: Shape, servers: &[usize]) -> Result<(), Reason>
+    ensures { told result ≡ servers_refusal shape servers.now }
 {
-    Writing {
-        refusal: Refusal::none(),
-        bytes: put_bytes(shape, servers),
+    for server in servers {
+        server_refusal(shape, *server)?;
     }
+    Ok(())
 }
 
-// The first of 1, 2, 26, 3, 4 that refuses one of the servers, or 0.
-fn servers_refusal(shape: Shape, servers: &[usize]) -> usize
-    ensures { result ≡ servers_refusal shape servers.now }
+// The first of 1, 2, 26, 3, 22, 4, 5 that refuses a list of servers.
+fn write_refusal(shape: Shape, servers: &[usize]) -> Result<(), Reason>
+    ensures { told result ≡ write_refusal shape servers.now }
 {
-    let mut i: usize = 0;
-    while i < servers.len() {
-        let r = server_refusal(shape, servers[i]);
-        if r != 0 {
-            return r;
-        }
-        i += 1;
-    }
-    0
-}
-
-// The first of 1, 2, 26, 3, 22, 4, 5 that refuses a list of servers, or 0.
-fn write_refusal(shape: Shape, servers: &[usize]) -> usize
-    ensures { result ≡ write_refusal shape servers.now }
-{
-    let r = shape_refusal(shape);
-    if r != 0 {
-        return r;
-    }
+    shape_refusal(shape)?;
     let count = servers.len();
-    if count < 2 {
-        return Refusal::SERVER_COUNT;
+    if count < 2 || 9 < count {
+        return Err(Reason::ServerCount);
     }
-    if 9 < count {
-        return Refusal::SERVER_COUNT;
-    }
-    let q = servers_refusal(shape, servers);
-    if q != 0 {
-        return q;
-    }
+    servers_refusal(shape, servers)?;
     if servers[0] == servers[count - 1] {
-        return Refusal::SAME_ENDS;
+        return Err(Reason::SameEnds);
     }
-    0
+    Ok(())
 }
 
 // The hop to a server from the last of a route. Refusals 23, 28, 29.
-fn try_next(shape: Shape, met: &[usize], used: &[usize], from: usize, to: usize) -> Tried
+fn try_next(
+    shape: Shape,
+    met: &[usize],
+    used: &[usize],
+    from: usize,
+    to: usize,
+) -> Result<usize, Fault>
     requires { pair_refusal shape from to ≡ 0 }
-    ensures { result ≡ tried_to shape met.now used.now from to }
+    ensures { tried_as result ≡ tried_to shape met.now used.now from to }
 {
-    let between = level_between(shape, from, to);
-    if between.adjacent {
-        return add_hop(met, used, to, switch_at(shape, between.level, from));
+    match level_between(shape, from, to) {
+        Ok(Some(level)) => add_hop(met, used, to, switch_at(shape, level, from)),
+        Ok(None) => Err(Fault::from(Reason::NotNeighbours)),
+        Err(_) => unreachable!(),
     }
-    no_try(Refusal::NOT_NEIGHBOURS, 0)
 }
 
 // The first refusal of the hops from each server to the next: 23, 28, 29.
-fn on_the_way(shape: Shape, servers: &[usize]) -> Refusal
+fn on_the_way(shape: Shape, servers: &[usize]) -> Result<(), Refused>
     requires { write_refusal shape servers.now ≡ 0 }
-    ensures { result ≡ on_the_way shape servers.now }
+    ensures { told_where result ≡ on_the_way shape servers.now }
 {
     let mut used: [usize; 8] = [0; 8];
-    let mut i: usize = 0;
-    while i + 1 < servers.len() {
+    for i in 0..servers.len() - 1 {
         let next = i + 1;
-        let hop = try_next(
+        used[i] = try_next(
             shape,
             &servers[..next],
             &used[..i],
             servers[i],
             servers[next],
-        );
-        if hop.number != 0 {
-            return Refusal::at(hop.number, 1, next).with_earlier(0, hop.earlier);
-        }
-        used[i] = hop.switch;
-        i = next;
+        )
+        .map_err(|fault| fault.at(next))?;
     }
-    Refusal::none()
+    Ok(())
 }
 
 // The eight bytes of the route that meets these servers. Refusals 1, 2, 26, 3, 22, 4, 5, then 23, 28, 29 at a hop.
-pub fn write_path(shape: Shape, servers: &[usize]) -> Writing
-    ensures { result ≡ write_answer shape servers.now }
+pub fn write_path(shape: Shape, servers: &[usize]) -> Result<[u8; 8], Refused>
+    ensures { tells_where no_writing a_writing result ≡ write_answer shape servers.now }
 {
-    let number = write_refusal(shape, servers);
-    if number != 0 {
-        return no_writing(Refusal::plain(number));
-    }
-    let refusal = on_the_way(shape, servers);
-    if refusal.number != 0 {
-        return no_writing(refusal);
-    }
-    a_writing(shape, servers)
+    write_refusal(shape, servers)?;
+    on_the_way(shape, servers)?;
+    Ok(put_bytes(shape, servers))
 }

@@ -1,9 +1,9 @@
 -- The tests that come before any reading.
 use Prim.Native.Nat.{ℕ, ◌+◌, ◌*◌, ◌%◌}
-use mathlib.Core.Path.{◌≡◌, sym, ◌∙◌}
+use mathlib.Core.Path.{◌≡◌, sym}
 use mathlib.Core.Bool.{Bool, true, false, ◌&&◌}
 use mathlib.Core.List.{List}
-use lib.Dec.{leb}
+use lib.Dec.{leb, eqb}
 use borrow.Author.Tests.{eq-eqb, ne_eqb}
 use Rattle.refusals.specs.Refusals.{◌unless◌}
 use Rattle.refusals.proofs.ChainLaws.{or_else_zero}
@@ -11,7 +11,7 @@ use Rattle.room.specs.declared.Shape.{Shape}
 use Rattle.links.specs.Table.{room_refusal}
 use Rattle.pick.specs.Picks.{fits, lists_refusal}
 
-pub fits_not : (s : Shape) (n : ℕ) → (n % 8 ≡ 0 → ⊥) → false ≡ fits s n
+pub fits_not : (s : Shape) (n : ℕ) → (n % 8 ≡ 0 → ⊥) → eqb (n % 8) 0 ≡ fits s n
 unfolding fits
 fits_not s n h = rw (ne_eqb (n % 8) 0 h)
 
@@ -30,6 +30,6 @@ pub second_unfit : (t u f g : Bool) → t ≡ f → t ≡ true → u ≡ g → u
 second_unfit t u f g e x h y = rw (← e, ← h, x, y)
 
 -- what no refusal of the lists tells
-pub lists_room : (s : Shape) (t : List ℕ) (a d : ℕ) (fs ks : List ℕ) (r : ℕ) → r ≡ lists_refusal s t a d fs ks → r ≡ 0 → room_refusal s t a d ≡ 0
+pub lists_room : (s : Shape) (t : List ℕ) (a d : ℕ) (fs ks : List ℕ) → 0 ≡ lists_refusal s t a d fs ks → room_refusal s t a d ≡ 0
 unfolding lists_refusal
-lists_room s t a d fs ks r e z = (or_else_zero (room_refusal s t a d) _ (sym e ∙ z)).0
+lists_room s t a d fs ks e = (or_else_zero (room_refusal s t a d) _ (sym e)).0

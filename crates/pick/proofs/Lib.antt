@@ -4,4 +4,5 @@ pub mod UsableLaws
 pub mod PickLaws
 pub mod Promises
 pub mod PlaceLaws
+pub mod ToldLaws
 pub mod Unique

@@ -1,17 +1,18 @@
 -- What picking answers: one law for each way through the code.
 use Prim.Native.Nat.{ℕ, zero, suc, ◌+◌, ◌/◌, ◌≤◌, ◌<◌}
 use mathlib.Core.Path.{◌≡◌, refl, ap, ◌∙◌}
-use mathlib.Core.List.{List, []}
-use native.Mathlib.Nat.{zero-add}
+use mathlib.Core.List.{List}
 use lib.ListN.{length}
 use borrow.Author.Tests.{lt-ltb, le-ltb}
+use Rattle.std.specs.Prelude.{Some, None, position}
 use Rattle.refusals.specs.Refusals.{plain, ◌or_else◌, answer}
-use Rattle.refusals.proofs.ChainLaws.{chain_stops, chain_goes}
 use Rattle.refusals.proofs.AnswerLaws.{answer-refused, answer-given}
 use Rattle.room.specs.declared.Shape.{Shape}
-use Rattle.pick.specs.Picks.{first_usable_in, Source, in_fresh, in_kept, nowhere, found, lists_refusal, pick_source, missing, pick_refusal, pick_answer, picked_bytes, picked_at}
-use Rattle.pick.specs.declared.Place.{Place}
+use Rattle.verdict.specs.Checks.{arrays}
+use Rattle.pick.specs.Picks.{usable, first_usable_in, Source, in_fresh, in_kept, nowhere, found, lists_refusal, pick_source, missing, pick_refusal, pick_answer, picked_bytes, picked_at}
+use Rattle.pick.specs.Told.{Place}
 use Rattle.pick.specs.Places.{no_place, a_place, place_of, place_answer}
+use Rattle.pick.proofs.UsableLaws.{position-some, position-none}
 
 module _ (s : Shape) (t : List ℕ) (a d : ℕ) (fs ks : List ℕ) where
   -- ---- where the code is when it returns: refused, found in one list, found in none
@@ -45,35 +46,35 @@ module _ (s : Shape) (t : List ℕ) (a d : ℕ) (fs ks : List ℕ) where
   pub lies : (p q : ℕ × ℕ) (x : Source) → x ≡ pick_source s t a d fs ks → Lies p q (picked_bytes x fs ks) (picked_at x p q)
   lies p q x e = (ap (λ (y : Source). picked_bytes y fs ks) e, ap (λ (y : Source). picked_at y p q) e)
 
-  -- the empty part at the start of the fresh list
-  pub lies_empty : (p q : ℕ × ℕ) → nowhere ≡ pick_source s t a d fs ks → Lies p q [] (p.0, 0 + p.1)
-  lies_empty p q e = let l = lies p q nowhere e in (l.0, ap (λ (o : ℕ). (p.0, o)) (zero-add p.1) ∙ l.1)
-
   -- ---- where the route stands, and what the companion question says
 
-  module _ (x : Place) (r : ℕ) (e : r ≡ lists_refusal s t a d fs ks) where
-    -- the answer for a source
-    stands : (q : ℕ) (y : Source) → q ≡ pick_refusal s t a d fs ks → y ≡ pick_source s t a d fs ks → x ≡ place_of q y → x ≡ place_answer s t a d fs ks
-    unfolding place_answer
-    stands q y f g h = h ∙ ap (λ (z : ℕ). place_of z y) f ∙ ap (place_of (pick_refusal s t a d fs ks)) g
+  -- the answer by its tests
+  pub place-answered : answer (lists_refusal s t a d fs ks) no_place (place_of (missing (found s t a d fs ks)) (found s t a d fs ks)) ≡ place_answer s t a d fs ks
+  unfolding place_answer pick_refusal pick_source ◌or_else◌
+  place-answered = both (lists_refusal s t a d fs ks) (found s t a d fs ks)
+    where
+      both : (q : ℕ) (y : Source) → answer q no_place (place_of (missing y) y) ≡ place_of (q or_else missing y) (answer q (λ z. nowhere) y)
+      both zero y = refl
+      both (suc q) y = refl
 
-    pub stands-refused : x ≡ no_place r → (r ≡ 0 → ⊥) → x ≡ place_answer s t a d fs ks
-    unfolding pick_refusal
-    stands-refused g n = stands r nowhere (chain_stops r _ _ e n) (from-refused r e n) g
-
+  module _ (e : 0 ≡ lists_refusal s t a d fs ks) where
     -- the answer for a source that was found
-    stands-found : (y : Source) → r ≡ 0 → y ≡ found s t a d fs ks → x ≡ place_of (missing y) y → x ≡ place_answer s t a d fs ks
-    unfolding pick_refusal
-    stands-found y z f g = stands (missing y) y (chain_goes r _ _ _ e z (ap missing f)) (f ∙ from_found r e z) g
+    stands-found : (y : Source) → y ≡ found s t a d fs ks → place_of (missing y) y ≡ place_answer s t a d fs ks
+    stands-found y f =
+        answer-given 0 _ no_place _ _ e refl (ap (λ (z : Source). place_of (missing z) z) f) ∙ place-answered
 
-    pub stands-fresh : r ≡ 0 → (i : ℕ) → i ≡ first_usable_in s t a d fs → i < length fs / 8 → x ≡ a_place 1 (i + 1) → x ≡ place_answer s t a d fs ks
-    stands-fresh z i f h g = stands-found (in_fresh i) z (found-fresh i f h) g
+    pub stands-fresh : (i : ℕ) → Some i ≡ position (usable s t a d) (arrays (length fs / 8) fs) → a_place 1 (i + 1) ≡ place_answer s t a d fs ks
+    stands-fresh i f = let z = position-some s t a d fs i f in stands-found (in_fresh i) (found-fresh i z.0 z.1)
 
-    pub stands-kept : r ≡ 0 → (i j : ℕ) → i ≡ first_usable_in s t a d fs → length fs / 8 ≤ i → j ≡ first_usable_in s t a d ks → j < length ks / 8 → x ≡ a_place 2 (j + 1) → x ≡ place_answer s t a d fs ks
-    stands-kept z i j f h k l g = stands-found (in_kept j) z (found-kept i j f h k l) g
+    module _ (n : None ≡ position (usable s t a d) (arrays (length fs / 8) fs)) where
+      pub stands-kept : (i : ℕ) → Some i ≡ position (usable s t a d) (arrays (length ks / 8) ks) → a_place 2 (i + 1) ≡ place_answer s t a d fs ks
+      stands-kept i f =
+          let z = position-some s t a d ks i f in
+          stands-found (in_kept i) (found-kept _ i refl (position-none s t a d fs n) z.0 z.1)
 
-    pub stands-nowhere : r ≡ 0 → (i j : ℕ) → i ≡ first_usable_in s t a d fs → length fs / 8 ≤ i → j ≡ first_usable_in s t a d ks → length ks / 8 ≤ j → x ≡ no_place 16 → x ≡ place_answer s t a d fs ks
-    stands-nowhere z i j f h k l g = stands-found nowhere z (found_none i j f h k l) g
+      pub stands-nowhere : None ≡ position (usable s t a d) (arrays (length ks / 8) ks) → no_place 16 ≡ place_answer s t a d fs ks
+      stands-nowhere f =
+          stands-found nowhere (found_none _ _ refl (position-none s t a d fs n) refl (position-none s t a d ks f))
 
   -- the refusal of a place is the companion's answer
   pub place-refusal : (place_answer s t a d fs ks).refusal ≡ pick_answer s t a d fs ks

@@ -7,30 +7,32 @@ use native.Mathlib.Omega.{arith}
 use native.Mathlib.Decide.{ℕ_discrete}
 use lib.ListN.{length, take, drop}
 use Rattle.room.specs.declared.Shape.{Shape}
-use Rattle.pick.specs.declared.Place.{Place}
+use Rattle.pick.specs.declared.List.{List as WhichList}
+use Rattle.pick.specs.declared.List.TheVariants.{Fresh, Kept}
+use Rattle.pick.specs.Told.{Place}
 use Rattle.pick.specs.Picks.{Source, in_fresh, in_kept, nowhere, lists_refusal, pick_source, pick_refusal, array_at, lies_at}
 use Rattle.pick.specs.Chosen.{Chosen}
-use Rattle.pick.specs.Places.{place_of, place_answer}
-use Rattle.pick.proofs.PickLaws.{from-refused, Lies, lies, lies_empty}
+use Rattle.pick.specs.Places.{no_place, a_place, list_number, place_of, place_answer}
+use Rattle.pick.proofs.PickLaws.{from-refused, Lies, lies}
 use Rattle.pick.proofs.Promises.{source_chosen}
 
 -- a source in the fresh list, with its route's place there; and in the kept list
-pub record Fresh (y : Source) (i : ℕ) : Type 0 where
+pub record FromFresh (y : Source) (i : ℕ) : Type 0 where
   pub index : ℕ
   pub source : in_fresh index ≡ y
   pub route : i ≡ index + 1
 
-pub record Kept (y : Source) (i : ℕ) : Type 0 where
+pub record FromKept (y : Source) (i : ℕ) : Type 0 where
   pub index : ℕ
   pub source : in_kept index ≡ y
   pub route : i ≡ index + 1
 
-fresh_of : (r : ℕ) (y : Source) → (place_of r y).list ≡ 1 → Fresh y (place_of r y).route
+fresh_of : (r : ℕ) (y : Source) → (place_of r y).list ≡ 1 → FromFresh y (place_of r y).route
 fresh_of r (in_fresh i) e = record { index = i; source = refl; route = refl }
 fresh_of r (in_kept i) e = let z : ⊥ = omega arith in absurd z
 fresh_of r nowhere e = let z : ⊥ = omega arith in absurd z
 
-kept_of : (r : ℕ) (y : Source) → (place_of r y).list ≡ 2 → Kept y (place_of r y).route
+kept_of : (r : ℕ) (y : Source) → (place_of r y).list ≡ 2 → FromKept y (place_of r y).route
 kept_of r (in_fresh i) e = let z : ⊥ = omega arith in absurd z
 kept_of r (in_kept i) e = record { index = i; source = refl; route = refl }
 kept_of r nowhere e = let z : ⊥ = omega arith in absurd z
@@ -81,16 +83,16 @@ module _ (s : Shape) (t : List ℕ) (a d : ℕ) (fs ks : List ℕ) where
       ]
 
   module _ (x : Place) (e : x ≡ place_answer s t a d fs ks) where
-    pub in-fresh : x.list ≡ 1 → Fresh (pick_source s t a d fs ks) x.route
+    pub in-fresh : x.list ≡ 1 → FromFresh (pick_source s t a d fs ks) x.route
     unfolding place_answer
     in-fresh h =
-        subst (λ (y : Place). Fresh (pick_source s t a d fs ks) y.route) (sym e)
+        subst (λ (y : Place). FromFresh (pick_source s t a d fs ks) y.route) (sym e)
         (fresh_of (pick_refusal s t a d fs ks) (pick_source s t a d fs ks) (sym (ap (λ (y : Place). y.list) e) ∙ h))
 
-    pub in_kept_lem : x.list ≡ 2 → Kept (pick_source s t a d fs ks) x.route
+    pub in_kept_lem : x.list ≡ 2 → FromKept (pick_source s t a d fs ks) x.route
     unfolding place_answer
     in_kept_lem h =
-        subst (λ (y : Place). Kept (pick_source s t a d fs ks) y.route) (sym e)
+        subst (λ (y : Place). FromKept (pick_source s t a d fs ks) y.route) (sym e)
         (kept_of (pick_refusal s t a d fs ks) (pick_source s t a d fs ks) (sym (ap (λ (y : Place). y.list) e) ∙ h))
 
     in_none : x.list ≢ 1 → x.list ≢ 2 → nowhere ≡ pick_source s t a d fs ks
@@ -123,5 +125,13 @@ module _ (s : Shape) (t : List ℕ) (a d : ℕ) (fs ks : List ℕ) where
           let l = lies s t a d fs ks p q (in_kept f.index) f.source in
           (part_is ks x.route f.index f.route ∙ l.0, part_lies_lem q x.route f.index f.route ∙ l.1)
 
-      pub part_none : x.list ≢ 1 → x.list ≢ 2 → Lies s t a d fs ks p q [] (p.0, 0 + p.1)
-      part_none f k = lies_empty s t a d fs ks p q (in_none f k)
+  -- no place at all
+  pub part_none : (p q : ℕ × ℕ) (r : ℕ) → no_place r ≡ place_answer s t a d fs ks → Lies s t a d fs ks p q [] p
+  part_none p q r e =
+      let n = in_none (no_place r) e (λ z. let k : ⊥ = omega arith in k) (λ z. let k : ⊥ = omega arith in k) in
+      lies s t a d fs ks p q nowhere n
+
+  -- the end of the eight bytes, whichever list they are in
+  pub end_within : (l : WhichList) (r : ℕ) → a_place (list_number l) r ≡ place_answer s t a d fs ks → 8 * r ≤ length fs + length ks
+  end_within Fresh r e = omega (arith, (fresh-inside (a_place 1 r) e refl).end)
+  end_within Kept r e = omega (arith, (kept-inside (a_place 2 r) e refl).end)

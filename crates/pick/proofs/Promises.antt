@@ -88,7 +88,7 @@ module _ (s : Shape) (t : List ℕ) (a d : ℕ) (fs ks : List ℕ) where
   picked : pick_refusal s t a d fs ks ≡ 0 → Accepted s t a d (picked_bytes (pick_source s t a d fs ks) fs ks) × (length (picked_bytes (pick_source s t a d fs ks) fs ks) ≡ 8)
   picked e =
       let z = refusal_parts e in
-      chosen_accepted (lists_room s t a d fs ks (lists_refusal s t a d fs ks) refl z.0) (pick_source s t a d fs ks) (ap missing (sym (source-found z.0)) ∙ z.1) (source_chosen z.0)
+      chosen_accepted (lists_room s t a d fs ks (sym z.0)) (pick_source s t a d fs ks) (ap missing (sym (source-found z.0)) ∙ z.1) (source_chosen z.0)
 
   -- with no refusal the bytes are accepted as a list of one
   pub picked_accepted : pick_refusal s t a d fs ks ≡ 0 → Accepted s t a d (picked_bytes (pick_source s t a d fs ks) fs ks)

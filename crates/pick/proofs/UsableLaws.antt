@@ -1,26 +1,30 @@
 -- What is usable, told by walking; and the search for the first usable array.
-use Prim.Native.Nat.{ℕ, zero, suc, ◌+◌, ◌-◌, ◌*◌, ◌/◌, ◌≤◌, ◌<◌}
+use Prim.Native.Nat.{ℕ, zero, suc, ◌+◌, ◌*◌, ◌/◌, ◌≤◌, ◌<◌}
 use mathlib.Core.Path.{◌≡◌, refl, sym, ap, ◌∙◌}
-use mathlib.Core.Bool.{Bool, true, false, cond}
+use mathlib.Core.Bool.{Bool, true, false, not, cond}
 use mathlib.Core.List.{List, [], ◌∷◌, map}
 use native.Mathlib.Omega.{arith}
-use native.Mathlib.Nat.{zero-add}
 use native.Mathlib.Decide.{dec_lt}
 use lib.Dec.{eqb}
 use lib.ListN.{length, take, drop, length-drop}
 use lib.Seq.{take_all, drop-drop, length-take-le}
-use borrow.Author.Tests.{eq-eqb, ne_eqb, eqb-true, le-leb}
-use Rattle.refusals.specs.declared.Refusal.{Refusal}
-use Rattle.refusals.specs.Refusals.{none, plain, of_route}
+use borrow.Author.Tests.{eq-eqb, ne_eqb, eqb-true, le-leb, lt-ltb, le-ltb}
+use Rattle.std.specs.Prelude.{Some, None, Result, Ok, Err, is_ok}
+use Rattle.std.specs.List.{position, position_or_len}
+use Rattle.refusals.specs.declared.Refused.{Refused}
+use Rattle.refusals.specs.Refusals.{Refusal, none, plain, of_route}
+use Rattle.refusals.specs.Reasons.{number_of, tells_where}
+use Rattle.refusals.proofs.ReasonLaws.{reason-some}
 use Rattle.refusals.proofs.ChainLaws.{chain_goes}
 use Rattle.refusals.proofs.AnswerLaws.{answer-none}
 use Rattle.room.specs.declared.Shape.{Shape}
 use Rattle.links.specs.Table.{room_refusal}
-use Rattle.path.specs.declared.Walked.{Walked}
-use Rattle.path.specs.Answers.{walk_answer}
+use Rattle.path.specs.declared.Walked.{Walked as WalkedArray}
+use Rattle.path.specs.Told.{Walked}
+use Rattle.path.specs.Answers.{no_walk, the_walk, walk_answer}
 use Rattle.verdict.specs.Checks.{arrays, first_stop, first_meeting, first_of, first_pair, list_refusal, walks_of, check_answer}
 use Rattle.verdict.specs.Accepted.{Accepted}
-use Rattle.verdict.proofs.AcceptLaws.{accepted_of}
+use Rattle.verdict.proofs.AcceptLaws.{accepted_of, arrays-long}
 use Rattle.pick.specs.Picks.{usable, first_usable, first_usable_in, array_at}
 use Rattle.pick.specs.Chosen.{FirstUsable, NoneUsable}
 
@@ -70,6 +74,15 @@ usable-walk s t a d bs e l =
     ap (λ (r : Refusal). eqb r.number 0) (check-one s t a d bs e l)
     ∙ one_number (walk_answer s t a d bs).refusal
 
+-- the same of what the walk gave
+pub walk-usable : (s : Shape) (t : List ℕ) (a d : ℕ) (bs : List ℕ) → room_refusal s t a d ≡ 0 → length bs ≡ 8 → (x : Result WalkedArray Refused) → tells_where no_walk the_walk x ≡ walk_answer s t a d bs → is_ok x ≡ usable s t a d bs
+walk-usable s t a d bs e l x f =
+    ok_by x ∙ ap (λ (w : Walked). eqb w.refusal.number 0) f ∙ sym (usable-walk s t a d bs e l)
+  where
+    ok_by : (x : Result WalkedArray Refused) → is_ok x ≡ eqb (tells_where no_walk the_walk x).refusal.number 0
+    ok_by (Ok w) = refl
+    ok_by (Err r) = sym (ne_eqb (number_of r.reason) 0 (reason-some r.reason))
+
 -- and then it is accepted as a list of one
 pub usable_accepted : (s : Shape) (t : List ℕ) (a d : ℕ) (bs : List ℕ) → room_refusal s t a d ≡ 0 → length bs ≡ 8 → usable s t a d bs ≡ true → Accepted s t a d bs
 usable_accepted s t a d bs e l u =
@@ -87,58 +100,43 @@ array-next i bs =
     let e : 8 + 8 * i ≡ 8 * suc i = omega arith in
     ap (take 8) (drop-drop (8 * i) 8 bs ∙ ap (λ (x : ℕ). drop x bs) e)
 
--- ---- what the loop keeps
+-- ---- the place of the first usable array, or the number of all
 
-module _ (s : Shape) (t : List ℕ) (a d : ℕ) (bs : List ℕ) where
-  -- the arrays from place i on
-  abbrev from : ℕ → List (List ℕ)
-  from i = arrays (length bs / 8 - i) (drop (8 * i) bs)
+module _ (s : Shape) (t : List ℕ) (a d : ℕ) where
+  one_more : (b : Bool) (n k : ℕ) → n ≡ k → cond (not b) (1 + n) 0 ≡ cond b 0 (suc k)
+  one_more true n k e = refl
+  one_more false n k e = omega arith
 
-  from_cut : (i : ℕ) → i < length bs / 8 → from i ≡ array_at i bs ∷ from (i + 1)
-  unfolding arrays
-  from_cut i h =
-      let m : length bs / 8 - i ≡ suc (length bs / 8 - (i + 1)) = omega arith in
-      let e : 8 * i + 8 ≡ 8 * (i + 1) = omega arith in
-      ap (λ (x : ℕ). arrays x (drop (8 * i) bs)) m
-      ∙ ap (λ (x : List ℕ). array_at i bs ∷ arrays (length bs / 8 - (i + 1)) x) (drop-drop 8 (8 * i) bs ∙ ap (λ (x : ℕ). drop x bs) e)
+  place-first : (bss : List (List ℕ)) → position_or_len (usable s t a d) bss ≡ first_usable s t a d bss
+  unfolding first_usable
+  place-first [] = refl
+  place-first (bs ∷ bss) = one_more (usable s t a d bs) _ _ (place-first bss)
 
-  -- no array before place i is usable
-  pub record Seeking (i : ℕ) : Type 0 where
-    pub within : i ≤ length bs / 8
-    pub rest : i + first_usable s t a d (from i) ≡ first_usable_in s t a d bs
+  module _ (bs : List ℕ) where
+    abbrev all : List (List ℕ)
+    all = arrays (length bs / 8) bs
 
-  pub seeking_all : Seeking 0
-  unfolding first_usable_in
-  seeking_all =
-      let m : length bs / 8 - 0 ≡ length bs / 8 = omega arith in
-      record { within = omega arith; rest = zero-add (first_usable s t a d (from 0)) ∙ ap (λ (x : ℕ). first_usable s t a d (arrays x bs)) m }
+    -- it is at place i
+    pub position-some : (i : ℕ) → Some i ≡ position (usable s t a d) (arrays (length bs / 8) bs) → (i ≡ first_usable_in s t a d bs) × (i < length bs / 8)
+    unfolding first_usable_in
+    position-some i e =
+        elim (dec_lt (position_or_len (usable s t a d) all) (length all)) [
+          | yes l ↦
+              let f : Some i ≡ Some (position_or_len (usable s t a d) all) = rw (lt-ltb (position_or_len (usable s t a d) all) (length all) l) at e in
+              let g : i ≡ position_or_len (usable s t a d) all = cc in
+              (g ∙ place-first all, omega (arith, arrays-long (length bs / 8) bs))
+          | no n ↦ let f : Some i ≡ None = rw (le-ltb (position_or_len (usable s t a d) all) (length all) (omega arith)) at e in cc
+        ]
 
-  module _ (i : ℕ) (g : Seeking i) (room : room_refusal s t a d ≡ 0) (more : i < length bs / 8) (w : Walked) (part : w ≡ walk_answer s t a d (take (8 * i + 8 - 8 * i) (drop (8 * i) bs))) where
-    told : usable s t a d (array_at i bs) ≡ eqb w.refusal.number 0
-    told =
-        let q : 8 * i + 8 - 8 * i ≡ 8 = omega arith in
-        let e : w ≡ walk_answer s t a d (array_at i bs) = part ∙ ap (λ (m : ℕ). walk_answer s t a d (take m (drop (8 * i) bs))) q in
-        usable-walk s t a d (array_at i bs) room (array_long i bs more) ∙ ap (λ (x : Walked). eqb x.refusal.number 0) (sym e)
-
-    pub seeking_found : w.refusal.number ≡ 0 → i ≡ first_usable_in s t a d bs
-    unfolding first_usable
-    seeking_found n =
-        let z : first_usable s t a d (from i) ≡ 0 = rw (from_cut i more, told ∙ eq-eqb w.refusal.number 0 n) in
-        omega (arith, g.rest)
-
-    pub seeking_goes : (w.refusal.number ≡ 0 → ⊥) → Seeking (i + 1)
-    unfolding first_usable
-    seeking_goes n =
-        let z : first_usable s t a d (from i) ≡ suc (first_usable s t a d (from (i + 1))) = rw (from_cut i more, told ∙ ne_eqb w.refusal.number 0 n) in
-        record { within = omega arith; rest = omega (arith, g.rest) }
-
-  -- past the last array
-  pub seeking_ends : (i : ℕ) → Seeking i → length bs / 8 ≤ i → length bs / 8 ≡ first_usable_in s t a d bs
-  unfolding first_usable arrays
-  seeking_ends i g h =
-      let m : length bs / 8 - i ≡ 0 = omega arith in
-      let z : first_usable s t a d (from i) ≡ 0 = rw m in
-      omega (arith, g.within, g.rest)
+    -- none is
+    pub position-none : None ≡ position (usable s t a d) (arrays (length bs / 8) bs) → length bs / 8 ≤ first_usable_in s t a d bs
+    unfolding first_usable_in
+    position-none e =
+        elim (dec_lt (position_or_len (usable s t a d) all) (length all)) [
+          | yes l ↦
+              let f : None ≡ Some (position_or_len (usable s t a d) all) = rw (lt-ltb (position_or_len (usable s t a d) all) (length all) l) at e in cc
+          | no n ↦ omega (arith, place-first all, arrays-long (length bs / 8) bs)
+        ]
 
 -- ---- the first usable array is the one that is found
 

@@ -1,3 +1,4 @@
+pub mod Told
 pub mod Picks
 pub mod Chosen
 pub mod Places

@@ -1,7 +1,7 @@
 -- Picking: the first usable route of a fresh list, else of a kept one.
 use Rattle.std.specs.Prelude.{ℕ, suc, ◌+◌, ◌*◌, ◌/◌, ◌%◌, ◌≡◌, List, [], ◌∷◌, ◌++◌, Bool, cond, ◌&&◌, ltb, leb, eqb, length, take, drop}
 use Rattle.std.specs.Borrow.{Bor}
-use Rattle.refusals.specs.declared.Refusal.{Refusal}
+use Rattle.refusals.specs.Refusals.{Refusal}
 use Rattle.refusals.specs.Refusals.{plain, ◌or_else◌, ◌unless◌, answer}
 use Rattle.room.specs.declared.Shape.{Shape}
 use Rattle.links.specs.Table.{room_refusal, room_numbers}

@@ -1,9 +1,10 @@
 // What is tested before any reading.
 ghost use Rattle.std.specs.Prelude.{◌≡◌, ◌≤◌};
+ghost use Rattle.refusals.specs.Reasons.{told};
 ghost use Rattle.pick.specs.Picks.{fits, lists_refusal};
 
 use links::room_refusal;
-use refusals::Refusal;
+use refusals::Reason;
 use room::Shape;
 
 // Whether so many bytes are whole arrays, at most k + 1 of them; none will do.
@@ -11,13 +12,10 @@ fn are_arrays(shape: Shape, bytes: usize) -> bool
     requires { shape.k ≤ 3 }
     ensures { result ≡ fits shape bytes }
 {
-    if bytes % 8 != 0 {
-        return false;
-    }
-    bytes <= 8 * (shape.k + 1)
+    bytes % 8 == 0 && bytes <= 8 * (shape.k + 1)
 }
 
-// The first of 1, 2, 26, 3, 4, 5, 6, 7 that refuses two lists before they are read, or 0.
+// The first of 1, 2, 26, 3, 4, 5, 6, 7 that refuses two lists before they are read.
 pub(crate) fn lists_refusal(
     shape: Shape,
     table: &[u8],
@@ -25,17 +23,12 @@ pub(crate) fn lists_refusal(
     destination: usize,
     fresh: &[u8],
     kept: &[u8],
-) -> usize
-    ensures { result ≡ lists_refusal shape table.now source destination fresh.now kept.now }
+) -> Result<(), Reason>
+    ensures { told result ≡ lists_refusal shape table.now source destination fresh.now kept.now }
 {
-    let r = room_refusal(shape, table, source, destination);
-    if r != 0 {
-        return r;
+    room_refusal(shape, table, source, destination)?;
+    if are_arrays(shape, fresh.len()) && are_arrays(shape, kept.len()) {
+        return Ok(());
     }
-    if are_arrays(shape, fresh.len()) {
-        if are_arrays(shape, kept.len()) {
-            return 0;
-        }
-    }
-    Refusal::LIST
+    Err(Reason::List)
 }

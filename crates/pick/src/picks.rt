@@ -1,56 +1,16 @@
-// The route picked, and the companion question.
+// The route picked, and the companion question. Shape, table and ends are apart in the public call, as C passes them
+// and as `wrong` names its arguments.
 ghost use Rattle.std.specs.Prelude.{◌≡◌};
-ghost use Rattle.links.specs.Table.{room_refusal};
-ghost use Rattle.pick.specs.Picks.{first_usable_in, pick_answer, PickedPart};
-ghost use Rattle.pick.specs.Places.{no_place, a_place, place_answer};
+ghost use Rattle.refusals.specs.Refusals.{plain};
+ghost use Rattle.refusals.specs.Reasons.{told, tells};
+ghost use Rattle.pick.specs.Picks.{pick_answer, PickedPart};
+ghost use Rattle.pick.specs.Places.{no_place, the_place, place_answer};
 
-use crate::Place;
 use crate::lengths::lists_refusal;
-use refusals::Refusal;
+use crate::usable::Ends;
+use crate::{List, Place};
+use refusals::Reason;
 use room::Shape;
-
-// The place of the first usable array of a list, or the number of its arrays. The room, its ends and
-// its table have been tested.
-fn first_usable(shape: Shape, table: &[u8], source: usize, destination: usize, list: &[u8]) -> usize
-    requires { room_refusal shape table.now source destination ≡ 0 }
-    ensures { result ≡ first_usable_in shape table.now source destination list.now }
-{
-    let count = list.len() / 8;
-    let mut i: usize = 0;
-    while i < count {
-        let at = 8 * i;
-        let end = at + 8;
-        let walked = path::walk(shape, table, source, destination, &list[at..end]);
-        let refusal = walked.refusal;
-        if refusal.number == 0 {
-            return i;
-        }
-        i += 1;
-    }
-    count
-}
-
-// No place, with a refusal's number.
-fn no_place(number: usize) -> Place
-    ensures { result ≡ no_place number }
-{
-    Place {
-        refusal: Refusal::plain(number),
-        list: 0,
-        route: 0,
-    }
-}
-
-// The place of a route in a list.
-fn a_place(list: usize, route: usize) -> Place
-    ensures { result ≡ a_place list route }
-{
-    Place {
-        refusal: Refusal::none(),
-        list,
-        route,
-    }
-}
 
 // Which list holds the picked route, and at which place; or why there is none: refusals 1, 2, 26, 3 to 7, and 16
 // where neither list has a usable route.
@@ -61,22 +21,29 @@ pub fn pick_place(
     destination: usize,
     fresh: &[u8],
     kept: &[u8],
-) -> Place
-    ensures { result ≡ place_answer shape table.now source destination fresh.now kept.now }
+) -> Result<Place, Reason>
+    ensures { tells no_place the_place result ≡ place_answer shape table.now source destination fresh.now kept.now }
 {
-    let r = lists_refusal(shape, table, source, destination, fresh, kept);
-    if r != 0 {
-        return no_place(r);
+    lists_refusal(shape, table, source, destination, fresh, kept)?;
+    let ends = Ends {
+        shape,
+        table,
+        source,
+        destination,
+    };
+    if let Some(i) = ends.first_usable(fresh) {
+        return Ok(Place {
+            list: List::Fresh,
+            route: i + 1,
+        });
     }
-    let i = first_usable(shape, table, source, destination, fresh);
-    if i < fresh.len() / 8 {
-        return a_place(Place::FRESH, i + 1);
+    if let Some(i) = ends.first_usable(kept) {
+        return Ok(Place {
+            list: List::Kept,
+            route: i + 1,
+        });
     }
-    let j = first_usable(shape, table, source, destination, kept);
-    if j < kept.len() / 8 {
-        return a_place(Place::KEPT, j + 1);
-    }
-    no_place(Refusal::NO_ROUTE)
+    Err(Reason::NoRoute)
 }
 
 // The first usable route of the fresh list, else of the kept list: the eight bytes within the buffer
@@ -91,19 +58,17 @@ pub fn pick_route<'a>(
 ) -> &'a [u8]
     ensures { PickedPart shape table.now source destination fresh.entry kept.entry result }
 {
-    let place = pick_place(shape, table, source, destination, fresh, kept);
-    if place.list == Place::FRESH {
-        let end = 8 * place.route;
-        return &fresh[end - 8..end];
+    let Ok(place) = pick_place(shape, table, source, destination, fresh, kept) else {
+        return &fresh[..0];
+    };
+    let end = 8 * place.route;
+    match place.list {
+        List::Fresh => &fresh[end - 8..end],
+        List::Kept => &kept[end - 8..end],
     }
-    if place.list == Place::KEPT {
-        let end = 8 * place.route;
-        return &kept[end - 8..end];
-    }
-    &fresh[0..0]
 }
 
-// Why picking gives no route: refusals 1, 2, 26, 3 to 7, 16 where neither list has a usable route, or none.
+// Why picking gives no route: refusals 1, 2, 26, 3 to 7, 16 where neither list has a usable route, or Ok where it gives one.
 pub fn pick_refusal(
     shape: Shape,
     table: &[u8],
@@ -111,9 +76,9 @@ pub fn pick_refusal(
     destination: usize,
     fresh: &[u8],
     kept: &[u8],
-) -> Refusal
-    ensures { result ≡ pick_answer shape table.now source destination fresh.now kept.now }
+) -> Result<(), Reason>
+    ensures { plain (told result) ≡ pick_answer shape table.now source destination fresh.now kept.now }
 {
-    let place = pick_place(shape, table, source, destination, fresh, kept);
-    place.refusal
+    pick_place(shape, table, source, destination, fresh, kept)?;
+    Ok(())
 }

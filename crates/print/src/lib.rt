@@ -5,8 +5,8 @@
 
 ghost use Rattle.std.specs.Prelude.{◌≡◌, IfOk};
 
-use refusals::Refusal;
-use room::{Number, Shape};
+use refusals::{Reason, Refused};
+use room::Shape;
 use std::io;
 
 pub fn text(rt: &impl Print, t: &[u8]) -> io::Result<()>
@@ -25,8 +25,7 @@ pub fn number(rt: &impl Print, n: usize) -> io::Result<()>
 pub fn item(rt: &impl Print, n: usize) -> io::Result<()>
     ensures { IfOk result (λ done. done ≡ tt) }
 {
-    text(rt, b" ")?;
-    number(rt, n)
+    print!(rt; " {n}")
 }
 
 // "NAME (n,k)" of a full room, "NAME (n,k,m)" of any other.
@@ -34,97 +33,38 @@ pub fn question(rt: &impl Print, name: &[u8], shape: Shape) -> io::Result<()>
     ensures { IfOk result (λ done. done ≡ tt) }
 {
     text(rt, name)?;
-    text(rt, b" (")?;
-    number(rt, shape.n)?;
-    text(rt, b",")?;
-    number(rt, shape.k)?;
-    if shape.m != shape.n {
-        text(rt, b",")?;
-        number(rt, shape.m)?;
-    }
-    text(rt, b")")
-}
-
-// Whether a refusal names an earlier hop, as 15, 28 and 29 do; an earlier route or hop that is not zero is always shown.
-fn names_earlier(refusal: Refusal) -> bool {
-    if refusal.earlier_route != 0 {
-        return true;
-    }
-    if refusal.earlier_hop != 0 {
-        return true;
-    }
-    let number = refusal.number;
-    match number {
-        Refusal::NOT_PARALLEL => true,
-        Refusal::SERVER_AGAIN => true,
-        Refusal::SWITCH_AGAIN => true,
-        _ => false,
-    }
-}
-
-// "earlier hop HOP" with a space before it, and the earlier route before the hop where it is not zero.
-fn earlier_item(rt: &impl Print, refusal: Refusal) -> io::Result<()>
-    ensures { IfOk result (λ done. done ≡ tt) }
-{
-    text(rt, b" earlier")?;
-    if refusal.earlier_route != 0 {
-        text(rt, b" route")?;
-        item(rt, refusal.earlier_route)?;
-    }
-    text(rt, b" hop")?;
-    item(rt, refusal.earlier_hop)
+    print!(rt; " {shape}")
 }
 
 // "refused NUMBER" with a space before it, route and hop where they are not zero, and the earlier hop where one is named.
-pub fn refused_item(rt: &impl Print, refusal: Refusal) -> io::Result<()>
+pub fn refused_item(rt: &impl Print, refused: Refused) -> io::Result<()>
     ensures { IfOk result (λ done. done ≡ tt) }
 {
-    text(rt, b" refused")?;
-    item(rt, refusal.number)?;
-    if refusal.route != 0 {
-        text(rt, b" route")?;
-        item(rt, refusal.route)?;
-        text(rt, b" hop")?;
-        item(rt, refusal.hop)?;
-    }
-    if names_earlier(refusal) {
-        earlier_item(rt, refusal)?;
-    }
-    Ok(())
+    print!(rt; " {refused}")
 }
 
 // "= refused NUMBER", with the places that the refusal names.
-pub fn refused(rt: &impl Print, refusal: Refusal) -> io::Result<()>
+pub fn refused(rt: &impl Print, refused: Refused) -> io::Result<()>
     ensures { IfOk result (λ done. done ≡ tt) }
 {
-    text(rt, b" =")?;
-    refused_item(rt, refusal)?;
-    text(rt, b"\n")
+    println!(rt; " = {refused}")
 }
 
 // "= VALUE", or the refusal.
-pub fn answer(rt: &impl Print, x: Number) -> io::Result<()>
+pub fn answer(rt: &impl Print, x: Result<usize, Reason>) -> io::Result<()>
     ensures { IfOk result (λ done. done ≡ tt) }
 {
-    let refusal = x.refusal;
-    if refusal.number != 0 {
-        return refused(rt, refusal);
+    match x {
+        Ok(value) => println!(rt; " = {value}"),
+        Err(reason) => println!(rt; " = {reason}"),
     }
-    text(rt, b" =")?;
-    item(rt, x.value)?;
-    text(rt, b"\n")
-}
-
-fn wide(x: u8) -> u64 {
-    x as u64
 }
 
 // A number as two hex digits, or as many as it takes, with a space before it.
 pub fn hex(rt: &impl Print, n: usize) -> io::Result<()>
     ensures { IfOk result (λ done. done ≡ tt) }
 {
-    text(rt, b" ")?;
-    print!(rt; "{n:02x}")
+    print!(rt; " {n:02x}")
 }
 
 // The bytes of a slice as hex, with a space before them; "-" where there are none.
@@ -132,13 +72,11 @@ pub fn bytes(rt: &impl Print, b: &[u8]) -> io::Result<()>
     ensures { IfOk result (λ done. done ≡ tt) }
 {
     text(rt, b" ")?;
-    if b.len() == 0 {
+    if b.is_empty() {
         text(rt, b"-")?;
     }
-    let mut i: usize = 0;
-    while i < b.len() {
-        print!(rt; "{:02x}", wide(b[i]))?;
-        i += 1;
+    for &byte in b {
+        print!(rt; "{byte:02x}")?;
     }
     Ok(())
 }
@@ -153,12 +91,8 @@ pub fn end(rt: &impl Print) -> io::Result<()>
 pub fn items(rt: &impl Print, numbers: [usize; 9], count: usize) -> io::Result<()>
     ensures { IfOk result (λ done. done ≡ tt) }
 {
-    let mut i: usize = 0;
-    while i < 9 {
-        if i < count {
-            item(rt, numbers[i])?;
-        }
-        i += 1;
+    for &number in numbers.iter().take(count) {
+        item(rt, number)?;
     }
     Ok(())
 }
@@ -167,10 +101,8 @@ pub fn items(rt: &impl Print, numbers: [usize; 9], count: usize) -> io::Result<(
 pub fn all(rt: &impl Print, numbers: &[usize]) -> io::Result<()>
     ensures { IfOk result (λ done. done ≡ tt) }
 {
-    let mut i: usize = 0;
-    while i < numbers.len() {
-        item(rt, numbers[i])?;
-        i += 1;
+    for &number in numbers {
+        item(rt, number)?;
     }
     Ok(())
 }

@@ -31,6 +31,10 @@ pub chain_goes : (r p q x : ℕ) → r ≡ p → r ≡ 0 → x ≡ q → x ≡ p
 unfolding ◌or_else◌
 chain_goes r p q x e z g = rw (← e, z) g
 
+-- the first of two tests refuses nothing, and x is what the second gives
+pub chain_on : (p q x : ℕ) → 0 ≡ p → x ≡ q → x ≡ p or_else q
+chain_on p q x e g = chain_goes 0 p q x e refl g
+
 -- ---- tests
 
 pub test_held : (t : Bool) (r : ℕ) → suc r unless t ≡ 0 → t ≡ true

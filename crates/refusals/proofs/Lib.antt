@@ -1,4 +1,5 @@
 pub mod ChainLaws
 pub mod NumberLaws
 pub mod AnswerLaws
+pub mod ReasonLaws
 pub mod Unique

@@ -1,10 +1,17 @@
 -- Refusals, by number, route and hop, and an earlier route and hop; chains of tests, whose first refusal counts; and answers. The number 0 is no refusal.
 use Rattle.std.specs.Prelude.{ℕ, zero, suc, ◌≡◌, List, Bool, true, cond}
 use Rattle.lists.specs.Lists.{is_in}
-use Rattle.refusals.specs.declared.Refusal.{Refusal}
 
 infixl 30 ◌or_else◌
 infix 35 ◌unless◌
+-- a refusal as the rules tell it: its number, the route and hop where it arose, and the earlier route and hop that it names (rule 8.1)
+pub record Refusal : Type 0 where
+  pub number : ℕ
+  pub route : ℕ
+  pub hop : ℕ
+  pub earlier_route : ℕ
+  pub earlier_hop : ℕ
+
 -- a refusal by its number, its route and hop, and the earlier route and hop beside them
 abbrev pub refusal : ℕ → ℕ → ℕ → ℕ → ℕ → Refusal
 refusal r i h j g = record { number = r; route = i; hop = h; earlier_route = j; earlier_hop = g }

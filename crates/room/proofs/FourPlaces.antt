@@ -1,5 +1,5 @@
 -- What the programs over four places compute.
-use Prim.Native.Nat.{ℕ, zero, suc, ◌+◌, ◌*◌, ◌≤◌, ◌<◌}
+use Prim.Native.Nat.{ℕ, ◌+◌, ◌*◌, ◌≤◌, ◌<◌}
 use mathlib.Core.Path.{◌≡◌, refl, sym, ap, ◌∙◌}
 use mathlib.Core.Bool.{true, cond}
 use mathlib.Core.List.{List, [], ◌∷◌, ◌++◌}
@@ -8,68 +8,27 @@ use native.Mathlib.Nat.{mul-zero, add-zero}
 use lib.ListN.{length, get_or, drop}
 use lib.Dec.{eqb}
 use borrow.Author.Tests.{eq-eqb, ne_eqb}
-use Rattle.refusals.specs.declared.Refusal.{Refusal}
 use Rattle.refusals.specs.Refusals.{none}
-use Rattle.room.specs.declared.Between.{Between}
-use Rattle.room.specs.Digits.{address_of, strike, differ_from, Below}
-use Rattle.room.specs.Answers.{only_level, no_between}
-use Rattle.room.proofs.DigitLaws.{address-small}
+use Rattle.room.specs.Told.{Between}
+use Rattle.room.specs.Digits.{address_of, differ_from, Below}
+use Rattle.std.specs.Prelude.{Some, None}
+use Rattle.room.specs.Answers.{between, only_level, no_between}
+use Rattle.room.proofs.DigitLaws.{address_lt, pow_small}
 use Rattle.room.proofs.RoomLaws.{differ-step, differ-here, differ-end}
 
 -- ---- reading four places as a number, from the top
 
-pub record Sums (n : ℕ) (ds : List ℕ) : Type 0 where
-  pub high : get_or ds 2 0 + n * get_or ds 3 0 ≡ address_of n (drop 2 ds)
-  pub upper : get_or ds 1 0 + n * (get_or ds 2 0 + n * get_or ds 3 0) ≡ address_of n (drop 1 ds)
-  pub whole : get_or ds 0 0 + n * (get_or ds 1 0 + n * (get_or ds 2 0 + n * get_or ds 3 0)) ≡ address_of n ds
-  pub high_fits : address_of n (drop 2 ds) ≤ 16777216
-  pub upper_fits : address_of n (drop 1 ds) ≤ 16777216
-  pub whole-fits : address_of n ds ≤ 16777216
-
-pub sums : (n : ℕ) (ds : List ℕ) → n ≤ 64 → Below n ds → length ds ≡ 4 → Sums n ds
+pub from-top : (n : ℕ) (ds : List ℕ) → length ds ≡ 4 → get_or ds 0 0 + n * (get_or ds 1 0 + n * (get_or ds 2 0 + n * get_or ds 3 0)) ≡ address_of n ds
 unfolding address_of
-sums n [] h b l = let z : ⊥ = omega arith in absurd z
-sums n (p ∷ []) h b l = let z : ⊥ = omega arith in absurd z
-sums n (p ∷ q ∷ []) h b l = let z : ⊥ = omega arith in absurd z
-sums n (p ∷ q ∷ r ∷ []) h b l = let z : ⊥ = omega arith in absurd z
-sums n (p ∷ q ∷ r ∷ t ∷ []) h b l =
-    record {
-      high = simp (mul-zero, add-zero);
-      upper = simp (mul-zero, add-zero);
-      whole = simp (mul-zero, add-zero);
-      high_fits = address-small n 2 (p ∷ q ∷ r ∷ t ∷ []) b h refl;
-      upper_fits = address-small n 1 (p ∷ q ∷ r ∷ t ∷ []) b h refl;
-      whole-fits = address-small n 0 (p ∷ q ∷ r ∷ t ∷ []) b h refl;
-    }
-sums n (p ∷ q ∷ r ∷ t ∷ u ∷ ds) h b l = let z : ⊥ = omega arith in absurd z
+from-top n [] l = let z : ⊥ = omega arith in absurd z
+from-top n (p ∷ []) l = let z : ⊥ = omega arith in absurd z
+from-top n (p ∷ q ∷ []) l = let z : ⊥ = omega arith in absurd z
+from-top n (p ∷ q ∷ r ∷ []) l = let z : ⊥ = omega arith in absurd z
+from-top n (p ∷ q ∷ r ∷ t ∷ []) l = simp (mul-zero, add-zero)
+from-top n (p ∷ q ∷ r ∷ t ∷ u ∷ ds) l = let z : ⊥ = omega arith in absurd z
 
--- ---- striking one out
-
--- the places of four by a choice of three
-abbrev pub three_of : List ℕ → ℕ → ℕ → ℕ → List ℕ
-three_of ds i j k = get_or ds i 0 ∷ get_or ds j 0 ∷ get_or ds k 0 ∷ 0 ∷ []
-
-abbrev pub struck_of : ℕ → List ℕ → List ℕ
-struck_of zero ds = three_of ds 1 2 3
-struck_of (suc zero) ds = three_of ds 0 2 3
-struck_of (suc (suc zero)) ds = three_of ds 0 1 3
-struck_of (suc (suc (suc l))) ds = three_of ds 0 1 2
-
-pub struck_places : (l : ℕ) (ds : List ℕ) → l ≤ 3 → length ds ≡ 4 → struck_of l ds ≡ strike l ds ++ (0 ∷ [])
-struck_places l [] h e = let z : ⊥ = omega arith in absurd z
-struck_places l (p ∷ []) h e = let z : ⊥ = omega arith in absurd z
-struck_places l (p ∷ q ∷ []) h e = let z : ⊥ = omega arith in absurd z
-struck_places l (p ∷ q ∷ r ∷ []) h e = let z : ⊥ = omega arith in absurd z
-struck_places zero (p ∷ q ∷ r ∷ t ∷ []) h e = refl
-struck_places (suc zero) (p ∷ q ∷ r ∷ t ∷ []) h e = refl
-struck_places (suc (suc zero)) (p ∷ q ∷ r ∷ t ∷ []) h e = refl
-struck_places (suc (suc (suc zero))) (p ∷ q ∷ r ∷ t ∷ []) h e = refl
-struck_places (suc (suc (suc (suc l)))) (p ∷ q ∷ r ∷ t ∷ []) h e = let z : ⊥ = omega arith in absurd z
-struck_places l (p ∷ q ∷ r ∷ t ∷ u ∷ ds) h e = let z : ⊥ = omega arith in absurd z
-
--- as the program finds the level
-pub struck-at : (m l : ℕ) (ds : List ℕ) → l ≡ m → m ≤ 3 → length ds ≡ 4 → struck_of m ds ≡ strike l ds ++ (0 ∷ [])
-struck-at m l ds e h n = rw e (struck_places m ds h n)
+pub four_small : (n : ℕ) (ds : List ℕ) → n ≤ 64 → Below n ds → length ds ≡ 4 → address_of n ds ≤ 16777216
+four_small n ds h b l = omega (arith, address_lt n ds b, pow_small n (length ds) h (omega arith))
 
 -- ---- counting the places that differ: c so far, l the last, and these to come
 
@@ -136,8 +95,8 @@ module _ {ds es : List ℕ} {c l i : ℕ} (g : Differs ds es c l i) where
     whole : tally c l [] ≡ only_level (differ_from 0 ds es)
     whole = ap (tally c l) (sym (differ-end i ds es (omega (arith, g.left)))) ∙ g.same ∙ tally_whole (differ_from 0 ds es)
 
-    pub differs_many : (c ≡ 1 → ⊥) → (x : Between) → x ≡ no_between 0 → x ≡ only_level (differ_from 0 ds es)
-    differs_many n x f = f ∙ sym (tally_none c l n) ∙ whole
+    pub differs_many : (c ≡ 1 → ⊥) → between None ≡ only_level (differ_from 0 ds es)
+    differs_many n = sym (tally_none c l n) ∙ whole
 
-    pub differs_once : c ≡ 1 → (r : Refusal) → r ≡ none → record { refusal = r; adjacent = true; level = l } ≡ only_level (differ_from 0 ds es)
-    differs_once e r f = ap (λ (q : Refusal). record { refusal = q; adjacent = true; level = l }) f ∙ sym (tally_one c l e) ∙ whole
+    pub differs_once : c ≡ 1 → between (Some l) ≡ only_level (differ_from 0 ds es)
+    differs_once e = sym (tally_one c l e) ∙ whole

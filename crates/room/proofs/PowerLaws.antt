@@ -2,7 +2,7 @@
 use Prim.Native.Nat.{ℕ, zero, suc, ◌+◌, ◌*◌, ◌%◌, ◌^◌, ◌≤◌, ◌<◌}
 use mathlib.Core.Path.{◌≡◌, sym, ap, ◌∙◌}
 use mathlib.Core.Logic.{◌≢◌, ◌⊎◌, inl, inr, ⊎_elim}
-use mathlib.Core.Bool.{Bool, true, false, cond}
+use mathlib.Core.Bool.{cond}
 use native.Mathlib.Omega.{arith}
 use native.Mathlib.Decide.{dec_le}
 use native.Mathlib.Nat.{pow-zero, mul-one, one-mul, mul-zero, mul-le-mul, le_trans}
@@ -56,10 +56,6 @@ power_on n l p e h =
 
 -- ---- as the program makes it
 
-cond-most : {n : ℕ} (t : Bool) → n ≤ 64 → cond t n 1 ≤ 64
-cond-most true h = h
-cond-most false h = omega arith
-
 -- the square of n from 2 on, and n once more where l is odd
 product : (n l : ℕ) → l ≤ 3 → cond (leb 2 l) n 1 * cond (leb 2 l) n 1 * cond (eqb (l % 2) 1) n 1 ≡ n ^ l
 product n zero h = sym (pow-zero n)
@@ -69,16 +65,8 @@ product n (suc (suc (suc zero))) h = power_three n
 product n (suc (suc (suc (suc l)))) h = let z : ⊥ = omega arith in absurd z
 
 -- x is the root and y the factor that it found
-module _ (n l : ℕ) (a : 1 ≤ n) (b : n ≤ 64) (d : l ≤ 3) (x : ℕ) (ex : x ≡ cond (leb 2 l) n 1) where
-  pub square_fits : Fits w64 (x * x)
-  square_fits = let h : x ≤ 64 = rw ex (cond-most (leb 2 l) b) in omega (arith, mul-le-mul h h)
-
-  module _ (y : ℕ) (ey : y ≡ cond (eqb (l % 2) 1) n 1) where
-    pub power-made : x * x * y ≡ power_of n l
-    power-made = rw (ex, ey) (product n l d ∙ sym (power-within n l a b d))
-
-    pub power-fits : Fits w64 (x * x * y)
-    power-fits = omega (arith, power-made, power-within n l a b d, pow_small n l b (omega arith))
+pub power-made : (n l : ℕ) → 1 ≤ n → n ≤ 64 → l ≤ 3 → (x : ℕ) → x ≡ cond (leb 2 l) n 1 → (y : ℕ) → y ≡ cond (eqb (l % 2) 1) n 1 → x * x * y ≡ power_of n l
+power-made n l a b d x ex y ey = rw (ex, ey) (product n l d ∙ sym (power-within n l a b d))
 
 -- ---- the number of servers
 

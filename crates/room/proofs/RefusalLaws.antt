@@ -10,7 +10,7 @@ use lib.ListN.{length, get_or, drop, drop_of_length-le}
 use lib.Seq.{drop-cons}
 use native.Mathlib.Decide.{dec_le}
 use lib.Dec.{ltb, leb, eqb}
-use borrow.Author.Tests.{lt-ltb, le-ltb, le-leb, lt-leb, ltb-true, leb-true, eqb-true, eqb-false, eq-eqb, ne_eqb, not-true}
+use borrow.Author.Tests.{lt-ltb, le-ltb, le-leb, lt-leb, ltb-true, leb-true, eqb-false, eq-eqb, ne_eqb, not-true}
 use Rattle.lists.proofs.ListLaws.{both_held}
 use Rattle.refusals.specs.Refusals.{◌or_else◌, ◌unless◌}
 use Rattle.refusals.proofs.ChainLaws.{or_else_zero, or_else_passed, chain_stops, chain_goes, test_held, below_holds}
@@ -94,6 +94,9 @@ server_of s a e =
     let z = or_else_zero (shape_refusal s) _ e in
     record { valid = valid_of s z.0; below = ltb-true a (servers_of s) (test_held _ 3 z.1) }
 
+pub server_ports : (s : Shape) (a : ℕ) → server_refusal s a ≡ 0 → 0 < s.n
+server_ports s a e = let v = (server_of s a e).valid in omega (arith, v.two)
+
 pub server-none : {s : Shape} {a : ℕ} → Server s a → 0 ≡ server_refusal s a
 unfolding server_refusal
 server-none {s} {a} h = chain_goes _ _ _ _ (valid-none h.valid) refl (simp (lt-ltb a (servers_of s) h.below))
@@ -133,22 +136,13 @@ value-of s a l v e =
     let z = or_else_zero (link_refusal s a l) _ e in
     record { link = link_of s a l z.0; value = ltb-true v (bound s l) (test_held _ 20 z.1) }
 
-pub value_none : {s : Shape} {a l v : ℕ} → Value s a l v → 0 ≡ value_refusal s a l v
-unfolding value_refusal
-value_none {s} {a} {l} {v} h = chain_goes _ _ _ _ (link-none h.link) refl (simp (lt-ltb v (bound s l) h.value))
-
--- ---- a level, and q, whatever is tested after it: r is what it found of the shape
-
-module _ (s : Shape) (l q r : ℕ) (e : r ≡ shape_refusal s) where
-  pub level-shape : (r ≡ 0 → ⊥) → r ≡ level_refusal s l or_else q
+-- ---- a level, and q, whatever is tested after it: the shape is none that is refused
+module _ (s : Shape) (l q : ℕ) (e : 0 ≡ shape_refusal s) where
+  pub level-above : s.k < l → 20 ≡ level_refusal s l or_else q
   unfolding level_refusal
-  level-shape n = chain_stops r _ _ (chain_stops r _ _ e n) n
+  level-above h = chain_stops 20 _ _ (chain_goes 0 _ _ 20 e refl (rw (lt-leb l s.k h))) (λ n. omega arith)
 
-  pub level-above : r ≡ 0 → s.k < l → 20 ≡ level_refusal s l or_else q
-  unfolding level_refusal
-  level-above z h = chain_stops 20 _ _ (chain_goes r _ _ 20 e z (rw (lt-leb l s.k h))) (λ n. omega arith)
-
--- ---- as the program tests: r is what it found of the tests before, x the number of servers that it counted
+-- ---- as the program tests: nothing before has refused, and x is the number of servers that it counted
 
 -- a shape that fails a test of a room is no room's
 module _ (s : Shape) where
@@ -190,24 +184,16 @@ module _ (s : Shape) (few : s.n ≤ 64) (low : s.k ≤ 3) (some : 2 ≤ s.m) (mo
         | no h ↦ many_servers s two few low some most (omega arith)
       ]
 
--- t is what it found of whether there is such a room
-module _ (s : Shape) (t : Bool) (e : t ≡ eqb (shape_refusal s) 0) where
-  pub room-there : t ≡ true → 0 ≡ shape_refusal s
-  room-there h = sym (eqb-true (shape_refusal s) 0 (sym e ∙ h))
+pub counted : (s : Shape) (x : ℕ) → 0 ≡ shape_refusal s → x ≡ server_count s → x ≡ servers_of s
+counted s x e f = f ∙ count-servers (valid_of s (sym e))
 
-  pub room-not : t ≡ false → eqb (shape_refusal s) 0 ≡ false
-  room-not h = sym e ∙ h
-
-pub counted : (s : Shape) (r x : ℕ) → r ≡ shape_refusal s → r ≡ 0 → x ≡ server_count s → x ≡ servers_of s
-counted s r x e z f = f ∙ count-servers (valid_of s (sym e ∙ z))
-
-module _ (s : Shape) (a b r x : ℕ) (e : r ≡ server_refusal s a) (z : r ≡ 0) (f : x ≡ server_count s) where
+module _ (s : Shape) (a b x : ℕ) (e : 0 ≡ server_refusal s a) (f : x ≡ server_count s) where
   second : (y : ℕ) → y ≡ 4 unless ltb b x → y ≡ pair_refusal s a b
   unfolding pair_refusal server_refusal
   second y g =
-      let v = (server_of s a (sym e ∙ z)).valid in
+      let v = (server_of s a (sym e)).valid in
       let h : x ≡ servers_of s = f ∙ count-servers v in
-      chain_goes r _ _ y e z (chain_goes _ _ _ y (valid-none v) refl (g ∙ ap (λ (m : ℕ). 4 unless ltb b m) h))
+      chain_goes 0 _ _ y e refl (chain_goes _ _ _ y (valid-none v) refl (g ∙ ap (λ (m : ℕ). 4 unless ltb b m) h))
 
   pub second-passed : b < x → 0 ≡ pair_refusal s a b
   second-passed h = second 0 (rw (lt-ltb b x h))
@@ -219,15 +205,11 @@ module _ (s : Shape) (a b r x : ℕ) (e : r ≡ server_refusal s a) (z : r ≡ 0
 abbrev pub ends_fit : ℕ → ℕ → ℕ → Bool
 ends_fit x a d = ltb a x && (ltb d x && not (eqb a d))
 
-module _ (s : Shape) (a d r : ℕ) (e : r ≡ shape_refusal s) where
-  pub shape-stops : (r ≡ 0 → ⊥) → r ≡ ends_refusal s a d
-  unfolding ends_refusal pair_refusal server_refusal
-  shape-stops n = chain_stops r _ _ (chain_stops r _ _ (chain_stops r _ _ e n) n) n
-
-  -- t is what it found of the tests in one go
-  module _ (z : r ≡ 0) (x : ℕ) (f : x ≡ server_count s) (t : Bool) (g : t ≡ ends_fit x a d) where
+-- t is what it found of the tests in one go
+module _ (s : Shape) (a d : ℕ) (e : 0 ≡ shape_refusal s) where
+  module _ (x : ℕ) (f : x ≡ server_count s) (t : Bool) (g : t ≡ ends_fit x a d) where
     valid : Valid s
-    valid = valid_of s (sym e ∙ z)
+    valid = valid_of s (sym e)
 
     pub ends_there : t ≡ true → 0 ≡ ends_refusal s a d
     ends_there h =
@@ -242,18 +224,18 @@ module _ (s : Shape) (a d r : ℕ) (e : r ≡ shape_refusal s) where
           differ = eqb-false a d (not-true _ q.1);
         })
 
-    pub ends_same : t ≡ false → (q : ℕ) → q ≡ pair_refusal s a d → q ≡ 0 → 5 ≡ ends_refusal s a d
+    pub ends_same : t ≡ false → 0 ≡ pair_refusal s a d → 5 ≡ ends_refusal s a d
     unfolding ends_refusal
-    ends_same h q u w =
+    ends_same h u =
         let n = count-servers valid in
-        let p = pair_of s a d (sym u ∙ w) in
+        let p = pair_of s a d (sym u) in
         let i : not (eqb a d) ≡ ends_fit x a d = below_holds a x _ (omega (arith, p.0.below)) _ (below_holds d x _ (omega (arith, p.1.below)) _ refl) in
-        chain_goes q _ _ 5 u w (rw (i ∙ sym g ∙ h))
+        chain_goes 0 _ _ 5 u refl (rw (i ∙ sym g ∙ h))
 
-module _ (s : Shape) (a l r : ℕ) (e : r ≡ server_refusal s a) (z : r ≡ 0) where
+module _ (s : Shape) (a l : ℕ) (e : 0 ≡ server_refusal s a) where
   level_tested : (y : ℕ) → y ≡ 20 unless leb l s.k → y ≡ link_refusal s a l
   unfolding link_refusal level_refusal
-  level_tested y g = chain_goes r _ _ y e z (chain_goes _ _ _ y (valid-none (server_of s a (sym e ∙ z)).valid) refl g)
+  level_tested y g = chain_goes 0 _ _ y e refl (chain_goes _ _ _ y (valid-none (server_of s a (sym e)).valid) refl g)
 
   pub link-passed : l ≤ s.k → 0 ≡ link_refusal s a l
   link-passed h = level_tested 0 (rw (le-leb l s.k h))
@@ -262,12 +244,12 @@ module _ (s : Shape) (a l r : ℕ) (e : r ≡ server_refusal s a) (z : r ≡ 0) 
   link-failed h = level_tested 20 (rw (lt-leb l s.k h))
 
 -- what follows where nothing was refused
-module _ (s : Shape) (a b r : ℕ) (e : r ≡ pair_refusal s a b) (z : r ≡ 0) where
+module _ (s : Shape) (a b : ℕ) (e : 0 ≡ pair_refusal s a b) where
   pub pair_first : server_refusal s a ≡ 0
-  pair_first = sym (server-none (pair_of s a b (sym e ∙ z)).0)
+  pair_first = sym (server-none (pair_of s a b (sym e)).0)
 
   pub pair_second : server_refusal s b ≡ 0
-  pair_second = sym (server-none (pair_of s a b (sym e ∙ z)).1)
+  pair_second = sym (server-none (pair_of s a b (sym e)).1)
 
 -- ---- four places
 

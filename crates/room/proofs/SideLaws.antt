@@ -11,20 +11,15 @@ use borrow.Author.Tests.{ne_eqb, le-leb, lt-leb}
 use Rattle.room.specs.declared.Shape.{Shape}
 use Rattle.room.specs.declared.Side.{Side}
 use Rattle.room.specs.Shapes.{servers_of, bound, power_of, Link, Value}
-use Rattle.room.specs.Addresses.{digit, with_digit}
+use Rattle.room.specs.Addresses.{digit, with_digit, switch_of}
 use Rattle.room.specs.Refusals.{link_refusal, value_refusal}
 use Rattle.room.specs.Sides.{no_side, side_by, side_of, side_from, side_at}
 use Rattle.room.specs.Wiring.{server_at, Port}
 use Rattle.room.proofs.DigitLaws.{pow_small}
 use Rattle.room.proofs.PowerLaws.{power-within, power-some, power_on}
 use Rattle.room.proofs.RefusalLaws.{link_of, value-of}
-use Rattle.room.proofs.RoomLaws.{positive, bound_le, bound-two, switches-small, with_closed_at, with_server, digit_closed_at, weight_pos}
+use Rattle.room.proofs.RoomLaws.{positive, bound_le, bound-two, switches-small, with_closed_at, with_server, digit_closed_at, switch_closed_at, weight_pos}
 use Rattle.room.proofs.WiringLaws.{port_closed, port-power}
-
--- what is taken off is there
-pub own_le : (a p n : ℕ) → a / p % n * p ≤ a
-own_le a p n =
-    omega (arith, mul-le-mul_left p (mod-le (a / p) n), mul_comm p (a / p % n), mul_comm p (a / p), mod-add-div a p)
 
 pub record Moved (s : Shape) (a l v p : ℕ) : Type 0 where
   pub own : a / p % s.n * p ≤ a
@@ -121,26 +116,32 @@ module _ {s : Shape} {a l : ℕ} (h : Link s a l) where
 
 -- ---- the digit of a link, and a digit set, as the program finds them: p is the power, x the side that it found
 
-module _ (s : Shape) (a l p : ℕ) (e : p ≡ power_of s.n l) (z : link_refusal s a l ≡ 0) where
+module _ (s : Shape) (a l p : ℕ) (e : p ≡ power_of s.n l) (z : 0 ≡ link_refusal s a l) where
+  link : Link s a l
+  link = link_of s a l (sym z)
+
   weight : p ≡ s.n ^ l
-  weight = e ∙ power-link (link_of s a l z)
+  weight = e ∙ power-link link
 
   pub link-weight : 0 < p
-  link-weight = weight_pos (link_of s a l z).server.valid l p weight
+  link-weight = weight_pos link.server.valid l p weight
 
   pub link-ports : 0 < s.n
-  link-ports = positive (link_of s a l z).server.valid
+  link-ports = positive link.server.valid
 
   pub digit-found : a / p % s.n ≡ digit s l a
-  digit-found = digit_closed_at (link_of s a l z) p weight
+  digit-found = digit_closed_at link p weight
 
-module _ (s : Shape) (a l v : ℕ) (z : value_refusal s a l v ≡ 0) (x : Side) (e : x ≡ side_of s a l) where
+  pub switch-found : a % p + p * (a / p / s.n) ≡ switch_of s l a
+  switch-found = switch_closed_at link p weight
+
+module _ (s : Shape) (a l v : ℕ) (z : 0 ≡ value_refusal s a l v) (x : Side) (e : x ≡ side_of s a l) where
   pub set_found : x.first + v * x.stride ≡ with_digit s l v a
   set_found =
-      let h = value-of s a l v z in ap (λ (y : Side). y.first + v * y.stride) e ∙ side_reach h.link v h.value
+      let h = value-of s a l v (sym z) in ap (λ (y : Side). y.first + v * y.stride) e ∙ side_reach h.link v h.value
 
   pub set-fits : Fits w64 (x.first + v * x.stride)
-  set-fits = let w = with_server (value-of s a l v z) in omega (arith, set_found, w.below, w.valid.small)
+  set-fits = let w = with_server (value-of s a l v (sym z)) in omega (arith, set_found, w.below, w.valid.small)
 
   pub stride_fits : Fits w64 (v * x.stride)
   stride_fits = omega (arith, set-fits)
@@ -165,6 +166,3 @@ module _ {s : Shape} {l w v : ℕ} (h : Port s l w v) where
 
   pub number-count : (side_at s l w).count ≡ bound s l
   number-count = ap (λ (x : Side). x.count) number_is
-
-  pub number_stride : (side_at s l w).stride ≡ s.n ^ l
-  number_stride = ap (λ (x : Side). x.stride) number_is

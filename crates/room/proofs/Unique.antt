@@ -1,6 +1,8 @@
 -- Each public function's contract determines its answer: whatever meets it on some arguments is the one answer to them.
 use mathlib.Core.Path.{◌∙◌, sym}
 use Rattle.refusals.specs.Determined.{Determined}
+use Rattle.refusals.proofs.ReasonLaws.{told-same}
+use Rattle.room.proofs.AnswerLaws.{number-same, digits-same, switch-same, between-same}
 use Rattle.room.proofs.Shape.new.Reads as new
 use Rattle.room.proofs.Shape.new.Kinds as new_kinds
 use Rattle.room.proofs.Shape.full.Reads as full
@@ -53,19 +55,19 @@ pub full-unique : Determined 0 full_kinds.ps full_kinds.r full.Post
 full-unique κs a x y s t e f = e ∙ sym f
 
 pub shape-refusal-unique : Determined 0 shape_refusal_kinds.ps shape_refusal_kinds.r shape-refusal.Post
-shape-refusal-unique κs a x y s t e f = e ∙ sym f
+shape-refusal-unique κs a x y s t e f = told-same x y (e ∙ sym f)
 
 pub server-refusal-unique : Determined 0 server_refusal_kinds.ps server_refusal_kinds.r server-refusal.Post
-server-refusal-unique κs a x y s t e f = e ∙ sym f
+server-refusal-unique κs a x y s t e f = told-same x y (e ∙ sym f)
 
 pub pair_refusal-unique : Determined 0 pair_refusal_kinds.ps pair_refusal_kinds.r pair-refusal.Post
-pair_refusal-unique κs a x y s t e f = e ∙ sym f
+pair_refusal-unique κs a x y s t e f = told-same x y (e ∙ sym f)
 
 pub ends_refusal-unique : Determined 0 ends_refusal_kinds.ps ends_refusal_kinds.r ends-refusal.Post
-ends_refusal-unique κs a x y s t e f = e ∙ sym f
+ends_refusal-unique κs a x y s t e f = told-same x y (e ∙ sym f)
 
 pub link-refusal-unique : Determined 0 link_refusal_kinds.ps link_refusal_kinds.r link-refusal.Post
-link-refusal-unique κs a x y s t e f = e ∙ sym f
+link-refusal-unique κs a x y s t e f = told-same x y (e ∙ sym f)
 
 pub power-unique : Determined 0 power_kinds.ps power_kinds.r power.Post
 power-unique κs a x y s t e f = e ∙ sym f
@@ -77,22 +79,22 @@ pub digit-bound-unique : Determined 0 digit_bound_kinds.ps digit_bound_kinds.r d
 digit-bound-unique κs a x y s t e f = e ∙ sym f
 
 pub servers_of-unique : Determined 0 servers_of_kinds.ps servers_of_kinds.r servers-of.Post
-servers_of-unique κs a x y s t e f = e ∙ sym f
+servers_of-unique κs a x y s t e f = number-same x y (e ∙ sym f)
 
 pub bound_of-unique : Determined 0 bound_of_kinds.ps bound_of_kinds.r bound_of.Post
-bound_of-unique κs a x y s t e f = e ∙ sym f
+bound_of-unique κs a x y s t e f = number-same x y (e ∙ sym f)
 
 pub digits_of-unique : Determined 0 digits_of_kinds.ps digits_of_kinds.r digits_of.Post
-digits_of-unique κs a x y s t e f = e ∙ sym f
+digits_of-unique κs a x y s t e f = digits-same x y (e ∙ sym f)
 
 pub digit_of-unique : Determined 0 digit_of_kinds.ps digit_of_kinds.r digit_of.Post
-digit_of-unique κs a x y s t e f = e ∙ sym f
+digit_of-unique κs a x y s t e f = number-same x y (e ∙ sym f)
 
 pub address_of-unique : Determined 0 address_of_kinds.ps address_of_kinds.r address-of.Post
-address_of-unique κs a x y s t e f = e ∙ sym f
+address_of-unique κs a x y s t e f = number-same x y (e ∙ sym f)
 
 pub switch_of-unique : Determined 0 switch_of_kinds.ps switch_of_kinds.r switch-of.Post
-switch_of-unique κs a x y s t e f = e ∙ sym f
+switch_of-unique κs a x y s t e f = switch-same x y (e ∙ sym f)
 
 pub side_at-unique : Determined 0 side_at_kinds.ps side_at_kinds.r side-at.Post
 side_at-unique κs a x y s t e f = e ∙ sym f
@@ -101,13 +103,13 @@ pub side_of-unique : Determined 0 side_of_kinds.ps side_of_kinds.r side-of.Post
 side_of-unique κs a x y s t e f = e ∙ sym f
 
 pub neighbour_of-unique : Determined 0 neighbour_of_kinds.ps neighbour_of_kinds.r neighbour_of.Post
-neighbour_of-unique κs a x y s t e f = e ∙ sym f
+neighbour_of-unique κs a x y s t e f = number-same x y (e ∙ sym f)
 
 pub level-between-unique : Determined 0 level_between_kinds.ps level_between_kinds.r level_between.Post
-level-between-unique κs a x y s t e f = e ∙ sym f
+level-between-unique κs a x y s t e f = between-same x y (e ∙ sym f)
 
 pub switches_of-unique : Determined 0 switches_of_kinds.ps switches_of_kinds.r switches-of.Post
-switches_of-unique κs a x y s t e f = e ∙ sym f
+switches_of-unique κs a x y s t e f = number-same x y (e ∙ sym f)
 
 pub server-at-unique : Determined 0 server_at_kinds.ps server_at_kinds.r server-at.Post
-server-at-unique κs a x y s t e f = e ∙ sym f
+server-at-unique κs a x y s t e f = number-same x y (e ∙ sym f)

@@ -6,12 +6,10 @@ use mathlib.Core.Bool.{Bool, true, false, ◌&&◌, true≢false}
 use mathlib.Core.List.{List, [], ◌∷◌}
 use native.Mathlib.Omega.{arith}
 use native.Mathlib.Decide.{ℕ_discrete, dec_le}
-use native.Mathlib.Nat.{le_of_suc-le-suc, one-le-pow, mul-le-mul, mul-le-mul_left, mul-le-mul_right, mul_comm, mul_assoc, suc-mul, pow-suc}
+use native.Mathlib.Nat.{le_of_suc-le-suc, one-le-pow, mul-le-mul_left, mul-le-mul_right, mul_comm, mul_assoc, suc-mul, pow-suc}
 use lib.ListN.{length, get_or, take, drop}
 use lib.Seq.{length-take-le}
 use lib.Dec.{ltb, leb}
-use mir.Syntax.{w64}
-use mir.Val.{Fits}
 use borrow.Author.Tests.{ltb-true, lt-ltb, le-ltb, leb-true, le-leb}
 use Rattle.lists.proofs.ListLaws.{both_held}
 use Rattle.refusals.specs.Refusals.{◌unless◌}
@@ -215,15 +213,18 @@ port_sums {s} {l} {w} {v} h p e =
 
 -- ---- how many switches a level has: x servers, y at each
 
-module _ (s : Shape) (l x y : ℕ) (z : shape_refusal s ≡ 0) (f : y ≡ bound s l) where
+module _ (s : Shape) (l x y : ℕ) (z : 0 ≡ level_refusal s l) (f : y ≡ bound s l) where
+  shaped : Valid s
+  shaped = (level-of s l (sym z)).0
+
   pub switches-some : 0 < y
-  switches-some = omega (arith, bound-two (valid_of s z) l)
+  switches-some = omega (arith, bound-two shaped l)
 
   pub switches-made : x ≡ server_count s → x / y ≡ switches_at s l
   unfolding switches_at
-  switches-made e = ap₂ (λ (u v : ℕ). u / v) (e ∙ count-servers (valid_of s z)) f
+  switches-made e = ap₂ (λ (u v : ℕ). u / v) (e ∙ count-servers shaped) f
 
--- ---- a port as the program tests it: r is what it found of the shape, x the number of servers, b the bound of the level, t of the tests in one go
+-- ---- a port as the program tests it: the shape is not refused, x is the number of servers, b the bound of the level, t of the tests in one go
 
 -- the switches of a level, times the servers at each, are all servers
 switches_times : {s : Shape} {l : ℕ} → Valid s → l ≤ s.k → switches_at s l * bound s l ≡ servers_of s
@@ -246,13 +247,10 @@ switches_times {s} {l} v h = elim (ℕ_discrete l s.k) [ yes e ↦ top e | no e 
 abbrev pub port_fits : ℕ → ℕ → ℕ → ℕ → ℕ → ℕ → Bool
 port_fits k l w x v b = ltb w 4096 && (ltb (w * b) x && (ltb v b && leb l k))
 
-pub product_fits : (w b : ℕ) → w < 4096 → b ≤ 64 → Fits w64 (w * b)
-product_fits w b few q = let g : w ≤ 4096 = omega arith in omega (arith, mul-le-mul g q)
-
-module _ (s : Shape) (l w v r : ℕ) (e : r ≡ shape_refusal s) where
-  module _ (z : r ≡ 0) where
+module _ (s : Shape) (l w v : ℕ) (e : 0 ≡ shape_refusal s) where
+  module _ where
     valid : Valid s
-    valid = valid_of s (sym e ∙ z)
+    valid = valid_of s (sym e)
 
     module _ (b : ℕ) (f : b ≡ bound s l) where
       pub bound-few : b ≤ 64

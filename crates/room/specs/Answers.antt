@@ -1,12 +1,10 @@
 -- What each call of the room answers. On a refusal all but the refusal is zero.
-use Rattle.std.specs.Prelude.{ℕ, List, [], ◌∷◌, true, false, replicate}
+use Rattle.std.specs.Prelude.{ℕ, Option, Some, None, List, [], ◌∷◌, true, false, replicate}
 use Rattle.lists.specs.Lists.{filled}
 use Rattle.refusals.specs.Refusals.{none, plain, answer}
 use Rattle.room.specs.declared.Shape.{Shape}
-use Rattle.room.specs.declared.Number.{Number}
-use Rattle.room.specs.declared.Digits.{Digits}
-use Rattle.room.specs.declared.Switch.{Switch}
-use Rattle.room.specs.declared.Between.{Between}
+use Rattle.room.specs.declared.Switch.{Switch as Named}
+use Rattle.room.specs.Told.{Number, Digits, Switch, Between}
 use Rattle.room.specs.Digits.{address_of}
 use Rattle.room.specs.Shapes.{servers_of, bound}
 use Rattle.room.specs.Addresses.{digits, digit, with_digit, switch_of, differing}
@@ -32,6 +30,15 @@ a_switch l w = record { refusal = none; level = l; number = w }
 
 abbrev pub no_between : ℕ → Between
 no_between r = record { refusal = plain r; adjacent = false; level = 0 }
+
+-- what is told of a switch
+abbrev pub the_switch : Named → Switch
+the_switch w = a_switch w.level w.number
+
+-- neighbours at a level, or none
+abbrev pub between : Option ℕ → Between
+between None = no_between 0
+between (Some l) = record { refusal = none; adjacent = true; level = l }
 
 -- neighbours at level l, where that is the one level in which they differ
 abbrev pub only_level : List ℕ → Between

@@ -2,7 +2,7 @@
 use Rattle.std.specs.Prelude.{ℕ, ◌<◌, ◌≤◌, List, [], ◌∷◌, ◌++◌, ◌&&◌, ltb, take, drop}
 use Rattle.refusals.specs.Refusals.{◌or_else◌, ◌unless◌, answer}
 use Rattle.room.specs.declared.Shape.{Shape}
-use Rattle.room.specs.declared.Number.{Number}
+use Rattle.room.specs.Told.{Number}
 use Rattle.room.specs.Digits.{digits_of, address_of}
 use Rattle.room.specs.Shapes.{bound, Valid}
 use Rattle.room.specs.Addresses.{switches_at}

@@ -1,19 +1,21 @@
 // The digits of an address, and the address of digits.
 ghost use Rattle.std.specs.Prelude.{◌≡◌, ◌≤◌};
 ghost use Rattle.lists.specs.Lists.{filled};
+ghost use Rattle.refusals.specs.Reasons.{tells};
 ghost use Rattle.room.specs.Digits.{address_of, Below};
-ghost use Rattle.room.specs.Addresses.{digits, digit};
-ghost use Rattle.room.specs.Refusals.{server_refusal, link_refusal};
-ghost use Rattle.room.specs.Answers.{digits_answer, digit_answer, address_answer};
+ghost use Rattle.room.specs.Addresses.{digits};
+ghost use Rattle.room.specs.Refusals.{server_refusal};
+ghost use Rattle.room.specs.Answers.{no_number, a_number, no_digits, some_digits, digits_answer, digit_answer, address_answer};
 
-use crate::answers::{a_number, no_digits, no_number};
+use crate::Shape;
 use crate::shapes::power;
 use crate::tests::{link_refusal, places_refusal, server_refusal};
-use crate::{Digits, Number, Shape};
-use refusals::Refusal;
+use refusals::Reason;
 
 // The four places of an address; those above k are zero, since the address is below N, and so the highest
-// is what is left of it.
+// is what is left of it. No other contract asks that nothing refuses the server, so a struct that carried this fact would
+// be no plainer than the clause.
+#[tactic(auto, using(crate::proofs::RefusalLaws::server_ports))]
 pub(crate) fn digit_places(shape: Shape, server: usize) -> [usize; 4]
     requires { server_refusal shape server ≡ 0 }
     ensures { result ≡ filled 4 (digits shape server) }
@@ -36,46 +38,26 @@ pub(crate) fn number_of(n: usize, places: [usize; 4]) -> usize
 }
 
 // The digits of a server, digit 0 at place 0 and zeros above k. Refusals 1, 2, 26, 3, 4.
-pub fn digits_of(shape: Shape, server: usize) -> Digits
-    ensures { result ≡ digits_answer shape server }
+pub fn digits_of(shape: Shape, server: usize) -> Result<[usize; 4], Reason>
+    ensures { tells no_digits some_digits result ≡ digits_answer shape server }
 {
-    let refusal = server_refusal(shape, server);
-    if refusal != 0 {
-        return no_digits(refusal);
-    }
-    Digits {
-        refusal: Refusal::none(),
-        places: digit_places(shape, server),
-    }
+    server_refusal(shape, server)?;
+    Ok(digit_places(shape, server))
 }
 
-// The digit of a server at a level, by one power of n.
-fn digit_at(shape: Shape, server: usize, level: usize) -> usize
-    requires { link_refusal shape server level ≡ 0 }
-    ensures { result ≡ digit shape level server }
+// The digit of a server at a level, by one power of n. Refusals 1, 2, 26, 3, 4, 20.
+pub fn digit_of(shape: Shape, server: usize, level: usize) -> Result<usize, Reason>
+    ensures { tells no_number a_number result ≡ digit_answer shape server level }
 {
+    link_refusal(shape, server, level)?;
     let weight = power(shape.n, level);
-    server / weight % shape.n
-}
-
-// The digit of a server at a level. Refusals 1, 2, 26, 3, 4, 20.
-pub fn digit_of(shape: Shape, server: usize, level: usize) -> Number
-    ensures { result ≡ digit_answer shape server level }
-{
-    let refusal = link_refusal(shape, server, level);
-    if refusal != 0 {
-        return no_number(refusal);
-    }
-    a_number(digit_at(shape, server, level))
+    Ok(server / weight % shape.n)
 }
 
 // The server that has these digits, digit 0 at place 0 and zeros above k. Refusals 1, 2, 26, 3, 21.
-pub fn address_of(shape: Shape, places: [usize; 4]) -> Number
-    ensures { result ≡ address_answer shape places }
+pub fn address_of(shape: Shape, places: [usize; 4]) -> Result<usize, Reason>
+    ensures { tells no_number a_number result ≡ address_answer shape places }
 {
-    let refusal = places_refusal(shape, places);
-    if refusal != 0 {
-        return no_number(refusal);
-    }
-    a_number(number_of(shape.n, places))
+    places_refusal(shape, places)?;
+    Ok(number_of(shape.n, places))
 }

@@ -5,11 +5,10 @@
 ghost use Rattle.std.specs.Prelude.{◌≡◌};
 ghost use Rattle.room.specs.Shapes.{shape_of, full_room};
 
-use refusals::Refusal;
+use std::fmt;
+
 // addresses.rt: the digits of an address, and the address of digits
 mod addresses;
-// answers.rt: the answers that carry a refusal and nothing else
-mod answers;
 // measures.rt: how many servers a room has, and how many values a digit
 mod measures;
 // neighbours.rt: servers that differ in one digit
@@ -77,34 +76,22 @@ impl Shape {
     }
 }
 
-// A number, or a refusal and 0.
-#[derive(Clone, Copy)]
-pub struct Number {
-    pub refusal: Refusal,
-    pub value: usize,
+// "(n,k)" of a full room, "(n,k,m)" of any other.
+impl fmt::Display for Shape {
+    fn fmt<W: fmt::Write>(&self, f: &mut fmt::Formatter<W>) -> fmt::Result {
+        if self.m == self.n {
+            write!(f, "({},{})", self.n, self.k)
+        } else {
+            write!(f, "({},{},{})", self.n, self.k, self.m)
+        }
+    }
 }
 
-// The digits of an address, digit 0 at place 0 and zeros above k; or a refusal and zeros.
-#[derive(Clone, Copy)]
-pub struct Digits {
-    pub refusal: Refusal,
-    pub places: [usize; 4],
-}
-
-// A switch, or a refusal and zeros.
-#[derive(Clone, Copy)]
+// A switch: its level, and its number there.
+#[derive(Clone, Copy, PartialEq, Eq)]
 pub struct Switch {
-    pub refusal: Refusal,
     pub level: usize,
     pub number: usize,
-}
-
-// Whether two servers are neighbours, and at which level; or a refusal, false and 0.
-#[derive(Clone, Copy)]
-pub struct Between {
-    pub refusal: Refusal,
-    pub adjacent: bool,
-    pub level: usize,
 }
 
 // The servers at a switch: the first, the way from one to the next, and how many they are.

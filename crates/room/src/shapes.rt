@@ -16,6 +16,7 @@ fn factor(x: usize, wanted: bool) -> usize
 
 // n to the power of a level, where n is among 1 to 64 and the level is at most 3; else 0. It has no
 // loop and no choice of a way, so that the compiler sees where it has the same power already.
+// The 0 stays a number and no `None`: the contract says so, and it is the stride of a switch that is not there.
 pub fn power(n: usize, level: usize) -> usize
     ensures { result ≡ power_of n level }
 {
@@ -33,6 +34,7 @@ pub fn power(n: usize, level: usize) -> usize
 }
 
 // The number of servers, where n is among 1 to 64, k is at most 3 and m is at most n; else 0.
+// The 0 stays a number and no `None`: the contract says so, and a room with no server then has none to be asked for.
 pub fn server_count(shape: Shape) -> usize
     ensures { result ≡ server_count shape }
 {
@@ -43,6 +45,7 @@ pub fn server_count(shape: Shape) -> usize
 }
 
 // The digit of a level is below this.
+#[tactic(auto, unfolding(crate::specs::Shapes::bound))]
 pub fn digit_bound(shape: Shape, level: usize) -> usize
     ensures { result ≡ bound shape level }
 {

@@ -5,7 +5,8 @@ ghost use Rattle.room.specs.Sides.{no_side, side_of, side_at};
 use crate::shapes::{digit_bound, power};
 use crate::{Shape, Side};
 
-// No servers: there is no such switch.
+// No servers: there is no such switch. Zeros and no `None`, for the contracts of `side_of` and `side_at` say zeros, and a
+// loop over the servers of a switch then passes over none.
 fn no_side() -> Side
     ensures { result ≡ no_side }
 {

@@ -1,13 +1,14 @@
 -- Routes held in a set, array after array, and laid into a table.
-use Prim.Native.Nat.{ℕ, suc, ◌+◌, ◌*◌, ◌≤◌, ◌<◌}
+use Prim.Native.Nat.{ℕ, zero, suc, ◌+◌, ◌*◌, ◌/◌, ◌≤◌, ◌<◌}
 use mathlib.Core.Path.{◌≡◌, refl, sym, ap, ◌∙◌}
 use mathlib.Core.List.{List, [], ◌∷◌, ◌++◌, map, map-append, Memᴰ as In}
 use native.Mathlib.Omega.{arith}
 use native.Mathlib.Numerals.{add-one}
 use lib.ListN.{length, get_or, take, drop, length-drop, length-map, drop_of_length-le}
-use lib.Seq.{slice, slice-cons, get_or-take, get_or-drop, length-take-le}
+use lib.Seq.{slice, slice-cons, get_or-take, get_or-drop, length-take-le, drop-drop}
+use Rattle.std.specs.Simd.{first_chunks}
 use Rattle.lists.proofs.ListLaws.{All, map_at, all_snoc, length_snoc}
-use Rattle.refusals.specs.declared.Refusal.{Refusal}
+use Rattle.refusals.specs.Refusals.{Refusal}
 use Rattle.room.specs.declared.Shape.{Shape}
 use Rattle.links.specs.Table.{TableOf}
 use Rattle.path.specs.Routes.{Encodes, encode}
@@ -23,7 +24,7 @@ use Rattle.laying.proofs.LayLaws.{lays_laid}
 use Rattle.select.specs.Inside.{Holds}
 use Rattle.select.proofs.SlotLaws.{member_at}
 
--- ---- eight bytes of a set
+-- ---- eight bytes of a list, by their places
 
 eight : (xs : List ℕ) → length xs ≡ 8 → get_or xs 0 0 ∷ get_or xs 1 0 ∷ get_or xs 2 0 ∷ get_or xs 3 0 ∷ get_or xs 4 0 ∷ get_or xs 5 0 ∷ get_or xs 6 0 ∷ get_or xs 7 0 ∷ [] ≡ xs
 eight [] e = let z : ⊥ = omega arith in absurd z
@@ -48,9 +49,18 @@ eight-bytes p bs h =
     first : get_or bs p 0 ≡ get_or (take 8 (drop p bs)) 0 0
     first = let e : p ≡ p + 0 = omega arith in ap (λ (m : ℕ). get_or bs m 0) e ∙ at 0 (omega arith)
 
-pub array-bytes : (j : ℕ) (r : RouteSet) → j < 4 → length r.bytes ≡ 32 → get_or r.bytes (8 * j) 0 ∷ get_or r.bytes (8 * j + 1) 0 ∷ get_or r.bytes (8 * j + 2) 0 ∷ get_or r.bytes (8 * j + 3) 0 ∷ get_or r.bytes (8 * j + 4) 0 ∷ get_or r.bytes (8 * j + 5) 0 ∷ get_or r.bytes (8 * j + 6) 0 ∷ get_or r.bytes (8 * j + 7) 0 ∷ [] ≡ array_in j r
+-- ---- the bytes of a set in eights
+
+chunk_at : (n m j : ℕ) (xs : List ℕ) → j < m → get_or (first_chunks n m xs) j [] ≡ take n (drop (n * j) xs)
+chunk_at n zero j xs h = let z : ⊥ = omega arith in absurd z
+chunk_at n (suc m) zero xs h = let e : 0 ≡ n * 0 = omega arith in ap (λ (i : ℕ). take n (drop i xs)) e
+chunk_at n (suc m) (suc j) xs h =
+    let e : n + n * j ≡ n * suc j = omega arith in
+    chunk_at n m j (drop n xs) (omega arith) ∙ ap (take n) (drop-drop (n * j) n xs ∙ ap (λ (i : ℕ). drop i xs) e)
+
+pub array_of_chunks : (j : ℕ) (r : RouteSet) → j < 4 → length r.bytes ≡ 32 → {arrays : List (List ℕ)} → arrays ≡ first_chunks 8 (length r.bytes / 8) r.bytes → get_or arrays j [] ≡ array_in j r
 unfolding array_in
-array-bytes j r h l = eight-bytes (8 * j) r.bytes (omega arith)
+array_of_chunks j r h l e = ap (λ (x : List (List ℕ)). get_or x j []) e ∙ chunk_at 8 (length r.bytes / 8) j r.bytes (omega arith)
 
 -- ---- a set of the arrays of routes
 
@@ -103,9 +113,6 @@ pub record StillToLay (s : Shape) (a d : ℕ) (set : RouteSet) (first end : ℕ)
       → TableOf s u × ((v : List ℕ) → Laid s u (slice j end routes) v → Laid s t (slice first end routes) v)
 
 module _ {s : Shape} {a d : ℕ} {set : RouteSet} {first end : ℕ} {t : List ℕ} where
-  pub lay_starts : StillToLay s a d set first end t first t
-  lay_starts = record { still = λ routes h p k. (k, λ v l. l) }
-
   module _ {j : ℕ} {u : List ℕ} (y : StillToLay s a d set first end t j u) where
     pub lay_more : j < end → (x : List ℕ) → x ≡ array_in j set → {r : Refusal} {v : List ℕ} → Lays s u a d x r v → StillToLay s a d set first end t (j + 1) v
     lay_more p x e {r} {v} l = record { still = λ routes h q k. more routes h q (y.still routes h q k) }

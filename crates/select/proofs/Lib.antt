@@ -4,4 +4,5 @@ pub mod HeldLaws
 pub mod SelectLaws
 pub mod SlotCode
 pub mod OneAnswer
+pub mod ToldLaws
 pub mod Unique

@@ -7,7 +7,7 @@ use native.Mathlib.Decide.{ℕ_discrete}
 use Rattle.room.specs.declared.Shape.{Shape}
 use Rattle.links.specs.Table.{room_refusal}
 use Rattle.finder.proofs.OneAlternate.{route-order}
-use Rattle.select.specs.declared.Selection.{Selection}
+use Rattle.select.specs.Told.{Selection}
 use Rattle.select.specs.Selection.{Replaces, Slot, kept, replaced, nothing, SlotBySlot, selection, Selecting}
 
 -- ---- one alternate

@@ -25,12 +25,12 @@ use Rattle.path.specs.Routes.{encode, RouteTo}
 use Rattle.verdict.specs.Checks.{check_answer}
 use Rattle.verdict.specs.Accepted.{encode_all, Accepted}
 use Rattle.verdict.proofs.AcceptLaws.{encoded_long, of_accepted}
-use Rattle.build.specs.declared.Building.{Building}
+use Rattle.build.specs.Told.{Building}
 use Rattle.build.specs.Built.{built_route, built_bytes, built_arrays}
 use Rattle.build.specs.Sets.{joined, set_of, held}
 use Rattle.build.specs.Answers.{build_answer, no_building, a_building}
 use Rattle.build.proofs.BuiltLaws.{built-encode}
-use Rattle.select.specs.declared.Selection.{Selection}
+use Rattle.select.specs.Told.{Selection}
 use Rattle.select.specs.Selection.{Unbroken, Slot, kept, replaced, nothing, SlotBySlot, selection, GivesRoutes, Selecting}
 use Rattle.select.specs.Inside.{Settled}
 use Rattle.select.proofs.AvoidedLaws.{lower, none-avoided}

@@ -1,3 +1,4 @@
+pub mod Told
 pub mod Avoided
 pub mod Selection
 pub mod Inside

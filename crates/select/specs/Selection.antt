@@ -5,10 +5,11 @@ use Rattle.room.specs.declared.Shape.{Shape}
 use Rattle.links.specs.Table.{live, room_refusal}
 use Rattle.path.specs.Routes.{level_to, encode, RouteTo}
 use Rattle.build.specs.Built.{built_route}
+use Rattle.build.specs.declared.RouteSet.{RouteSet}
 use Rattle.build.specs.Sets.{empty_set, set_of}
 use Rattle.laying.specs.Avoids.{Avoids}
 use Rattle.finder.specs.Alternates.{Before}
-use Rattle.select.specs.declared.Selection.{Selection}
+use Rattle.select.specs.Told.{Selection}
 use Rattle.select.specs.Avoided.{avoided}
 
 -- a route without a failed link: each hop is live (rule 5.2)
@@ -35,6 +36,9 @@ SlotBySlot s t a d (suc i) settled routes =
 
 abbrev pub no_selection : ℕ → Selection
 no_selection r = record { refusal = plain r; routes = empty_set }
+
+abbrev pub a_selection : RouteSet → Selection
+a_selection x = record { refusal = none; routes = x }
 
 -- these routes in their order, closed up; 16 where there is none (rule 5.3)
 abbrev pub selection : Shape → List (List ℕ) → Selection

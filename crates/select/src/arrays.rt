@@ -6,46 +6,33 @@ ghost use Rattle.build.specs.Sets.{array_in};
 ghost use Rattle.laying.specs.Laid.{Laid};
 ghost use Rattle.select.specs.Inside.{Holds};
 
+use crate::slots::Slots;
 use build::RouteSet;
 use laying::lay_route;
-use room::Shape;
 
 // The array at a place of a set.
 pub(crate) fn array_at(set: RouteSet, place: usize) -> [u8; 8]
     requires { place < 4 }
     ensures { result ≡ array_in place set }
 {
-    let bytes = set.bytes;
-    let p = 8 * place;
-    [
-        bytes[p],
-        bytes[p + 1],
-        bytes[p + 2],
-        bytes[p + 3],
-        bytes[p + 4],
-        bytes[p + 5],
-        bytes[p + 6],
-        bytes[p + 7],
-    ]
+    let (arrays, _) = set.bytes.as_chunks::<8>();
+    arrays[place]
 }
 
-// Lays the routes of the arrays from one place of a set up to another into a copy of the table.
-pub(crate) fn lay_arrays(
-    shape: Shape,
-    copy: &mut [u8],
-    source: usize,
-    destination: usize,
-    set: RouteSet,
-    first: usize,
-    end: usize,
-)
-    requires { end ≤ 4 }
-    ensures { (routes : List (List ℕ)) → Holds shape source destination set routes → end ≤ length routes → TableOf shape copy.old → Laid shape copy.old (slice first end routes) copy.new }
-{
-    let mut j = first;
-    while j < end {
-        let array = array_at(set, j);
-        lay_route(shape, &mut *copy, source, destination, &array);
-        j += 1;
+impl Slots<'_> {
+    // Lays the routes of the arrays from one place of a set up to another into a copy of the table.
+    pub(crate) fn lay_arrays(&self, copy: &mut [u8], set: RouteSet, first: usize, end: usize)
+        requires { end ≤ 4 }
+        ensures { (routes : List (List ℕ)) → Holds self.now.shape self.now.source self.now.destination set routes → end ≤ length routes → TableOf self.now.shape copy.old → Laid self.now.shape copy.old (slice first end routes) copy.new }
+    {
+        // read once: read again for each array, they make a selection with a broken route dearer
+        let shape = self.shape;
+        let source = self.source;
+        let destination = self.destination;
+        for place in first..end {
+            let array = array_at(set, place);
+            // an array that is no route is refused, and the copy then keeps its bytes
+            let _ = lay_route(shape, &mut *copy, source, destination, &array);
+        }
     }
 }

@@ -15,14 +15,14 @@ use Rattle.refusals.specs.Refusals.{none, ◌or_else◌}
 use Rattle.room.specs.declared.Shape.{Shape}
 use Rattle.room.specs.Shapes.{Server}
 use Rattle.room.specs.Addresses.{digit}
-use Rattle.path.specs.declared.Walked.{Walked}
+use Rattle.path.specs.Told.{Walked}
 use Rattle.path.specs.Routes.{byte_of, level_of, level_to, byte_to, encode, Encodes}
 use Rattle.path.specs.Walks.{hop_to, hop_refusal}
 use Rattle.path.specs.Answers.{walk_answer, a_writing, reverse_answer}
 use Rattle.path.proofs.HopLaws.{byte_small, byte-taken, byte-level, byte-hop, byte_back}
 use Rattle.path.proofs.ReverseLaws.{dest_server, first_arrival, route-to-plain}
 use Rattle.path.proofs.CodecLaws.{encode-long, walk-given, walk-exactly, reverse-given}
-use Rattle.step.specs.declared.Step.{Step}
+use Rattle.step.specs.Told.{Step}
 use Rattle.step.specs.Steps.{mac_at, port_at, flag_at, step_refusal, delivery, step_answer}
 use Rattle.step.specs.Delivery.{Tables, step_after, trace_of}
 use Rattle.step.proofs.StepLaws.{Given, given-none, GoesBy, goes_none}

@@ -1,6 +1,6 @@
--- Laws of one step: what each test tells, which refusals arise at the hop, and the step from the next hop.
+-- Laws of one step: what each test tells, which refusals arise at the hop, and what each way of the code answers.
 use Prim.Native.Nat.{ℕ, zero, suc, ◌+◌, ◌≤◌, ◌<◌}
-use mathlib.Core.Path.{◌≡◌, refl, sym, ap, ◌∙◌}
+use mathlib.Core.Path.{◌≡◌, refl, sym, ap, ap₂, ◌∙◌}
 use mathlib.Core.Logic.{◌≢◌}
 use mathlib.Core.List.{List, [], ◌∷◌}
 use mathlib.Core.Bool.{Bool, true, false, not, cond}
@@ -9,23 +9,23 @@ use native.Mathlib.Decide.{dec_lt}
 use lib.ListN.{length, get_or}
 use lib.Dec.{ltb, eqb}
 use borrow.Author.Tests.{lt-ltb, le-ltb, ltb-true, eq-eqb, ne_eqb, eqb-true, not-true}
-use Rattle.refusals.specs.declared.Refusal.{Refusal}
+use Rattle.refusals.specs.Refusals.{Refusal}
 use Rattle.refusals.specs.Refusals.{none, plain, refused_at, ◌or_else◌, ◌unless◌, OneOf, nought, answer}
 use Rattle.refusals.proofs.ChainLaws.{or_else_zero, chain_stops, chain_goes, test_held}
 use Rattle.refusals.proofs.NumberLaws.{test_one, chain_one, one_passes, refused_passes}
-use Rattle.refusals.proofs.AnswerLaws.{answered}
+use Rattle.refusals.proofs.AnswerLaws.{answer-refused, answered}
 use Rattle.room.specs.declared.Shape.{Shape}
 use Rattle.room.specs.Shapes.{Server}
 use Rattle.room.specs.Refusals.{pair_refusal}
 use Rattle.room.proofs.RefusalLaws.{pair_of, pair_none}
-use Rattle.path.specs.declared.Hop.{Hop}
+use Rattle.path.specs.declared.Hop.{Hop as Hopped}
+use Rattle.path.specs.Told.{Hop}
 use Rattle.path.specs.Walks.{hop_refusal}
-use Rattle.path.specs.Answers.{no_hop, hop_by}
-use Rattle.path.proofs.NumberLaws.{hop-numbers}
-use Rattle.step.specs.declared.Step.{Step}
-use Rattle.step.specs.Steps.{mac_at, port_at, flag_at, given_refusal, byte_refusal, away_refusal, step_refusal, at_hop, with_place, no_step, delivery, forwarded, step_answer}
+use Rattle.path.specs.Answers.{no_hop, the_hop, hop_by}
+use Rattle.step.specs.declared.Step.TheVariants.{Onward}
+use Rattle.step.specs.Steps.{mac_at, port_at, flag_at, given_refusal, byte_refusal, away_refusal, step_refusal, at_hop, with_place, no_step, delivery, the_step, step_answer}
 use Rattle.step.specs.Inside.{next_answer}
-use Rattle.step.proofs.NumberLaws.{given-numbers}
+use Rattle.step.proofs.NumberLaws.{given-numbers, byte-numbers}
 
 -- ---- what a step is given
 
@@ -56,9 +56,9 @@ unfolding at_hop
 given-plain s a d bs e = not-true _ (one_passes (λ r. not (at_hop r)) refl refl (given-numbers s a d bs e))
 
 -- all of a byte's
-pub hop-at-hop : (s : Shape) (a b : ℕ) → hop_refusal s a b ≢ 0 → at_hop (hop_refusal s a b) ≡ true
+byte-at-hop : (s : Shape) (a : ℕ) (e : List ℕ) (b : ℕ) → byte_refusal s a e b ≢ 0 → at_hop (byte_refusal s a e b) ≡ true
 unfolding at_hop
-hop-at-hop s a b h = refused_passes at_hop refl (hop-numbers s a b) h
+byte-at-hop s a e b n = refused_passes at_hop refl (byte-numbers s a e b) n
 
 pub with_place-plain : (i r : ℕ) → at_hop r ≡ false → with_place i r ≡ plain r
 unfolding with_place
@@ -102,54 +102,82 @@ module _ (s : Shape) (a d i : ℕ) (bs e : List ℕ) where
         | no y ↦ omega (arith, ap (λ (r : Refusal). r.hop) (with_place-plain i (step_refusal s a d i bs e) (far-plain (omega arith))))
       ]
 
+-- ---- the hop by a byte: refused, or taken
+
+module _ (s : Shape) (a : ℕ) (e : List ℕ) (b i : ℕ) where
+  -- 8, 9, 10; 19; no refusal
+  pub next-hop : (r : ℕ) → r ≡ hop_refusal s a b → r ≢ 0 → no_hop (refused_at r 1 (i + 1)) ≡ next_answer s a e b i
+  unfolding next_answer byte_refusal
+  next-hop r f n = answer-refused r _ (λ q. no_hop (refused_at q 1 (i + 1))) _ _ refl (chain_stops _ _ _ f n) n
+
+  module _ (taken : hop_refusal s a b ≡ 0) where
+    pub next_closed : flag_at e b ≢ 1 → no_hop (refused_at 19 1 (i + 1)) ≡ next_answer s a e b i
+    unfolding next_answer byte_refusal ◌or_else◌
+    next_closed n = rw (taken, ne_eqb (flag_at e b) 1 n)
+
+    pub next_open : flag_at e b ≡ 1 → hop_by s a b ≡ next_answer s a e b i
+    unfolding next_answer byte_refusal ◌or_else◌
+    next_open k = rw (taken, eq-eqb (flag_at e b) 1 k)
+
+  -- for the step: what the next hop tells
+  pub next-refused : (x : Refusal) → no_hop x ≡ next_answer s a e b i → x.number ≢ 0 → (byte_refusal s a e b ≢ 0) × (x ≡ refused_at (byte_refusal s a e b) 1 (i + 1))
+  unfolding next_answer
+  next-refused x f n = go (byte_refusal s a e b) f
+    where
+      go : (q : ℕ) → no_hop x ≡ answer q (λ r. no_hop (refused_at r 1 (i + 1))) (hop_by s a b) → (q ≢ 0) × (x ≡ refused_at q 1 (i + 1))
+      go zero g = absurd (n (ap (λ (y : Hop). y.refusal.number) g))
+      go (suc q) g = (λ z. omega arith, ap (λ (y : Hop). y.refusal) g)
+
+  pub next-taken : (x : Hopped) → the_hop x ≡ next_answer s a e b i → (byte_refusal s a e b ≡ 0) × (the_hop x ≡ hop_by s a b)
+  unfolding next_answer
+  next-taken x f =
+      answered (λ (y : Hop). y.refusal.number) (λ r. no_hop (refused_at r 1 (i + 1))) (λ r. refl) (byte_refusal s a e b) (the_hop x) (hop_by s a b) f refl
+
 -- ---- the chain, way by way
 
 module _ (s : Shape) (a d i : ℕ) (bs e : List ℕ) where
-  stop_at : (q : ℕ) (x : Refusal) → step_refusal s a d i bs e ≡ q → q ≢ 0 → x ≡ with_place i q → no_hop x ≡ next_answer s a d i bs e
-  unfolding next_answer
-  stop_at zero x f h g = absurd (h refl)
-  stop_at (suc q) x f h g = rw (f, g)
+  stop_at : (q : ℕ) (x : Refusal) → q ≡ step_refusal s a d i bs e → q ≢ 0 → x ≡ with_place i q → no_step x ≡ step_answer s a d i bs e
+  unfolding step_answer
+  stop_at q x f h g = answer-refused q _ (λ r. no_step (with_place i r)) _ _ (ap no_step g) f h
 
-  pub next-given : (g : ℕ) → g ≡ given_refusal s a d bs e → g ≢ 0 → no_hop (plain g) ≡ next_answer s a d i bs e
+  -- what is given is refused
+  pub stops-given : (g : ℕ) → g ≡ given_refusal s a d bs e → g ≢ 0 → no_step (plain g) ≡ step_answer s a d i bs e
   unfolding step_refusal
-  next-given g f h = stop_at g (plain g) (sym (chain_stops _ _ _ f h)) h (sym (with_place-plain i g (ap at_hop f ∙ given-plain s a d bs e)))
+  stops-given g f h = stop_at g (plain g) (chain_stops _ _ _ f h) h (sym (with_place-plain i g (ap at_hop f ∙ given-plain s a d bs e)))
 
   module _ (given : 0 ≡ given_refusal s a d bs e) where
-    pub next_here : a ≡ d → no_hop none ≡ next_answer s a d i bs e
-    unfolding next_answer step_refusal ◌or_else◌
-    next_here h = rw (← given, eq-eqb a d h)
+    -- at the destination; past the eighth byte
+    pub delivers : a ≡ d → delivery ≡ step_answer s a d i bs e
+    unfolding step_answer step_refusal ◌or_else◌
+    delivers h = rw (← given, eq-eqb a d h)
 
     module _ (away : a ≢ d) where
       chain : step_refusal s a d i bs e ≡ away_refusal s a i bs e
       unfolding step_refusal ◌or_else◌
       chain = rw (← given, ne_eqb a d away)
 
-      pub next_eighteen : 8 ≤ i → no_hop (plain 18) ≡ next_answer s a d i bs e
+      pub stops-far : 8 ≤ i → (x : Refusal) → x ≡ plain 18 → no_step x ≡ step_answer s a d i bs e
       unfolding away_refusal ◌or_else◌ at_hop
-      next_eighteen h = stop_at 18 (plain 18) (chain ∙ rw (le-ltb i 8 h)) (λ z. omega arith) (sym (with_place-plain i 18 refl))
+      stops-far h x f = stop_at 18 x (sym (chain ∙ rw (le-ltb i 8 h))) (λ z. omega arith) (f ∙ sym (with_place-plain i 18 refl))
 
       module _ (index : i < 8) where
         byte_chain : step_refusal s a d i bs e ≡ byte_refusal s a e (get_or bs i 0)
         unfolding away_refusal ◌or_else◌
         byte_chain = chain ∙ rw (lt-ltb i 8 index)
 
-        pub next-hop : (r : ℕ) → r ≡ hop_refusal s a (get_or bs i 0) → r ≢ 0 → no_hop (refused_at r 1 (i + 1)) ≡ next_answer s a d i bs e
-        unfolding byte_refusal
-        next-hop r f h =
-            stop_at r (refused_at r 1 (i + 1)) (byte_chain ∙ sym (chain_stops _ _ _ f h)) h
-            (sym (with_place-at i r (ap at_hop f ∙ hop-at-hop s a (get_or bs i 0) (λ z. h (f ∙ z)))))
+        -- the byte's hop is refused, or it goes
+        pub stops-hop : (x : Refusal) → no_hop x ≡ next_answer s a e (get_or bs i 0) i → x.number ≢ 0 → no_step x ≡ step_answer s a d i bs e
+        stops-hop x f n =
+            let r = next-refused s a e (get_or bs i 0) i x f n in
+            stop_at (byte_refusal s a e (get_or bs i 0)) x (sym byte_chain) r.0 (r.1 ∙ sym (with_place-at i _ (byte-at-hop s a e (get_or bs i 0) r.0)))
 
-        module _ (taken : hop_refusal s a (get_or bs i 0) ≡ 0) where
-          pub next_closed : flag_at e (get_or bs i 0) ≢ 1 → no_hop (refused_at 19 1 (i + 1)) ≡ next_answer s a d i bs e
-          unfolding byte_refusal ◌or_else◌ at_hop
-          next_closed h =
-              stop_at 19 (refused_at 19 1 (i + 1)) (byte_chain ∙ rw (taken, ne_eqb (flag_at e (get_or bs i 0)) 1 h)) (λ z. omega arith) (sym (with_place-at i 19 refl))
-
-          pub next-goes : (x : Hop) → flag_at e (get_or bs i 0) ≡ 1 → x ≡ hop_by s a (get_or bs i 0) → x ≡ next_answer s a d i bs e
-          unfolding next_answer byte_refusal ◌or_else◌
-          next-goes x h g =
-              let z : step_refusal s a d i bs e ≡ 0 = byte_chain ∙ rw (taken, eq-eqb (flag_at e (get_or bs i 0)) 1 h) in
-              g ∙ rw (z, ne_eqb a d away)
+        pub goes : (x : Hopped) → the_hop x ≡ next_answer s a e (get_or bs i 0) i → (m : List ℕ) → m ≡ mac_at e (get_or bs i 0) → the_step (Onward (record { next = x.next; index = i + 1; mac = m; port = port_at e (get_or bs i 0); level = x.level; old = x.old })) ≡ step_answer s a d i bs e
+        unfolding step_answer
+        goes x f m g =
+            let y = next-taken s a e (get_or bs i 0) i x f in
+            let z : step_refusal s a d i bs e ≡ 0 = byte_chain ∙ y.0 in
+            ap₂ (λ (h : Hop) (n : List ℕ). record { refusal = none; delivered = false; next = h.next; index = i + 1; mac = n; port = port_at e (get_or bs i 0); level = h.level; old = h.old }) y.1 g
+            ∙ rw (z, ne_eqb a d away)
 
 -- ---- what no refusal tells
 
@@ -174,41 +202,3 @@ pub goes_none : {s : Shape} {a d i : ℕ} {bs e : List ℕ} → GoesBy s a d i b
 unfolding byte_refusal ◌or_else◌
 goes_none {s} {a} {d} {i} {bs} {e} h away =
     byte_chain s a d i bs e (given-none h.given) away h.index ∙ rw (h.taken, eq-eqb (flag_at e (get_or bs i 0)) 1 h.flag)
-
--- ---- the step from the next hop
-
-module _ (s : Shape) (a d i : ℕ) (bs e : List ℕ) (x : Hop) (found : x ≡ next_answer s a d i bs e) where
-  pub next-none : x.refusal.number ≡ 0 → (step_refusal s a d i bs e ≡ 0) × (x ≡ cond (eqb a d) (no_hop none) (hop_by s a (get_or bs i 0)))
-  unfolding next_answer
-  next-none z =
-      answered (λ (y : Hop). y.refusal.number) (λ r. no_hop (with_place i r)) (with_place-number i) (step_refusal s a d i bs e) x _ found z
-
-  pub step-refused : x.refusal.number ≢ 0 → no_step x.refusal ≡ step_answer s a d i bs e
-  unfolding next_answer step_answer
-  step-refused h = go (step_refusal s a d i bs e) (eqb a d) found
-    where
-      go : (q : ℕ) (t : Bool) → x ≡ answer q (λ r. no_hop (with_place i r)) (cond t (no_hop none) (hop_by s a (get_or bs i 0))) → no_step x.refusal ≡ answer q (λ r. no_step (with_place i r)) (cond t delivery (forwarded s a i e (get_or bs i 0)))
-      go zero true f = absurd (h (ap (λ (y : Hop). y.refusal.number) f))
-      go zero false f = absurd (h (ap (λ (y : Hop). y.refusal.number) f))
-      go (suc q) t f = ap (λ (y : Hop). no_step y.refusal) f
-
-  module _ (z : x.refusal.number ≡ 0) where
-    pub step-here : a ≡ d → delivery ≡ step_answer s a d i bs e
-    unfolding step_answer
-    step-here h = rw ((next-none z).0, eq-eqb a d h)
-
-    module _ (away : a ≢ d) where
-      pub step_facts : GoesBy s a d i bs e
-      step_facts = goes_of s a d i bs e (next-none z).0 away
-
-      step-hop : x ≡ hop_by s a (get_or bs i 0)
-      step-hop = (next-none z).1 ∙ rw (ne_eqb a d away)
-
-      step-goes : forwarded s a i e (get_or bs i 0) ≡ step_answer s a d i bs e
-      unfolding step_answer
-      step-goes = rw ((next-none z).0, ne_eqb a d away)
-
-      pub step-made : (r : Refusal) (m : List ℕ) (p : ℕ) → r ≡ none → m ≡ mac_at e (get_or bs i 0) → p ≡ port_at e (get_or bs i 0) → ◌≡◌ {A = Step} (record { refusal = r; delivered = false; next = x.next; index = i + 1; mac = m; port = p; level = x.level; old = x.old }) (step_answer s a d i bs e)
-      step-made r m p f h k =
-          ap (λ (y : Hop). record { refusal = r; delivered = false; next = y.next; index = i + 1; mac = m; port = p; level = y.level; old = y.old }) step-hop
-          ∙ rw (f, h, k) step-goes

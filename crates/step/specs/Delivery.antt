@@ -5,7 +5,7 @@ use Rattle.room.specs.Shapes.{Server}
 use Rattle.links.specs.Table.{live}
 use Rattle.path.specs.Routes.{byte_of, level_of}
 use Rattle.path.specs.Walks.{hop_to, hop_refusal}
-use Rattle.step.specs.declared.Step.{Step}
+use Rattle.step.specs.Told.{Step}
 use Rattle.step.specs.Steps.{flag_at, step_answer}
 
 -- the neighbour table e of server a agrees with the failed-link table t: for each neighbour, by its path byte b, the flag is 1

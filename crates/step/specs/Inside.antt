@@ -1,12 +1,11 @@
 -- What the private functions of this crate answer. No public contract cites this file.
-use Rattle.std.specs.Prelude.{ℕ, List, cond, eqb, get_or}
-use Rattle.refusals.specs.Refusals.{none, answer}
+use Rattle.std.specs.Prelude.{ℕ, ◌+◌, List}
+use Rattle.refusals.specs.Refusals.{refused_at, answer}
 use Rattle.room.specs.declared.Shape.{Shape}
-use Rattle.path.specs.declared.Hop.{Hop}
+use Rattle.path.specs.Told.{Hop}
 use Rattle.path.specs.Answers.{no_hop, hop_by}
-use Rattle.step.specs.Steps.{step_refusal, with_place}
+use Rattle.step.specs.Steps.{byte_refusal}
 
--- the hop to the next server; zeros at a delivery
-unfoldable pub next_answer : Shape → ℕ → ℕ → ℕ → List ℕ → List ℕ → Hop
-next_answer s a d i bs e =
-    answer (step_refusal s a d i bs e) (λ r. no_hop (with_place i r)) (cond (eqb a d) (no_hop none) (hop_by s a (get_or bs i 0)))
+-- the hop by path byte b, which index i names, to a neighbour that is available
+unfoldable pub next_answer : Shape → ℕ → List ℕ → ℕ → ℕ → Hop
+next_answer s a e b i = answer (byte_refusal s a e b) (λ r. no_hop (refused_at r 1 (i + 1))) (hop_by s a b)

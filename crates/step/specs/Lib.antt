@@ -1,3 +1,4 @@
+pub mod Told
 pub mod Steps
 pub mod Delivery
 pub mod Inside

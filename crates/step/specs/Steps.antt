@@ -1,12 +1,14 @@
 -- One forwarding step: at server a, of a packet for server d, with next hop index i, path bytes bs and a's neighbour table e.
 use Rattle.std.specs.Prelude.{ℕ, ◌+◌, ◌*◌, List, [], ◌∷◌, ◌++◌, Bool, true, false, cond, ◌||◌, ltb, eqb, length, get_or, replicate}
-use Rattle.refusals.specs.declared.Refusal.{Refusal}
+use Rattle.refusals.specs.Refusals.{Refusal}
 use Rattle.refusals.specs.Refusals.{none, plain, refused_at, ◌or_else◌, ◌unless◌, answer}
 use Rattle.room.specs.declared.Shape.{Shape}
 use Rattle.room.specs.Refusals.{pair_refusal, server_numbers}
 use Rattle.path.specs.Walks.{hop_refusal, hop_numbers}
 use Rattle.path.specs.Answers.{hop_by}
-use Rattle.step.specs.declared.Step.{Step}
+use Rattle.step.specs.declared.Step.{Step as Stepped}
+use Rattle.step.specs.declared.Step.TheVariants.{Delivered, Onward}
+use Rattle.step.specs.Told.{Step}
 
 -- byte j of the entry of path byte b in a neighbour table
 unfoldable pub entry : List ℕ → ℕ → ℕ → ℕ
@@ -67,6 +69,12 @@ no_step r = standing r false
 
 abbrev pub delivery : Step
 delivery = standing none true
+
+-- what is told of a step that nothing refuses, by its cases: of a delivery no more than that it is one
+abbrev pub the_step : Stepped → Step
+the_step Delivered = standing none true
+the_step (Onward x) =
+    record { refusal = none; delivered = false; next = x.next; index = x.index; mac = x.mac; port = x.port; level = x.level; old = x.old }
 
 -- the hop by byte b: the next server, i + 1, the MAC and the OutPort as stored, the level and the old value (rule 7.3)
 abbrev pub forwarded : Shape → ℕ → ℕ → List ℕ → ℕ → Step

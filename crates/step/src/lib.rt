@@ -1,7 +1,6 @@
 // One forwarding step: where a packet goes next, by its path bytes and its server's neighbour table.
 #![tactic(auto)]
 
-use refusals::Refusal;
 // next.rt: the next hop
 mod next;
 // steps.rt: the step
@@ -11,12 +10,17 @@ mod tests;
 
 pub use steps::step_once;
 
+// What a step comes to: the packet is delivered here, or it goes on.
+#[derive(Clone, Copy, PartialEq, Eq)]
+pub enum Step {
+    Delivered,
+    Onward(Onward),
+}
+
 // Where a packet goes next: the next server, the next hop index, the MAC and OutPort as stored, and the
-// level of the hop with the value that it replaces there; or delivered, and zeros; or a refusal, false and zeros.
-#[derive(Clone, Copy)]
-pub struct Step {
-    pub refusal: Refusal,
-    pub delivered: bool,
+// level of the hop with the value that it replaces there.
+#[derive(Clone, Copy, PartialEq, Eq)]
+pub struct Onward {
     pub next: usize,
     pub index: usize,
     pub mac: [u8; 6],

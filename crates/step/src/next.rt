@@ -1,55 +1,34 @@
 // The next hop.
-ghost use Rattle.std.specs.Prelude.{◌≡◌};
-ghost use Rattle.path.specs.Answers.{no_hop};
+ghost use Rattle.std.specs.Prelude.{◌≡◌, ◌<◌, length};
+ghost use Rattle.refusals.specs.Reasons.{tells_where};
+ghost use Rattle.room.specs.Refusals.{server_refusal};
+ghost use Rattle.path.specs.Answers.{no_hop, the_hop};
 ghost use Rattle.step.specs.Inside.{next_answer};
 
 use crate::Step;
-use crate::tests::given_refusal;
 use path::{Hop, hop_of};
-use refusals::Refusal;
+use refusals::{Reason, Refused};
 use room::Shape;
 
-fn no_hop(refusal: Refusal) -> Hop
-    ensures { result ≡ no_hop refusal }
-{
-    Hop {
-        refusal,
-        next: 0,
-        level: 0,
-        old: 0,
-    }
-}
-
-// The hop to the next server, or zeros at the destination. Refusals 1, 2, 26, 3, 4, 17, 7; away from the
-// destination 18, then 8, 9, 10, 19 at the hop.
+// The hop by the path byte that an index names, to a neighbour that is available. Refusals 8, 9, 10, 19. The hop's number
+// is counted only where one is told: counted by the caller it costs each step two instructions.
 pub(crate) fn next_hop(
     shape: Shape,
     here: usize,
-    destination: usize,
-    index: usize,
-    path: &[u8],
     table: &[u8],
-) -> Hop
-    ensures { result ≡ next_answer shape here destination index path.now table.now }
+    byte: u8,
+    index: usize,
+) -> Result<Hop, Refused>
+    requires { (server_refusal shape here ≡ 0) × (length table.now ≡ 2048) × (index < 8) }
+    ensures { tells_where no_hop the_hop result ≡ next_answer shape here table.now byte index }
 {
-    let given = given_refusal(shape, here, destination, path, table);
-    if given != 0 {
-        return no_hop(Refusal::plain(given));
-    }
-    if here == destination {
-        return no_hop(Refusal::none());
-    }
-    if Shape::MOST_HOPS <= index {
-        return no_hop(Refusal::plain(Refusal::HOP_INDEX));
-    }
-    let byte = path[index];
-    let hop = hop_of(shape, here, byte as usize);
-    if hop.refusal.number != 0 {
-        return no_hop(Refusal::at(hop.refusal.number, 1, index + 1));
-    }
+    let hop = match hop_of(shape, here, byte as usize) {
+        Ok(hop) => hop,
+        Err(refused) => return Err(Refused::at(refused.reason, 1, index + 1)),
+    };
     let flag = Step::ENTRY_BYTES * byte as usize + Step::FLAG;
     if table[flag] != Step::AVAILABLE {
-        return no_hop(Refusal::at(Refusal::UNAVAILABLE, 1, index + 1));
+        return Err(Refused::at(Reason::Unavailable, 1, index + 1));
     }
-    hop
+    Ok(hop)
 }

@@ -1,27 +1,13 @@
 // The step.
 ghost use Rattle.std.specs.Prelude.{◌≡◌, length};
-ghost use Rattle.step.specs.Steps.{mac_at, standing, step_answer};
+ghost use Rattle.refusals.specs.Reasons.{tells_where};
+ghost use Rattle.step.specs.Steps.{mac_at, no_step, the_step, step_answer};
 
-use crate::Step;
 use crate::next::next_hop;
-use refusals::Refusal;
+use crate::tests::given_refusal;
+use crate::{Onward, Step};
+use refusals::{Reason, Refused};
 use room::Shape;
-
-// A step that goes nowhere: refused, or delivered.
-fn stand(refusal: Refusal, delivered: bool) -> Step
-    ensures { result ≡ standing refusal delivered }
-{
-    Step {
-        refusal,
-        delivered,
-        next: 0,
-        index: 0,
-        mac: [0; 6],
-        port: 0,
-        level: 0,
-        old: 0,
-    }
-}
 
 // The six bytes of the MAC in the entry of a path byte.
 fn mac_at(table: &[u8], byte: u8) -> [u8; 6]
@@ -48,27 +34,25 @@ pub fn step_once(
     index: usize,
     path: &[u8],
     table: &[u8],
-) -> Step
-    ensures { result ≡ step_answer shape here destination index path.now table.now }
+) -> Result<Step, Refused>
+    ensures { tells_where no_step the_step result ≡ step_answer shape here destination index path.now table.now }
 {
-    let hop = next_hop(shape, here, destination, index, path, table);
-    let refusal = hop.refusal;
-    if refusal.number != 0 {
-        return stand(refusal, false);
-    }
+    given_refusal(shape, here, destination, path, table)?;
     if here == destination {
-        return stand(Refusal::none(), true);
+        return Ok(Step::Delivered);
+    }
+    if Shape::MOST_HOPS <= index {
+        return Err(Refused::from(Reason::HopIndex));
     }
     let byte = path[index];
+    let hop = next_hop(shape, here, table, byte, index)?;
     let port = Step::ENTRY_BYTES * byte as usize + Step::PORT;
-    Step {
-        refusal: Refusal::none(),
-        delivered: false,
+    Ok(Step::Onward(Onward {
         next: hop.next,
         index: index + 1,
         mac: mac_at(table, byte),
         port: table[port],
         level: hop.level,
         old: hop.old,
-    }
+    }))
 }

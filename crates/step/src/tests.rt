@@ -1,30 +1,28 @@
 // What is tested before a step answers.
 ghost use Rattle.std.specs.Prelude.{◌≡◌};
+ghost use Rattle.refusals.specs.Reasons.{told};
 ghost use Rattle.step.specs.Steps.{given_refusal};
 
 use crate::Step;
-use refusals::Refusal;
+use refusals::Reason;
 use room::{Shape, pair_refusal};
 
-// The first of 1, 2, 26, 3, 4, 17, 7 that refuses what a step is given, or 0.
+// The first of 1, 2, 26, 3, 4, 17, 7 that refuses what a step is given.
 pub(crate) fn given_refusal(
     shape: Shape,
     here: usize,
     destination: usize,
     path: &[u8],
     table: &[u8],
-) -> usize
-    ensures { result ≡ given_refusal shape here destination path.now table.now }
+) -> Result<(), Reason>
+    ensures { told result ≡ given_refusal shape here destination path.now table.now }
 {
-    let r = pair_refusal(shape, here, destination);
-    if r != 0 {
-        return r;
-    }
+    pair_refusal(shape, here, destination)?;
     if table.len() != Step::TABLE_BYTES {
-        return Refusal::NEIGHBOUR_TABLE;
+        return Err(Reason::NeighbourTable);
     }
     if path.len() != Shape::MOST_HOPS {
-        return Refusal::LIST;
+        return Err(Reason::List);
     }
-    0
+    Ok(())
 }

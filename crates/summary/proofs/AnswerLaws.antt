@@ -1,102 +1,111 @@
--- What each call with a summary answers and leaves: r is what the program found of the tests.
+-- What each call with a summary answers and leaves: r is the reason that a test gave.
 use Prim.Native.Nat.{ℕ, zero, suc, ◌≤◌, ◌<◌, suc-le-suc}
 use mathlib.Core.Path.{◌≡◌, refl, sym, ap, ◌∙◌}
 use mathlib.Core.Bool.{Bool, true, false, true≢false, cond}
 use mathlib.Core.List.{List, [], ◌∷◌}
 use native.Mathlib.Omega.{arith}
 use lib.ListN.{length, get_or}
-use Rattle.refusals.specs.declared.Refusal.{Refusal}
-use Rattle.refusals.specs.Refusals.{none, plain, answer}
+use Rattle.std.specs.Prelude.{Result, Option, Some, None, IsErrAnd}
+use Rattle.refusals.specs.declared.Reason.{Reason}
+use Rattle.refusals.specs.Refusals.{Refusal, none, plain, answer}
+use Rattle.refusals.specs.Reasons.{number_of, told, tells}
+use Rattle.refusals.proofs.ReasonLaws.{told-is, reason-some, told-same, tells-same}
 use Rattle.refusals.proofs.AnswerLaws.{answer-refused, answer-given}
 use Rattle.room.specs.declared.Shape.{Shape}
+use Rattle.room.specs.declared.Switch.{Switch}
 use Rattle.room.specs.Refusals.{shape_refusal}
 use Rattle.room.proofs.RefusalLaws.{valid-none}
 use Rattle.room.proofs.RoomLaws.{switches-small}
 use Rattle.links.specs.Table.{changed}
-use Rattle.summary.specs.declared.DeadSwitch.{DeadSwitch}
+use Rattle.summary.specs.Told.{DeadSwitch}
 use Rattle.summary.specs.Counts.{switches_in, summary_of, is_dead, recounted, recounted_below}
 use Rattle.summary.specs.Refusals.{has_entries, counted_link_refusal, counted_server_refusal, summary_refusal, entries_refusal}
 use Rattle.summary.specs.Inside.{CountedLink, CountedServer}
-use Rattle.summary.specs.Answers.{link_answer, link_table, link_summary, changed_server, server_answer, server_table, server_summary, none_dead, dead_at, first_dead, dead_answer, fresh_answer, fresh_summary}
+use Rattle.summary.specs.Answers.{link_answer, link_table, link_summary, changed_server, server_answer, server_table, server_summary, none_dead, dead_at, the_dead, first_dead, dead_answer, fresh_answer, fresh_summary}
 use Rattle.summary.proofs.RefusalLaws.{counted-link_of, counted-server_of, summary-of, long-entries}
 use Rattle.summary.proofs.PlaceLaws.{place_at, place_onto, summary_long}
 
 -- ---- a link marked or cleared
 
-module _ (s : Shape) (t c : List ℕ) (a l r : ℕ) (e : r ≡ counted_link_refusal s t c a l) where
-  pub link-refused : (x : Refusal) → x ≡ plain r → x ≡ link_answer s t c a l
+module _ (s : Shape) (t c : List ℕ) (a l : ℕ) where
+  module _ (r : ℕ) (e : r ≡ counted_link_refusal s t c a l) (b : Bool) (n : r ≡ 0 → ⊥) where
+    pub link_keeps : t ≡ link_table b s t c a l
+    unfolding link_table
+    link_keeps = answer-refused r _ (λ (q : ℕ). t) t _ refl e n
+
+    pub link_keeps_summary : c ≡ link_summary b s t c a l
+    unfolding link_summary
+    link_keeps_summary = answer-refused r _ (λ (q : ℕ). c) c _ refl e n
+
+  -- x passes on the reason of the test
+  pub link-refused : (r : Reason) → number_of r ≡ counted_link_refusal s t c a l → (x : Result (Unit {0}) Reason) → IsErrAnd x (λ q. q ≡ r) → (b : Bool) → (plain (told x) ≡ link_answer s t c a l) × (t ≡ link_table b s t c a l) × (c ≡ link_summary b s t c a l)
   unfolding link_answer
-  link-refused x f = f ∙ ap plain e
+  link-refused r e x h b =
+      let n = reason-some r in
+      (ap plain (told-is x r h ∙ e), link_keeps _ e b n, link_keeps_summary _ e b n)
 
-  pub link-done : (x : Refusal) → x ≡ none → r ≡ 0 → x ≡ link_answer s t c a l
-  unfolding link_answer
-  link-done x f z = f ∙ ap plain (sym z ∙ e)
+  module _ (e : 0 ≡ counted_link_refusal s t c a l) where
+    pub link-counted : CountedLink s t c a l
+    link-counted = counted-link_of s t c a l (sym e)
 
-  pub link_keeps : (b : Bool) → (r ≡ 0 → ⊥) → t ≡ link_table b s t c a l
-  unfolding link_table
-  link_keeps b n = answer-refused r _ (λ (q : ℕ). t) t _ refl e n
-
-  pub link_keeps_summary : (b : Bool) → (r ≡ 0 → ⊥) → c ≡ link_summary b s t c a l
-  unfolding link_summary
-  link_keeps_summary b n = answer-refused r _ (λ (q : ℕ). c) c _ refl e n
-
-  pub link-counted : r ≡ 0 → CountedLink s t c a l
-  link-counted z = counted-link_of s t c a l (sym e ∙ z)
-
-  pub link_changes : (b : Bool) → r ≡ 0 → (u : List ℕ) → u ≡ changed b a l t → u ≡ link_table b s t c a l
-  unfolding link_table
-  link_changes b z u q = answer-given r _ (λ (y : ℕ). t) u _ e z q
-
-  pub link_recounts : (b : Bool) → r ≡ 0 → (d : List ℕ) → d ≡ recounted s (changed b a l t) a l c → d ≡ link_summary b s t c a l
-  unfolding link_summary
-  link_recounts b z d q = answer-given r _ (λ (y : ℕ). c) d _ e z q
+    pub link-done : (b : Bool) (u d : List ℕ) → (u ≡ changed b a l t) × (d ≡ recounted s (changed b a l t) a l c) → (none ≡ link_answer s t c a l) × (u ≡ link_table b s t c a l) × (d ≡ link_summary b s t c a l)
+    unfolding link_answer link_table link_summary
+    link-done b u d q = (ap plain e, answer-given 0 _ (λ (y : ℕ). t) u _ e refl q.0, answer-given 0 _ (λ (y : ℕ). c) d _ e refl q.1)
 
 -- ---- all links of a server
 
-module _ (s : Shape) (t c : List ℕ) (a r : ℕ) (e : r ≡ counted_server_refusal s t c a) where
-  pub server-refused : (x : Refusal) → x ≡ plain r → x ≡ server_answer s t c a
+module _ (s : Shape) (t c : List ℕ) (a : ℕ) where
+  module _ (r : ℕ) (e : r ≡ counted_server_refusal s t c a) (b : Bool) (n : r ≡ 0 → ⊥) where
+    pub server_keeps : t ≡ server_table b s t c a
+    unfolding server_table
+    server_keeps = answer-refused r _ (λ (q : ℕ). t) t _ refl e n
+
+    pub server_keeps_summary : c ≡ server_summary b s t c a
+    unfolding server_summary
+    server_keeps_summary = answer-refused r _ (λ (q : ℕ). c) c _ refl e n
+
+  -- x passes on the reason of the test
+  pub server-refused : (r : Reason) → number_of r ≡ counted_server_refusal s t c a → (x : Result (Unit {0}) Reason) → IsErrAnd x (λ q. q ≡ r) → (b : Bool) → (plain (told x) ≡ server_answer s t c a) × (t ≡ server_table b s t c a) × (c ≡ server_summary b s t c a)
   unfolding server_answer
-  server-refused x f = f ∙ ap plain e
+  server-refused r e x h b =
+      let n = reason-some r in
+      (ap plain (told-is x r h ∙ e), server_keeps _ e b n, server_keeps_summary _ e b n)
 
-  pub server-done : (x : Refusal) → x ≡ none → r ≡ 0 → x ≡ server_answer s t c a
-  unfolding server_answer
-  server-done x f z = f ∙ ap plain (sym z ∙ e)
+  module _ (e : 0 ≡ counted_server_refusal s t c a) where
+    pub server-counted : CountedServer s t c a
+    server-counted = counted-server_of s t c a (sym e)
 
-  pub server_keeps : (b : Bool) → (r ≡ 0 → ⊥) → t ≡ server_table b s t c a
-  unfolding server_table
-  server_keeps b n = answer-refused r _ (λ (q : ℕ). t) t _ refl e n
-
-  pub server_keeps_summary : (b : Bool) → (r ≡ 0 → ⊥) → c ≡ server_summary b s t c a
-  unfolding server_summary
-  server_keeps_summary b n = answer-refused r _ (λ (q : ℕ). c) c _ refl e n
-
-  pub server-counted : r ≡ 0 → CountedServer s t c a
-  server-counted z = counted-server_of s t c a (sym e ∙ z)
-
-  pub server_changes : (b : Bool) → r ≡ 0 → (u : List ℕ) → u ≡ changed_server b s a t → u ≡ server_table b s t c a
-  unfolding server_table
-  server_changes b z u q = answer-given r _ (λ (y : ℕ). t) u _ e z q
-
-  pub server_recounts : (b : Bool) → r ≡ 0 → (d : List ℕ) → d ≡ recounted_below s (changed_server b s a t) a (suc s.k) c → d ≡ server_summary b s t c a
-  unfolding server_summary
-  server_recounts b z d q = answer-given r _ (λ (y : ℕ). c) d _ e z q
+    pub server-done : (b : Bool) (u d : List ℕ) → (u ≡ changed_server b s a t) × (d ≡ recounted_below s (changed_server b s a t) a (suc s.k) c) → (none ≡ server_answer s t c a) × (u ≡ server_table b s t c a) × (d ≡ server_summary b s t c a)
+    unfolding server_answer server_table server_summary
+    server-done b u d q = (ap plain e, answer-given 0 _ (λ (y : ℕ). t) u _ e refl q.0, answer-given 0 _ (λ (y : ℕ). c) d _ e refl q.1)
 
 -- ---- the first dead switch
 
-module _ (s : Shape) (t c : List ℕ) (r : ℕ) (e : r ≡ summary_refusal s t c) where
-  pub dead-refused : (x : DeadSwitch) → x ≡ none_dead r → (r ≡ 0 → ⊥) → x ≡ dead_answer s t c
+module _ (s : Shape) (t c : List ℕ) (e : 0 ≡ summary_refusal s t c) where
+  pub dead-room : shape_refusal s ≡ 0
+  dead-room = sym (valid-none (summary-of s t c (sym e)).0)
+
+  pub dead-entries : has_entries s c ≡ true
+  dead-entries = long-entries s c (ap length (summary-of s t c (sym e)).2 ∙ summary_long s t)
+
+  pub dead-given : (x : DeadSwitch) → x ≡ first_dead s c (switches_in s) → x ≡ dead_answer s t c
   unfolding dead_answer
-  dead-refused x f n = answer-refused r _ none_dead x _ f e n
+  dead-given x f = answer-given 0 _ none_dead x _ e refl f
 
-  pub dead-room : r ≡ 0 → shape_refusal s ≡ 0
-  dead-room z = sym (valid-none (summary-of s t c (sym e ∙ z)).0)
+-- two results that tell the same are one
+pub dead-same : (x y : Result (Option Switch) Reason) → tells none_dead the_dead x ≡ tells none_dead the_dead y → x ≡ y
+dead-same = tells-same none_dead the_dead (λ (x : DeadSwitch). x.refusal.number) switch-in (λ r. refl) no_refusal switch-back
+  where
+    switch-in : DeadSwitch → Option Switch
+    switch-in x = cond x.found (Some (record { level = x.level; number = x.number })) None
 
-  pub dead-entries : r ≡ 0 → has_entries s c ≡ true
-  dead-entries z = long-entries s c (ap length (summary-of s t c (sym e ∙ z)).2 ∙ summary_long s t)
+    no_refusal : (x : Option Switch) → (the_dead x).refusal.number ≡ 0
+    no_refusal None = refl
+    no_refusal (Some w) = refl
 
-  pub dead-given : (x : DeadSwitch) → r ≡ 0 → x ≡ first_dead s c (switches_in s) → x ≡ dead_answer s t c
-  unfolding dead_answer
-  dead-given x z f = answer-given r _ none_dead x _ e z f
+    switch-back : (x : Option Switch) → switch-in (the_dead x) ≡ x
+    switch-back None = refl
+    switch-back (Some w) = refl
 
 -- the level and the number of the first are those of one of the switches, or 0
 first_small : (s : Shape) (c : List ℕ) (ps : List (ℕ × ℕ)) → ((i : ℕ) → i < length ps → ((get_or ps i (0, 0)).0 ≤ 3) × ((get_or ps i (0, 0)).1 < 4096)) → ((first_dead s c ps).level ≤ 3) × ((first_dead s c ps).number < 4096)
@@ -163,19 +172,20 @@ dead-zeros s t c = go (summary_refusal s t c)
 
 -- ---- the summary counted afresh
 
-module _ (s : Shape) (t c : List ℕ) (r : ℕ) (e : r ≡ entries_refusal s t c) where
-  pub fresh-refused : (x : Refusal) → x ≡ plain r → x ≡ fresh_answer s t c
-  unfolding fresh_answer
-  fresh-refused x f = f ∙ ap plain e
-
-  pub fresh-done : (x : Refusal) → x ≡ none → r ≡ 0 → x ≡ fresh_answer s t c
-  unfolding fresh_answer
-  fresh-done x f z = f ∙ ap plain (sym z ∙ e)
-
-  pub fresh_keeps : (r ≡ 0 → ⊥) → c ≡ fresh_summary s t c
+module _ (s : Shape) (t c : List ℕ) where
+  pub fresh_keeps : (r : ℕ) → r ≡ entries_refusal s t c → (r ≡ 0 → ⊥) → c ≡ fresh_summary s t c
   unfolding fresh_summary
-  fresh_keeps n = answer-refused r _ (λ (q : ℕ). c) c _ refl e n
+  fresh_keeps r e n = answer-refused r _ (λ (q : ℕ). c) c _ refl e n
 
-  pub fresh_counts : r ≡ 0 → (d : List ℕ) → d ≡ summary_of s t → d ≡ fresh_summary s t c
-  unfolding fresh_summary
-  fresh_counts z d q = answer-given r _ (λ (y : ℕ). c) d _ e z q
+  -- x passes on the reason of the test
+  pub fresh-refused : (r : Reason) → number_of r ≡ entries_refusal s t c → (x : Result (Unit {0}) Reason) → IsErrAnd x (λ q. q ≡ r) → (plain (told x) ≡ fresh_answer s t c) × (c ≡ fresh_summary s t c)
+  unfolding fresh_answer
+  fresh-refused r e x h = (ap plain (told-is x r h ∙ e), fresh_keeps _ e (reason-some r))
+
+  pub fresh-done : 0 ≡ entries_refusal s t c → (d : List ℕ) → d ≡ summary_of s t → (none ≡ fresh_answer s t c) × (d ≡ fresh_summary s t c)
+  unfolding fresh_answer fresh_summary
+  fresh-done e d q = (ap plain e, answer-given 0 _ (λ (y : ℕ). c) d _ e refl q)
+
+-- two results that tell the same refusal are one
+pub plain-same : (x y : Result (Unit {0}) Reason) → plain (told x) ≡ plain (told y) → x ≡ y
+plain-same x y e = told-same x y (ap (λ (z : Refusal). z.number) e)

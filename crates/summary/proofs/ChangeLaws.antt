@@ -2,21 +2,25 @@
 use Prim.Native.Nat.{ℕ, zero, suc, ◌+◌, ◌-◌, ◌≤◌, ◌<◌}
 use mathlib.Core.Path.{◌≡◌, refl, sym, ap, ap₂, ◌∙◌, subst}
 use mathlib.Core.Logic.{◌≢◌}
-use mathlib.Core.Bool.{Bool, true, false}
+use mathlib.Core.Bool.{Bool, true, false, not, beq, true≢false}
 use mathlib.Core.List.{List}
 use native.Mathlib.Numerals.{add-one}
 use native.Mathlib.Omega.{arith}
 use native.Mathlib.Decide.{ℕ_discrete}
 use lib.ListN.{length, get_or, set, length-set}
 use lib.Seq.{set-get_or, get_or-set_other}
+use Rattle.std.specs.Prelude.{Result, Ok}
+use Rattle.std.specs.Cmp.{booleans_Decides}
+use Rattle.refusals.specs.declared.Reason.{Reason}
+use Rattle.refusals.specs.Reasons.{tells}
 use Rattle.room.specs.declared.Shape.{Shape}
 use Rattle.room.specs.declared.Switch.{Switch}
 use Rattle.room.specs.Shapes.{Link}
 use Rattle.room.specs.Addresses.{switch_of}
-use Rattle.room.specs.Answers.{switch_answer}
+use Rattle.room.specs.Answers.{no_switch, the_switch, switch_answer}
 use Rattle.room.proofs.RoomLaws.{bound_le}
 use Rattle.links.specs.Table.{bit, failed, changed, changed_in, TableOf}
-use Rattle.links.proofs.TableLaws.{changed-in, changed-long, changed_already, changed-other, changed_below, below-own, below_other, below-table}
+use Rattle.links.proofs.TableLaws.{changed-in, changed-long, changed_already, changed-own, changed-other, changed_below, below-own, below_other, below-table}
 use Rattle.summary.specs.Counts.{place_of, count_at, recounted, recounted_below}
 use Rattle.summary.specs.Refusals.{is_counted}
 use Rattle.summary.specs.Inside.{CountedLink, CountedServer}
@@ -42,14 +46,20 @@ module _ (s : Shape) (t c : List ℕ) (a l : ℕ) (h : CountedLink s t c a l) (b
   pub kept_summary : recounted s (changed b a l t) a l c ≡ c
   kept_summary = counted_still s t (changed b a l t) c a l h.counted (ap (λ (u : List ℕ). count_at s u l (switch_of s l a)) kept_table)
 
--- what the program puts is what it was asked to
-pub put-made : (a l : ℕ) (t : List ℕ) (f g : Bool) → f ≡ g → (u : List ℕ) → u ≡ changed_in g a l t → u ≡ changed_in f a l t
-put-made a l t f g m u r = r ∙ ap (λ (y : Bool). changed_in y a l t) (sym m)
+-- of two that differ, one is what the other is not
+differs : (b d : Bool) → beq b d ≡ false → b ≡ not d
+differs true false e = refl
+differs false true e = refl
+differs true true e = absurd (true≢false e)
+differs false false e = absurd (true≢false e)
 
 -- as the program changes it: u is the table that it left, f what the link is to be
 module _ (s : Shape) (t c : List ℕ) (a l : ℕ) (h : CountedLink s t c a l) (f : Bool) (u : List ℕ) (r : u ≡ changed_in f a l t) where
   pub made_table : u ≡ changed f a l t
   made_table = r ∙ changed-in f a l t (omega (arith, h.link.level, h.link.server.valid.levels))
+
+  own : failed u a l ≡ f
+  own = ap (λ (y : List ℕ). failed y a l) made_table ∙ changed-own f a l t (omega (arith, h.link.server.below, h.table.long))
 
   others : (x : ℕ) → x ≢ a → failed u x l ≡ failed t x l
   others x n = ap (λ (y : List ℕ). failed y x l) made_table ∙ changed-other f a l x l t (λ q. absurd (n q))
@@ -58,32 +68,32 @@ module _ (s : Shape) (t c : List ℕ) (a l : ℕ) (h : CountedLink s t c a l) (f
   by_left : (d : List ℕ) → d ≡ recounted s u a l c → d ≡ recounted s (changed f a l t) a l c
   by_left d q = q ∙ ap (λ (y : List ℕ). recounted s y a l c) made_table
 
-  -- b is what it found of the link before, d after
-  module _ (b d : Bool) (eb : b ≡ failed t a l) (ed : d ≡ failed u a l) where
-    pub same_summary : (y : Bool) → b ≡ y → d ≡ y → c ≡ recounted s (changed f a l t) a l c
-    same_summary y m n =
+  -- b is what it found of the link before
+  module _ (b : Bool) (e : b ≡ failed t a l) where
+    pub same_summary : beq b f ≡ true → c ≡ recounted s (changed f a l t) a l c
+    same_summary m =
         by_left c
         (sym
         (counted_still s t u c a l h.counted
         (count_same s u t l (switch_of s l a)
-        (λ x q k. elim (ℕ_discrete x a) [ yes z ↦ rw z (sym ed ∙ n ∙ sym m ∙ eb) | no z ↦ others x z ]))))
+        (λ x q k. elim (ℕ_discrete x a) [ yes z ↦ rw z (own ∙ sym ((booleans_Decides b f).0 m) ∙ e) | no z ↦ others x z ]))))
 
-    -- x is the switch that it found, i the place of its entry
-    module _ (x : Switch) (g : x ≡ switch_answer s a l) (i : ℕ) (p : i ≡ place_of s l x.number) where
+    -- q is what it was told of the link's switch, x the switch in it, i the place of its entry
+    module _ (q : Result Switch Reason) (g : tells no_switch the_switch q ≡ switch_answer s a l) (x : Switch) (k : q ≡ Ok x) (z : Shape) (j : z ≡ s) (i : ℕ) (p : i ≡ place_of z l x.number) where
       place : i ≡ place_of s l (switch_of s l a)
-      place = found-place s a l h.link x g i p c
+      place = found-place s a l h.link q g x k z j i p c
 
       entry : get_or c i 0 ≡ count_at s t l (switch_of s l a)
       entry = ap (λ (j : ℕ). get_or c j 0) place ∙ counted-entry s t c a l h.counted
 
       stored : (v : ℕ) → v ≡ count_at s u l (switch_of s l a) → set c i v ≡ recounted s (changed f a l t) a l c
       unfolding recounted
-      stored v q = by_left (set c i v) (ap₂ (set c) place q)
+      stored v y = by_left (set c i v) (ap₂ (set c) place y)
 
       -- failed now, and not before
-      module _ (m : b ≡ false) (n : d ≡ true) where
+      module _ (n : beq b f ≡ false) (m : f ≡ true) where
         raised : get_or c i 0 + 1 ≡ count_at s u l (switch_of s l a)
-        raised = omega (arith, entry, count_more h.link t u (sym eb ∙ m) (sym ed ∙ n) others)
+        raised = omega (arith, entry, count_more h.link t u (sym e ∙ differs b f n ∙ ap not m) (own ∙ m) others)
 
         pub raise_fits : get_or c i 0 + 1 < 256
         raise_fits =
@@ -94,9 +104,9 @@ module _ (s : Shape) (t c : List ℕ) (a l : ℕ) (h : CountedLink s t c a l) (f
         raise_made = stored _ raised
 
       -- failed before, and not now
-      module _ (m : b ≡ true) (n : d ≡ false) where
+      module _ (n : beq b f ≡ false) (m : f ≡ false) where
         lowered : get_or c i 0 ≡ suc (count_at s u l (switch_of s l a))
-        lowered = entry ∙ count_more h.link u t (sym ed ∙ n) (sym eb ∙ m) (λ y q. sym (others y q))
+        lowered = entry ∙ count_more h.link u t (own ∙ m) (sym e ∙ differs b f n ∙ ap not m) (λ y q. sym (others y q))
 
         pub lower-fits : 1 ≤ get_or c i 0
         lower-fits = omega (arith, lowered)

@@ -6,7 +6,6 @@ use mathlib.Core.Bool.{Bool, true, false, ◌&&◌}
 use mathlib.Core.List.{List}
 use native.Mathlib.Omega.{arith}
 use native.Mathlib.Decide.{ℕ_discrete}
-use native.Mathlib.Nat.{add-mul}
 use native.Mathlib.Numerals.{add-one}
 use lib.Dec.{eqb}
 use lib.ListN.{length}
@@ -18,9 +17,8 @@ use Rattle.room.specs.Shapes.{servers_of, bound, Valid, Server, Link}
 use Rattle.room.specs.Addresses.{digit, switch_of}
 use Rattle.room.specs.Sides.{side_at}
 use Rattle.room.specs.Wiring.{server_at, Port}
-use Rattle.room.proofs.DigitLaws.{pow_small}
 use Rattle.room.proofs.RoomLaws.{bound_le, bound-two}
-use Rattle.room.proofs.SideLaws.{number-reach, number-count, number_stride}
+use Rattle.room.proofs.SideLaws.{number-reach, number-count}
 use Rattle.room.proofs.WiringLaws.{port-server, port-switch, port-digit, port-back}
 use Rattle.links.specs.Table.{failed, changed}
 use Rattle.links.proofs.TableLaws.{changed-own, changed-other}
@@ -155,12 +153,12 @@ module _ {s : Shape} (h : Valid s) (t : List ℕ) (l w : ℕ) where
             exactly = λ x. (λ e. (counts_exactly x).0 ((list.1.exactly x).0 e), λ q. (list.1.exactly x).1 ((counts_exactly x).1 q));
           }
 
--- ---- the loop over a switch's servers: v of them are looked at, and `server` is the next
+-- ---- the servers at a switch, looked at one after the other
 
-pub record Counted (t : List ℕ) (l : ℕ) (side : Side) (server count v : ℕ) : Type 0 where
-  pub below : v ≤ side.count
-  pub next : server ≡ side.first + v * side.stride
-  pub counted : count ≡ many (λ u. failed t (side.first + u * side.stride) l) v
+-- the next is looked at: b is what was found of it, r the count after it
+pub count-next : (p : ℕ → Bool) (v n r : ℕ) (b : Bool) → n ≡ many p v → b ≡ p v → r ≡ n + one b → r ≡ many p (v + 1)
+unfolding many
+count-next p v n r b h e f = f ∙ ap₂ (λ (x : ℕ) (y : Bool). x + one y) h e ∙ ap (many p) (sym (add-one v))
 
 -- the side that the program found
 module _ {s : Shape} {l w : ℕ} {side : Side} (h : IsSwitch s l w) (e : side ≡ side_at s l w) where
@@ -170,44 +168,24 @@ module _ {s : Shape} {l w : ℕ} {side : Side} (h : IsSwitch s l w) (e : side �
   found-reach : {v : ℕ} → v < bound s l → side.first + v * side.stride ≡ server_at s l w v
   found-reach {v} i = ap (λ (x : Side). x.first + v * x.stride) e ∙ number-reach (switch-port h i)
 
-module _ {t : List ℕ} {l : ℕ} {side : Side} where
-  pub count-start : Counted t l side side.first 0 0
-  unfolding many
-  count-start = record { below = omega arith; next = omega arith; counted = refl }
+  -- each is a server
+  pub found-near : (v : ℕ) → v < side.count → side.first + v * side.stride < 4096
+  found-near v i =
+      let q : v < bound s l = omega (arith, found-ports) in
+      let x = port-server (switch-port h q) in
+      omega (arith, found-reach q, x.below, x.valid.small)
 
-  -- the next is looked at: b is what was found of it, c the count after it
-  pub counted_step : {server count v : ℕ} → Counted t l side server count v → v < side.count → (b : Bool) → b ≡ failed t server l → (c : ℕ) → c ≡ count + one b → Counted t l side (server + side.stride) c (v + 1)
-  unfolding many
-  counted_step {server} {count} {v} h i b e c f =
-      record {
-        below = omega arith;
-        next = omega (arith, h.next, add-mul v 1 side.stride);
-        counted = f ∙ ap₂ (λ (x : ℕ) (y : Bool). x + one y) h.counted (e ∙ ap (λ (x : ℕ). failed t x l) h.next) ∙ ap (many test) (sym (add-one v));
-      }
-    where
-      test : ℕ → Bool
-      test = λ u. failed t (side.first + u * side.stride) l
+  module _ (t : List ℕ) where
+    abbrev test : ℕ → Bool
+    test v = failed t (side.first + v * side.stride) l
 
-  -- the count is at most how many were looked at
-  pub counted-most : {server count v : ℕ} → Counted t l side server count v → count ≤ v
-  counted-most {v = v} h = omega (arith, h.counted, many_most (λ u. failed t (side.first + u * side.stride) l) v)
-
-  module _ {s : Shape} {w : ℕ} (h : IsSwitch s l w) (e : side ≡ side_at s l w) where
-    -- the next is a server, and the way on is short; the count is a byte
-    pub counted_near : {server count v : ℕ} → Counted t l side server count v → v < side.count → (server < 4096) × (side.stride ≤ 16777216) × (count < 64)
-    counted_near {v = v} p i =
-        let q : v < bound s l = omega (arith, found-ports h e) in
-        let x = port-server (switch-port h q) in (
-          omega (arith, p.next, found-reach h e q, x.below, x.valid.small),
-          omega (arith, ap (λ (y : Side). y.stride) e, number_stride (switch-port h q), pow_small s.n l x.valid.ports (omega (arith, h.level, x.valid.levels))),
-          omega (arith, counted-most p, bound_le h.valid l, h.valid.ports),
-        )
+    -- the count fits a byte
+    pub found-small : (v : ℕ) → v ≤ side.count → many test v < 255
+    found-small v i = omega (arith, many_most test v, found-ports, bound_le h.valid l, h.valid.ports)
 
     -- all are looked at
-    pub counted-done : {server count v : ℕ} → Counted t l side server count v → side.count ≤ v → count ≡ count_at s t l w
-    counted-done {v = v} p i =
-        let f : v ≡ bound s l = omega (arith, p.below, found-ports h e) in
-        p.counted
-        ∙ many_same (λ u. failed t (side.first + u * side.stride) l) (port_failed h t) v (λ u j. ap (λ (x : ℕ). failed t x l) (found-reach h e (omega arith)))
-        ∙ ap (many (port_failed h t)) f
+    pub found-all : (v : ℕ) → v ≡ side.count → many test v ≡ count_at s t l w
+    found-all v i =
+        ap (many test) (i ∙ found-ports)
+        ∙ many_same test (port_failed h t) (bound s l) (λ u j. ap (λ (x : ℕ). failed t x l) (found-reach j))
         ∙ sym (count-ports h t)

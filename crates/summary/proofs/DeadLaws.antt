@@ -8,13 +8,12 @@ use native.Mathlib.Omega.{arith}
 use native.Mathlib.Decide.{ℕ_discrete, dec_lt}
 use lib.ListN.{length, get_or}
 use borrow.Author.Tests.{eq-eqb, eqb-true}
-use Rattle.refusals.specs.declared.Refusal.{Refusal}
-use Rattle.refusals.specs.Refusals.{answer}
+use Rattle.refusals.specs.Refusals.{Refusal, answer}
 use Rattle.refusals.proofs.AnswerLaws.{answer-none}
 use Rattle.room.specs.declared.Shape.{Shape}
 use Rattle.room.specs.Shapes.{bound, Valid}
 use Rattle.links.specs.Table.{TableOf}
-use Rattle.summary.specs.declared.DeadSwitch.{DeadSwitch}
+use Rattle.summary.specs.Told.{DeadSwitch}
 use Rattle.summary.specs.Counts.{switches_in, place_of, is_dead, IsSwitch}
 use Rattle.summary.specs.Refusals.{summary_refusal}
 use Rattle.summary.specs.Promises.{DeadOne, TellsFirst}

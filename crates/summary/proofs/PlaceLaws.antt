@@ -11,13 +11,13 @@ use mir.Syntax.{w64}
 use mir.Val.{Fits}
 use Rattle.lists.proofs.ListLaws.{length_snoc, map_at}
 use Rattle.room.specs.declared.Shape.{Shape}
+use Rattle.room.specs.declared.Switch.{Switch}
 use Rattle.room.specs.Shapes.{servers_of, server_count, power_of, Valid, Link}
 use Rattle.room.specs.Addresses.{switch_of, switches_at}
 use Rattle.room.specs.Refusals.{shape_refusal}
 use Rattle.room.proofs.PowerLaws.{count-servers, power-within}
 use Rattle.room.proofs.RefusalLaws.{valid_of, valid-none}
 use Rattle.room.proofs.RoomLaws.{positive, bound-other, switches_top, switches-small, switch_lt}
-use Rattle.summary.specs.declared.Placed.{Placed}
 use Rattle.summary.specs.Counts.{numbered, switches_below, switches_in, place_of, count_at, summary_of, IsSwitch}
 use Rattle.summary.specs.Inside.{StandsAt}
 
@@ -171,9 +171,6 @@ module _ (s : Shape) (z : shape_refusal s ≡ 0) where
   total-fits x p e f =
       omega (arith, total_made x p e f, total_is valid, before_small s.k (omega arith), switches_top valid, switches-small valid s.k)
 
-  pub next_fits : (i : ℕ) → i < length (switches_in s) → Fits w64 (i + 1)
-  next_fits i h = omega (arith, total_is valid, before_small s.k (omega arith), switches_top valid, switches-small valid s.k)
-
   -- a place from that of level k on, and one before it
   module _ (i : ℕ) (h : i < length (switches_in s)) (x : ℕ) (e : x ≡ length (switches_below s s.k)) where
     pub stands-top : x ≤ i → StandsAt s i (record { level = s.k; number = i - x })
@@ -202,20 +199,25 @@ module _ (s : Shape) (z : shape_refusal s ≡ 0) where
             place = place_is s (i / y) (i % y) ∙ omega (arith, before-made (i / y) y (omega arith) f, mod-add-div i y, mul_comm y (i / y));
           }
 
--- the place of a switch's entry: x is what the program found before its level
-module _ (s : Shape) (l w : ℕ) (h : IsSwitch s l w) where
-  pub switch-before : (shape_refusal s ≡ 0) × (l ≤ s.k)
-  switch-before = (sym (valid-none h.valid), h.level)
+-- the place of a switch's entry: y is what the program found of N / n
+module _ (s : Shape) (l w : ℕ) (h : IsSwitch s l w) (y : ℕ) (e : y ≡ servers_of s / s.n) where
+  room : shape_refusal s ≡ 0
+  room = sym (valid-none h.valid)
 
-  pub place-made : (x : ℕ) → x ≡ length (switches_below s l) → x + w ≡ place_of s l w
-  place-made x e = ap (λ (y : ℕ). y + w) e ∙ sym (place_is s l w)
+  before : l * y ≡ length (switches_below s l)
+  before = before-made s room l y h.level e
 
-  pub place-fits : (x : ℕ) → x ≡ length (switches_below s l) → Fits w64 (x + w)
-  place-fits x e =
-      omega (arith, before_small s (sym (valid-none h.valid)) l h.level, h.number, switches-small h.valid l)
+  pub level-fits : Fits w64 (l * y)
+  level-fits = before-fits s room l y h.level e
+
+  pub place-made : l * y + w ≡ place_of s l w
+  place-made = ap (λ (x : ℕ). x + w) before ∙ sym (place_is s l w)
+
+  pub place-fits : Fits w64 (l * y + w)
+  place-fits = omega (arith, before, before_small s room l h.level, h.number, switches-small h.valid l)
 
 -- every place is that of one switch
-pub place_onto : {s : Shape} → Valid s → (i : ℕ) → i < length (switches_in s) → (x : Placed) × StandsAt s i x
+pub place_onto : {s : Shape} → Valid s → (i : ℕ) → i < length (switches_in s) → (x : Switch) × StandsAt s i x
 unfolding switches_in
 place_onto {s} v i h =
     let q = below-every s (suc s.k) i h in (

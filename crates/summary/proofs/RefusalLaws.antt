@@ -11,7 +11,7 @@ use borrow.Author.Tests.{eqb-true, eq-eqb}
 use Rattle.lists.specs.Lists.{same}
 use Rattle.lists.proofs.ListLaws.{both_held, same_self, same_true}
 use Rattle.refusals.specs.Refusals.{◌unless◌}
-use Rattle.refusals.proofs.ChainLaws.{or_else_zero, chain_stops, chain_goes, test_held, test_passed, test_failed}
+use Rattle.refusals.proofs.ChainLaws.{or_else_zero, chain_stops, chain_goes, chain_on, test_held, test_passed, test_failed}
 use Rattle.room.specs.declared.Shape.{Shape}
 use Rattle.room.specs.Shapes.{Valid, Server, Link}
 use Rattle.room.specs.Addresses.{switch_of}
@@ -103,40 +103,49 @@ pub entries_none : {s : Shape} {t : List ℕ} → Valid s → TableOf s t → (c
 unfolding entries_refusal
 entries_none v k c h = chain_goes _ _ _ _ (room-table-none v k) refl (rw h)
 
--- ---- as the program tests: r is what it found of the tests before
+-- ---- as the program tests: what it passed of the tests before
 
-pub entries-made : (s : Shape) (c : List ℕ) (x : ℕ) → x ≡ length (switches_in s) → eqb (length c) x ≡ has_entries s c
+pub entries-made : (s r : Shape) (c : List ℕ) (x : ℕ) → r ≡ s → x ≡ length (switches_in r) → eqb (length c) x ≡ has_entries s c
 unfolding has_entries
-entries-made s c x e = ap (eqb (length c)) e
+entries-made s r c x q e = ap (eqb (length c)) (e ∙ ap (λ (z : Shape). length (switches_in z)) q)
 
-pub link-there : (s : Shape) (t : List ℕ) (a l r : ℕ) → r ≡ table_link_refusal s t a l → r ≡ 0 → Link s a l
-link-there s t a l r e z = (table-link_of s t a l (sym e ∙ z)).0
+module _ (s : Shape) (t : List ℕ) (a l : ℕ) (e : 0 ≡ table_link_refusal s t a l) where
+  pub link-there : Link s a l
+  link-there = (table-link_of s t a l (sym e)).0
 
-pub link-room : (s : Shape) (t : List ℕ) (a l r : ℕ) → r ≡ table_link_refusal s t a l → r ≡ 0 → shape_refusal s ≡ 0
-link-room s t a l r e z = sym (valid-none (link-there s t a l r e z).server.valid)
+  pub link-room : shape_refusal s ≡ 0
+  link-room = sym (valid-none link-there.server.valid)
 
-pub link-asked : (s : Shape) (t c : List ℕ) (a l r : ℕ) → r ≡ table_link_refusal s t a l → r ≡ 0 → (b : Bool) → b ≡ has_entries s c → b ≡ true → Link s a l × (has_entries s c ≡ true)
-link-asked s t c a l r e z b f h = (link-there s t a l r e z, sym f ∙ h)
+module _ (s : Shape) (t : List ℕ) (a : ℕ) (e : 0 ≡ table_server_refusal s t a) where
+  pub server-there : Server s a
+  server-there = (table-server_of s t a (sym e)).0
 
-pub server-there : (s : Shape) (t : List ℕ) (a r : ℕ) → r ≡ table_server_refusal s t a → r ≡ 0 → Server s a
-server-there s t a r e z = (table-server_of s t a (sym e ∙ z)).0
+  pub server-room : shape_refusal s ≡ 0
+  server-room = sym (valid-none server-there.valid)
 
-pub server-room : (s : Shape) (t : List ℕ) (a r : ℕ) → r ≡ table_server_refusal s t a → r ≡ 0 → shape_refusal s ≡ 0
-server-room s t a r e z = sym (valid-none (server-there s t a r e z).valid)
+pub table-room : (s : Shape) (t : List ℕ) → 0 ≡ room_table_refusal s t → shape_refusal s ≡ 0
+table-room s t e = sym (valid-none (room-table_of s t (sym e)).0)
 
-pub server-asked : (s : Shape) (t c : List ℕ) (a r : ℕ) → r ≡ table_server_refusal s t a → r ≡ 0 → (b : Bool) → b ≡ has_entries s c → b ≡ true → Server s a × (has_entries s c ≡ true)
-server-asked s t c a r e z b f h = (server-there s t a r e z, sym f ∙ h)
+module _ (s : Shape) (t c : List ℕ) (e : 0 ≡ entries_refusal s t c) where
+  pub entries-room : shape_refusal s ≡ 0
+  entries-room = sym (valid-none (entries_of s t c (sym e)).0)
 
-pub table-room : (s : Shape) (t : List ℕ) (r : ℕ) → r ≡ room_table_refusal s t → r ≡ 0 → shape_refusal s ≡ 0
-table-room s t r e z = sym (valid-none (room-table_of s t (sym e ∙ z)).0)
+  pub entries-there : has_entries s c ≡ true
+  entries-there = (entries_of s t c (sym e)).2
+
+  pub summary_goes : (b : Bool) → b ≡ same c (summary_of s t) → b ≡ true → 0 ≡ summary_refusal s t c
+  unfolding summary_refusal
+  summary_goes b f h =
+      let q = entries_of s t c (sym e) in
+      chain_on _ _ _ (room-table-none q.0 q.1) (test_passed 30 b _ f h)
+
+  pub summary_differs : (b : Bool) → b ≡ same c (summary_of s t) → b ≡ false → 30 ≡ summary_refusal s t c
+  unfolding summary_refusal
+  summary_differs b f h =
+      let q = entries_of s t c (sym e) in
+      chain_on _ _ _ (room-table-none q.0 q.1) (test_failed 30 b _ f h)
 
 module _ (s : Shape) (t c : List ℕ) (r : ℕ) (e : r ≡ entries_refusal s t c) where
-  pub entries-room : r ≡ 0 → shape_refusal s ≡ 0
-  entries-room z = sym (valid-none (entries_of s t c (sym e ∙ z)).0)
-
-  pub entries-there : r ≡ 0 → has_entries s c ≡ true
-  entries-there z = (entries_of s t c (sym e ∙ z)).2
-
   pub summary_stops : (r ≡ 0 → ⊥) → r ≡ summary_refusal s t c
   unfolding summary_refusal entries_refusal
   summary_stops n =
@@ -157,15 +166,3 @@ module _ (s : Shape) (t c : List ℕ) (r : ℕ) (e : r ≡ entries_refusal s t c
       short : (b : Bool) → has_entries s c ≡ b → r ≡ 30 unless has_entries s c → r ≡ 30 unless same c (summary_of s t)
       short true h q = absurd (n (q ∙ rw h refl))
       short false h q = (q ∙ rw h refl) ∙ differs (same c (summary_of s t)) refl h
-
-  pub summary_goes : r ≡ 0 → (b : Bool) → b ≡ same c (summary_of s t) → b ≡ true → 0 ≡ summary_refusal s t c
-  unfolding summary_refusal
-  summary_goes z b f h =
-      let q = entries_of s t c (sym e ∙ z) in
-      chain_goes _ _ _ _ (room-table-none q.0 q.1) refl (test_passed 30 b _ f h)
-
-  pub summary_differs : r ≡ 0 → (b : Bool) → b ≡ same c (summary_of s t) → b ≡ false → 30 ≡ summary_refusal s t c
-  unfolding summary_refusal
-  summary_differs z b f h =
-      let q = entries_of s t c (sym e ∙ z) in
-      chain_goes _ _ _ _ (room-table-none q.0 q.1) refl (test_failed 30 b _ f h)

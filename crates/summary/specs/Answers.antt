@@ -1,10 +1,10 @@
 -- What each call with a summary answers, and the table and the summary that it leaves. On a refusal both keep their bytes.
-use Rattle.std.specs.Prelude.{ℕ, suc, ◌-◌, ◌^◌, List, [], ◌∷◌, Bool, true, false, cond, set}
-use Rattle.refusals.specs.declared.Refusal.{Refusal}
-use Rattle.refusals.specs.Refusals.{none, plain, answer}
+use Rattle.std.specs.Prelude.{ℕ, Option, Some, None, suc, ◌-◌, ◌^◌, List, [], ◌∷◌, Bool, true, false, cond, set}
+use Rattle.refusals.specs.Refusals.{Refusal, none, plain, answer}
 use Rattle.room.specs.declared.Shape.{Shape}
+use Rattle.room.specs.declared.Switch.{Switch}
 use Rattle.links.specs.Table.{changed}
-use Rattle.summary.specs.declared.DeadSwitch.{DeadSwitch}
+use Rattle.summary.specs.Told.{DeadSwitch}
 use Rattle.summary.specs.Counts.{switches_in, summary_of, is_dead, recounted, recounted_below}
 use Rattle.summary.specs.Refusals.{counted_link_refusal, counted_server_refusal, summary_refusal, entries_refusal}
 
@@ -46,6 +46,11 @@ none_dead r = record { refusal = plain r; found = false; level = 0; number = 0 }
 
 abbrev pub dead_at : ℕ → ℕ → DeadSwitch
 dead_at l w = record { refusal = none; found = true; level = l; number = w }
+
+-- what is told of the first dead switch, or that there is none
+abbrev pub the_dead : Option Switch → DeadSwitch
+the_dead None = none_dead 0
+the_dead (Some w) = dead_at w.level w.number
 
 -- the first dead one of some switches
 unfoldable pub first_dead : Shape → List ℕ → List (ℕ × ℕ) → DeadSwitch

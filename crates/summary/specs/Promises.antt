@@ -7,7 +7,7 @@ use Rattle.room.specs.declared.Shape.{Shape}
 use Rattle.room.specs.Shapes.{Server}
 use Rattle.room.specs.Addresses.{switch_of}
 use Rattle.links.specs.Table.{failed}
-use Rattle.summary.specs.declared.DeadSwitch.{DeadSwitch}
+use Rattle.summary.specs.Told.{DeadSwitch}
 use Rattle.summary.specs.Counts.{IsSwitch}
 
 -- switch w of level l comes before switch v of level j: its level is lower, or on the same level its number

@@ -1,24 +1,14 @@
-// One link changed, and the entry of its switch with it.
+// One link changed, and the entry of its switch with it. Table and summary come apart, and are no struct: each call is lent
+// both, and its contract says of each what it was and what it is left as.
 ghost use Rattle.std.specs.Prelude.{suc, ◌≡◌};
-ghost use Rattle.links.specs.Table.{changed, changed_in};
+ghost use Rattle.links.specs.Table.{changed};
 ghost use Rattle.summary.specs.Counts.{recounted, recounted_below};
 ghost use Rattle.summary.specs.Inside.{CountedLink, CountedServer};
 ghost use Rattle.summary.specs.Answers.{changed_server};
 
-use crate::counts::place_of;
-use links::{clear, is_failed, mark};
+use crate::order::Order;
+use links::{is_failed, put};
 use room::{Shape, switch_of};
-
-// Marks a link of a table, or clears it.
-fn put(table: &mut [u8], server: usize, level: usize, failed: bool)
-    ensures { table.new ≡ changed_in failed server level table.old }
-{
-    if failed {
-        mark(&mut *table, server, level);
-        return;
-    }
-    clear(&mut *table, server, level);
-}
 
 // Marks or clears a link, and its switch counts one more where it is failed only now, one less where it was.
 pub(crate) fn change(
@@ -32,20 +22,18 @@ pub(crate) fn change(
     requires { CountedLink shape table.old summary.old server level }
     ensures { (table.new ≡ changed failed server level table.old) × (summary.new ≡ recounted shape (changed failed server level table.old) server level summary.old) }
 {
-    let switch = switch_of(shape, server, level);
-    let place = place_of(shape, level, switch.number);
+    let switch = switch_of(shape, server, level).unwrap();
+    let place = Order::of(shape).place_of(level, switch.number);
     let was = is_failed(&*table, server, level);
     put(&mut *table, server, level, failed);
-    let is = is_failed(&*table, server, level);
-    if was {
-        if is {
-            return;
-        }
-        summary[place] -= 1;
+    if was == failed {
         return;
     }
-    if is {
-        summary[place] += 1;
+    let entry = &mut summary[place];
+    if failed {
+        *entry += 1;
+    } else {
+        *entry -= 1;
     }
 }
 
@@ -60,9 +48,7 @@ pub(crate) fn change_all(
     requires { CountedServer shape table.old summary.old server }
     ensures { (table.new ≡ changed_server failed shape server table.old) × (summary.new ≡ recounted_below shape (changed_server failed shape server table.old) server (suc shape.k) summary.old) }
 {
-    let mut level: usize = 0;
-    while level <= shape.k {
+    for level in 0..=shape.k {
         change(shape, &mut *table, &mut *summary, server, level, failed);
-        level += 1;
     }
 }

@@ -3,44 +3,23 @@
 // along, and it says which switch is dead. Every call takes every input.
 #![tactic(auto)]
 
-use refusals::Refusal;
 // changes.rt: one link changed, and the entry of its switch with it
 mod changes;
-// counts.rt: the links at a switch counted, and where its entry stands
+// counts.rt: the links at a switch counted
 mod counts;
 // dead.rt: the first dead switch
 mod dead;
+// entries.rt: a summary with an entry for each switch, and what its entries say
+mod entries;
 // fresh.rt: the summary counted afresh
 mod fresh;
 // marks.rt: a link, or all links of a server, marked and cleared
 mod marks;
+// order.rt: where the entry of each switch stands
+mod order;
 // tests.rt: what is tested before a call answers
 mod tests;
 
 pub use dead::dead_switch;
 pub use fresh::summarize;
 pub use marks::{clear_link, clear_server, mark_link, mark_server};
-
-// The first dead switch, by its level and its number there, or that none is found; or a refusal, false and
-// zeros.
-#[derive(Clone, Copy)]
-pub struct DeadSwitch {
-    pub refusal: Refusal,
-    pub found: bool,
-    pub level: usize,
-    pub number: usize,
-}
-
-// A switch, by its level and its number there.
-#[derive(Clone, Copy)]
-pub(crate) struct Placed {
-    pub level: usize,
-    pub number: usize,
-}
-
-// How the entries lie: how many switches each level below k has, and how many stand before those of level k.
-#[derive(Clone, Copy)]
-pub(crate) struct Order {
-    pub each: usize,
-    pub top: usize,
-}

@@ -1,10 +1,13 @@
-// A link, or all links of a server, marked and cleared.
+// A link, or all links of a server, marked and cleared. The rules and the calls from C name the two apart, so that each pair
+// stays over the one function that it shares.
 ghost use Rattle.std.specs.Prelude.{◌≡◌, true, false};
+ghost use Rattle.refusals.specs.Refusals.{plain};
+ghost use Rattle.refusals.specs.Reasons.{told};
 ghost use Rattle.summary.specs.Answers.{link_answer, link_table, link_summary, server_answer, server_table, server_summary};
 
 use crate::changes::{change, change_all};
 use crate::tests::{counted_link_refusal, counted_server_refusal};
-use refusals::Refusal;
+use refusals::Reason;
 use room::Shape;
 
 // Marks a link of a server, or clears it, where nothing is refused.
@@ -15,15 +18,12 @@ fn change_link(
     server: usize,
     level: usize,
     failed: bool,
-) -> Refusal
-    ensures { (result ≡ link_answer shape table.old summary.old server level) × (table.new ≡ link_table failed shape table.old summary.old server level) × (summary.new ≡ link_summary failed shape table.old summary.old server level) }
+) -> Result<(), Reason>
+    ensures { (plain (told result) ≡ link_answer shape table.old summary.old server level) × (table.new ≡ link_table failed shape table.old summary.old server level) × (summary.new ≡ link_summary failed shape table.old summary.old server level) }
 {
-    let refusal = counted_link_refusal(shape, &*table, &*summary, server, level);
-    if refusal != 0 {
-        return Refusal::plain(refusal);
-    }
-    change(shape, &mut *table, &mut *summary, server, level, failed);
-    Refusal::none()
+    counted_link_refusal(shape, &*table, &*summary, server, level)?;
+    change(shape, table, summary, server, level, failed);
+    Ok(())
 }
 
 // Marks the link of a server at a level as failed, and its switch counts it; where it is marked already nothing
@@ -34,8 +34,8 @@ pub fn mark_link(
     summary: &mut [u8],
     server: usize,
     level: usize,
-) -> Refusal
-    ensures { (result ≡ link_answer shape table.old summary.old server level) × (table.new ≡ link_table true shape table.old summary.old server level) × (summary.new ≡ link_summary true shape table.old summary.old server level) }
+) -> Result<(), Reason>
+    ensures { (plain (told result) ≡ link_answer shape table.old summary.old server level) × (table.new ≡ link_table true shape table.old summary.old server level) × (summary.new ≡ link_summary true shape table.old summary.old server level) }
 {
     change_link(shape, table, summary, server, level, true)
 }
@@ -48,8 +48,8 @@ pub fn clear_link(
     summary: &mut [u8],
     server: usize,
     level: usize,
-) -> Refusal
-    ensures { (result ≡ link_answer shape table.old summary.old server level) × (table.new ≡ link_table false shape table.old summary.old server level) × (summary.new ≡ link_summary false shape table.old summary.old server level) }
+) -> Result<(), Reason>
+    ensures { (plain (told result) ≡ link_answer shape table.old summary.old server level) × (table.new ≡ link_table false shape table.old summary.old server level) × (summary.new ≡ link_summary false shape table.old summary.old server level) }
 {
     change_link(shape, table, summary, server, level, false)
 }
@@ -61,29 +61,36 @@ fn change_server(
     summary: &mut [u8],
     server: usize,
     failed: bool,
-) -> Refusal
-    ensures { (result ≡ server_answer shape table.old summary.old server) × (table.new ≡ server_table failed shape table.old summary.old server) × (summary.new ≡ server_summary failed shape table.old summary.old server) }
+) -> Result<(), Reason>
+    ensures { (plain (told result) ≡ server_answer shape table.old summary.old server) × (table.new ≡ server_table failed shape table.old summary.old server) × (summary.new ≡ server_summary failed shape table.old summary.old server) }
 {
-    let refusal = counted_server_refusal(shape, &*table, &*summary, server);
-    if refusal != 0 {
-        return Refusal::plain(refusal);
-    }
-    change_all(shape, &mut *table, &mut *summary, server, failed);
-    Refusal::none()
+    counted_server_refusal(shape, &*table, &*summary, server)?;
+    change_all(shape, table, summary, server, failed);
+    Ok(())
 }
 
 // Marks all links of a server as failed: the server is dead, and its switches count it. Refusals 1, 2, 26, 3, 4, 6, 30;
 // table and summary then keep their bytes.
-pub fn mark_server(shape: Shape, table: &mut [u8], summary: &mut [u8], server: usize) -> Refusal
-    ensures { (result ≡ server_answer shape table.old summary.old server) × (table.new ≡ server_table true shape table.old summary.old server) × (summary.new ≡ server_summary true shape table.old summary.old server) }
+pub fn mark_server(
+    shape: Shape,
+    table: &mut [u8],
+    summary: &mut [u8],
+    server: usize,
+) -> Result<(), Reason>
+    ensures { (plain (told result) ≡ server_answer shape table.old summary.old server) × (table.new ≡ server_table true shape table.old summary.old server) × (summary.new ≡ server_summary true shape table.old summary.old server) }
 {
     change_server(shape, table, summary, server, true)
 }
 
 // Clears all links of a server, and its switches count none of it. Refusals 1, 2, 26, 3, 4, 6, 30; table and summary
 // then keep their bytes.
-pub fn clear_server(shape: Shape, table: &mut [u8], summary: &mut [u8], server: usize) -> Refusal
-    ensures { (result ≡ server_answer shape table.old summary.old server) × (table.new ≡ server_table false shape table.old summary.old server) × (summary.new ≡ server_summary false shape table.old summary.old server) }
+pub fn clear_server(
+    shape: Shape,
+    table: &mut [u8],
+    summary: &mut [u8],
+    server: usize,
+) -> Result<(), Reason>
+    ensures { (plain (told result) ≡ server_answer shape table.old summary.old server) × (table.new ≡ server_table false shape table.old summary.old server) × (summary.new ≡ server_summary false shape table.old summary.old server) }
 {
     change_server(shape, table, summary, server, false)
 }

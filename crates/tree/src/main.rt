@@ -9,24 +9,19 @@ use std::io;
 
 // Prints line after line to the last, or to the first that cannot be written, so that what is printed is a beginning of
 // the text; no room has more servers than the loop has places.
-fn print_lines(rt: &impl Print, asked: TreeQuestion) -> io::Result<()> {
-    let mut place: usize = 0;
-    while place < Shape::MOST_SERVERS {
+fn print_lines(rt: &impl Print, asked: Option<TreeQuestion>) -> io::Result<()> {
+    for place in 0..Shape::MOST_SERVERS {
         let text = tree_line(asked, place);
-        let bytes = text.bytes;
-        let length = text.length;
-        if length == 0 {
+        let line = text.shown();
+        if line.is_empty() {
             return Ok(());
         }
-        rt.write_all(&bytes[..length])?;
-        place += 1;
+        rt.write_all(line)?;
     }
     Ok(())
 }
 
 fn main(rt: HostRuntime) -> io::Result<()> {
     let input = read_line(&rt);
-    let read = input.bytes;
-    let count = input.count;
-    print_lines(&rt, tree_question_of(&read[..count]))
+    print_lines(&rt, tree_question_of(input.read()))
 }

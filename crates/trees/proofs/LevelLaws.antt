@@ -44,10 +44,6 @@ at_injective k l i j h p q e =
       ]
     ]
 
--- as the program finds it
-pub at_small : (k l i r : ℕ) → k ≤ 3 → r ≡ level_at k l i → r < 4
-at_small k l i r h e = omega (arith, at_le k l i)
-
 -- every level has its place
 pub record Stands (k l j : ℕ) : Type 0 where
   pub place : ℕ

@@ -1,6 +1,6 @@
 -- Laws of asking for a parent: its refusals, what is known where there is none, and the level and the parent as a program finds them.
 use Prim.Native.Nat.{ℕ, zero, suc, ◌+◌, ◌-◌, ◌*◌, ◌/◌, ◌%◌, ◌≤◌, ◌<◌, ◌^◌}
-use mathlib.Core.Path.{◌≡◌, refl, sym, ap, ap₂, ◌∙◌}
+use mathlib.Core.Path.{◌≡◌, refl, sym, ap, ◌∙◌}
 use mathlib.Core.Logic.{◌≢◌}
 use mathlib.Core.List.{List}
 use mathlib.Core.Bool.{Bool, not}
@@ -12,17 +12,18 @@ use mir.Syntax.{w64}
 use mir.Val.{Fits}
 use borrow.Author.Tests.{eq-eqb, ne_eqb, eqb-false, not-true, lt-leb, le-leb, leb-true}
 use Rattle.lists.specs.Lists.{filled}
-use Rattle.refusals.specs.Refusals.{none, plain, ◌or_else◌, ◌unless◌}
-use Rattle.refusals.specs.declared.Refusal.{Refusal}
-use Rattle.refusals.proofs.ChainLaws.{or_else_zero, test_held, chain_goes, chain_stops}
-use Rattle.refusals.proofs.AnswerLaws.{answer-none, answer-refused, answer-given}
+use Rattle.refusals.specs.declared.Reason.{Reason}
+use Rattle.refusals.specs.Reasons.{number_of}
+use Rattle.refusals.specs.Refusals.{◌or_else◌, ◌unless◌}
+use Rattle.refusals.proofs.ChainLaws.{or_else_zero, test_held, chain_on, chain_stops}
+use Rattle.refusals.proofs.AnswerLaws.{answer-none}
+use Rattle.refusals.proofs.ReasonLaws.{reason-some}
 use Rattle.room.specs.declared.Shape.{Shape}
-use Rattle.room.specs.declared.Number.{Number}
-use Rattle.room.specs.declared.Digits.{Digits}
+use Rattle.room.specs.Told.{Number, Digits}
 use Rattle.room.specs.Shapes.{bound, power_of, Server, Link, Value}
 use Rattle.room.specs.Addresses.{digits, digit, with_digit}
 use Rattle.room.specs.Refusals.{pair_refusal}
-use Rattle.room.specs.Answers.{no_number, a_number, digits_answer}
+use Rattle.room.specs.Answers.{no_number, a_number, no_digits, some_digits, digits_answer}
 use Rattle.room.proofs.RefusalLaws.{pair_of, pair_none}
 use Rattle.room.proofs.RoomLaws.{place-digit, digit_lt, bound-two, digit_closed_at}
 use Rattle.room.proofs.SideLaws.{Moved, moved, power-link}
@@ -35,25 +36,26 @@ use Rattle.trees.proofs.LevelLaws.{lowered_le, lowered-same}
 
 -- ---- refusals
 
-module _ (s : Shape) (a l x r : ℕ) (e : r ≡ pair_refusal s a x) where
-  pub pair_stops : (r ≡ 0 → ⊥) → r ≡ parent_refusal s a l x
+module _ (s : Shape) (a l x : ℕ) where
+  pub pair_stops : (r : ℕ) → r ≡ pair_refusal s a x → (r ≡ 0 → ⊥) → r ≡ parent_refusal s a l x
   unfolding parent_refusal
-  pair_stops h = chain_stops _ _ _ (chain_stops _ _ _ e h) h
+  pair_stops r e h = chain_stops _ _ _ (chain_stops _ _ _ e h) h
 
-  pub tree-missing : r ≡ 0 → s.k < l → 20 ≡ parent_refusal s a l x
-  unfolding parent_refusal
-  tree-missing z h = chain_stops 20 _ _ (chain_goes _ _ _ _ e z (rw (lt-leb l s.k h))) (λ w. omega arith)
+  module _ (e : 0 ≡ pair_refusal s a x) where
+    pub tree-missing : s.k < l → 20 ≡ parent_refusal s a l x
+    unfolding parent_refusal
+    tree-missing h = chain_stops 20 _ _ (chain_on _ _ _ e (rw (lt-leb l s.k h))) (λ w. omega arith)
 
-  tree-there : r ≡ 0 → l ≤ s.k → 0 ≡ (pair_refusal s a x or_else 20 unless leb l s.k)
-  tree-there z h = chain_goes _ _ _ _ e z (rw (le-leb l s.k h))
+    tree-there : l ≤ s.k → 0 ≡ (pair_refusal s a x or_else 20 unless leb l s.k)
+    tree-there h = chain_on _ _ _ e (rw (le-leb l s.k h))
 
-  pub source-asked : r ≡ 0 → l ≤ s.k → a ≡ x → 5 ≡ parent_refusal s a l x
-  unfolding parent_refusal
-  source-asked z h q = chain_goes _ _ _ _ (tree-there z h) refl (rw (eq-eqb a x q))
+    pub source-asked : l ≤ s.k → a ≡ x → 5 ≡ parent_refusal s a l x
+    unfolding parent_refusal
+    source-asked h q = chain_on _ _ _ (tree-there h) (rw (eq-eqb a x q))
 
-  pub nothing-refused : r ≡ 0 → l ≤ s.k → (a ≡ x → ⊥) → 0 ≡ parent_refusal s a l x
-  unfolding parent_refusal
-  nothing-refused z h q = chain_goes _ _ _ _ (tree-there z h) refl (rw (ne_eqb a x q))
+    pub nothing-refused : l ≤ s.k → (a ≡ x → ⊥) → 0 ≡ parent_refusal s a l x
+    unfolding parent_refusal
+    nothing-refused h q = chain_on _ _ _ (tree-there h) (rw (ne_eqb a x q))
 
 pub child_made : {s : Shape} {a l x : ℕ} → Server s a → Server s x → l ≤ s.k → a ≢ x → Child s a l x
 child_made ha hx p n = record { source = ha; link = record { server = hx; level = p }; apart = n }
@@ -68,7 +70,7 @@ child_of s a l x e =
 
 child_none : {s : Shape} {a l x : ℕ} → Child s a l x → 0 ≡ parent_refusal s a l x
 child_none {s} {a} {l} {x} h =
-    nothing-refused s a l x 0 (pair_none h.source h.link.server) refl h.link.level h.apart
+    nothing-refused s a l x (pair_none h.source h.link.server) h.link.level h.apart
 
 -- where nothing is refused the answer is the parent
 pub parent-answered : {s : Shape} {a l x : ℕ} → Child s a l x → (y : Number) → y ≡ parent_answer s a l x → y ≡ a_number (parent_of s a l x)
@@ -163,18 +165,6 @@ module _ (s : Shape) (x j d p : ℕ) (h : Link s x j × (d ≡ digit s j x)) (e 
     pub lower-sum : Fits w64 (x + (b - 1) * p)
     lower-sum = omega (arith, most.new, h.0.server.below, h.0.server.valid.small)
 
--- ---- the answer as a program gives it
-
-module _ (s : Shape) (a l x r : ℕ) (e : r ≡ parent_refusal s a l x) where
-  pub parent-refused : (r ≡ 0 → ⊥) → (q : Refusal) → q ≡ plain r → record { refusal = q; value = 0 } ≡ parent_answer s a l x
-  unfolding parent_answer
-  parent-refused h q f = answer-refused r _ no_number _ _ (ap (λ (y : Refusal). record { refusal = y; value = 0 }) f) e h
-
-  pub parent-given : r ≡ 0 → (q : Refusal) → q ≡ none → (v : ℕ) → v ≡ parent_of s a l x → record { refusal = q; value = v } ≡ parent_answer s a l x
-  unfolding parent_answer
-  parent-given z q f v g =
-      answer-given r _ no_number _ _ e z (ap₂ (λ (y : Refusal) (w : ℕ). record { refusal = y; value = w }) f g)
-
 -- ---- by digits, as the program goes by them
 
 -- the level that it found is one of the room
@@ -182,22 +172,30 @@ pub level_by : (s : Shape) (x l : ℕ) (same : ℕ → Bool) → Link s x l → 
 level_by s x l same h j e =
     record { server = h.server; level = omega (arith, lowered_le same s.k l h.level) }
 
-pub lowered_by : (s : Shape) (x l : ℕ) (es ds : List ℕ) (j : ℕ) → j ≡ lowered_at (alike_in es ds) s.k l → (v : ℕ) → v ≡ lowered s j x → v ≡ parent_by s l es ds x
-lowered_by s x l es ds j e v f = f ∙ ap (λ (i : ℕ). lowered s i x) e
-
 pub digit_by : (s : Shape) (x : ℕ) (ds : List ℕ) → ds ≡ filled 4 (digits s x) → (j : ℕ) → get_or ds j 0 ≡ digit s j x
 digit_by s x ds e j = ap (λ (ys : List ℕ). get_or ys j 0) e ∙ place-digit s x j
 
-pub found-digits : {s : Shape} {x : ℕ} → Server s x → (y : Digits) → y ≡ digits_answer s x → y.places ≡ filled 4 (digits s x)
-found-digits h y e = ap (λ (z : Digits). z.places) (digits-answered h y e)
+-- a server's digits are not refused
+pub digits-there : {s : Shape} {x : ℕ} → Server s x → (r : Reason) → no_digits (number_of r) ≡ digits_answer s x → ⊥
+digits-there h r e = reason-some r (ap (λ (z : Digits). z.refusal.number) (digits-answered h _ e))
 
-module _ (s : Shape) (a l x r : ℕ) (e : r ≡ parent_refusal s a l x) (z : r ≡ 0) (y : Digits) (f : y ≡ digits_answer s x) where
+pub found-digits : {s : Shape} {x : ℕ} → Server s x → (ds : List ℕ) → some_digits ds ≡ digits_answer s x → ds ≡ filled 4 (digits s x)
+found-digits h ds e = ap (λ (z : Digits). z.places) (digits-answered h _ e)
+
+module _ (s : Shape) (a l x : ℕ) (e : 0 ≡ parent_refusal s a l x) where
   child : Child s a l x
-  child = child_of s a l x (sym e ∙ z)
+  child = child_of s a l x (sym e)
 
-  pub parent-link : Link s x l × (y.places ≡ filled 4 (digits s x))
-  parent-link = (child.link, found-digits child.link.server y f)
+  pub source-there : (r : Reason) → no_digits (number_of r) ≡ digits_answer s a → ⊥
+  source-there = digits-there child.source
 
-  pub parent-found : (w : Digits) → w ≡ digits_answer s a → (v : ℕ) → v ≡ parent_by s l w.places y.places x → v ≡ parent_of s a l x
-  parent-found w g v q =
-      q ∙ parent_by-digits s a l x w.places y.places (found-digits child.source w g) (found-digits child.link.server y f)
+  pub server-there : (r : Reason) → no_digits (number_of r) ≡ digits_answer s x → ⊥
+  server-there = digits-there child.link.server
+
+  module _ (ds : List ℕ) (f : some_digits ds ≡ digits_answer s x) where
+    pub parent-link : Link s x l × (ds ≡ filled 4 (digits s x))
+    parent-link = (child.link, found-digits child.link.server ds f)
+
+    pub parent-found : (es : List ℕ) → some_digits es ≡ digits_answer s a → (v : ℕ) → v ≡ parent_by s l es ds x → v ≡ parent_of s a l x
+    parent-found es g v q =
+        q ∙ parent_by-digits s a l x es ds (found-digits child.source es g) (found-digits child.link.server ds f)

@@ -1,28 +1,27 @@
 -- Laws of a tree written whole: digits carried from server to server, and the numbers written one after the other.
 use Prim.Native.Nat.{ℕ, zero, suc, ◌+◌, ◌-◌, ◌*◌, ◌/◌, ◌%◌, ◌≤◌, ◌<◌}
 use mathlib.Core.Path.{◌≡◌, refl, sym, ap, ap₂, ◌∙◌, subst}
-use mathlib.Core.List.{List, [], ◌∷◌, ◌++◌}
+use mathlib.Core.List.{List, [], ◌∷◌, ◌++◌, append_assoc}
 use native.Mathlib.Omega.{arith}
 use native.Mathlib.Numerals.{add-one}
 use native.Mathlib.Nat.{mod-lt, mod-add-div, mul-add, pow-zero}
-use native.Mathlib.Decide.{dec_lt}
-use lib.ListN.{length, get_or, set, take, drop, replicate, length-set, length-replicate}
-use mir.Syntax.{w64}
-use mir.Val.{Fits}
+use native.Mathlib.Decide.{dec_lt, ℕ_discrete}
+use lib.ListN.{length, get_or, set, take, drop, replicate, length-set, length-replicate, drop_of_length-le, take-append-drop}
+use Rattle.std.proofs.lemmas.List.{set_split, drop-set-lt, get_or-set_same, get_or-set_other}
 use borrow.Author.Tests.{eq-eqb, ne_eqb, lt-ltb, le-ltb}
 use Rattle.lists.specs.Lists.{filled, in_order}
-use Rattle.lists.proofs.ListLaws.{order-long, order-at, taken_on, rest_on, filled_is, length-filled, filled_at, filled-past}
-use Rattle.refusals.specs.Refusals.{none, plain}
-use Rattle.refusals.specs.declared.Refusal.{Refusal}
+use Rattle.lists.proofs.ListLaws.{left, order-long, order-at, taken_on, rest_on, filled_is, length-filled, filled_at, filled-past}
+use Rattle.refusals.specs.declared.Reason.{Reason}
+use Rattle.refusals.specs.Reasons.{number_of}
 use Rattle.refusals.proofs.AnswerLaws.{answer-refused, answer-given, answered}
+use Rattle.refusals.proofs.ReasonLaws.{tells-given}
 use Rattle.room.specs.declared.Shape.{Shape}
-use Rattle.room.specs.declared.Number.{Number}
-use Rattle.room.specs.declared.Digits.{Digits}
+use Rattle.room.specs.Told.{Number}
 use Rattle.room.specs.Shapes.{servers_of, server_count, Valid, Server, Link}
 use Rattle.room.specs.Digits.{digits_of, Below}
 use Rattle.room.specs.Addresses.{digits}
 use Rattle.room.specs.Refusals.{link_refusal}
-use Rattle.room.specs.Answers.{no_number, a_number, digits_answer}
+use Rattle.room.specs.Answers.{no_number, a_number, no_digits, some_digits, digits_answer}
 use Rattle.room.proofs.DigitLaws.{low, high, digits_more, padded_digits, digits-below}
 use Rattle.room.proofs.PowerLaws.{count-servers}
 use Rattle.room.proofs.RefusalLaws.{link_of}
@@ -30,64 +29,34 @@ use Rattle.room.proofs.RoomLaws.{positive, servers_le}
 use Rattle.trees.specs.Trees.{parent_of, Child}
 use Rattle.trees.specs.Inside.{next_digits, parent_by}
 use Rattle.trees.specs.Answers.{no_parent, number_at, tree_of, tree_answer, tree_left}
-use Rattle.trees.proofs.ParentLaws.{parent_by-digits, found-digits}
+use Rattle.trees.proofs.ParentLaws.{parent_by-digits, digits-there, found-digits}
 use Rattle.trees.proofs.HopLaws.{parent-server-at}
 
--- ---- the digits of the next number
+-- ---- the digits of the next number: those before place i are carried, and the rest is left to carry
 
-module _ (n a b c d : ℕ) where
-  carry_none : a + 1 < n → ((a + 1) ∷ b ∷ c ∷ d ∷ []) ≡ next_digits n (a ∷ b ∷ c ∷ d ∷ [])
+module _ (n i : ℕ) (xs : List ℕ) (h : i < length xs) where
+  pub carry_here : get_or xs i 0 + 1 < n → set xs i (get_or xs i 0 + 1) ≡ take i xs ++ next_digits n (drop i xs)
   unfolding next_digits
-  carry_none p = rw (lt-ltb (a + 1) n p)
+  carry_here p = rw (left xs i 0 h, lt-ltb (get_or xs i 0 + 1) n p, add-one i) (set_split xs i (get_or xs i 0 + 1) h)
 
-  carry_one : n ≤ a + 1 → b + 1 < n → (0 ∷ (b + 1) ∷ c ∷ d ∷ []) ≡ next_digits n (a ∷ b ∷ c ∷ d ∷ [])
+  pub carry_on : n ≤ get_or xs i 0 + 1 → take (i + 1) (set xs i 0) ++ next_digits n (drop (i + 1) (set xs i 0)) ≡ take i xs ++ next_digits n (drop i xs)
   unfolding next_digits
-  carry_one p q = rw (le-ltb (a + 1) n p, lt-ltb (b + 1) n q)
+  carry_on p =
+      rw (left xs i 0 h, le-ltb (get_or xs i 0 + 1) n p, taken_on xs i 0 h, drop-set-lt (i + 1) xs i 0 (omega arith), append_assoc)
 
-  carry_two : n ≤ a + 1 → n ≤ b + 1 → c + 1 < n → (0 ∷ 0 ∷ (c + 1) ∷ d ∷ []) ≡ next_digits n (a ∷ b ∷ c ∷ d ∷ [])
-  unfolding next_digits
-  carry_two p q r = rw (le-ltb (a + 1) n p, le-ltb (b + 1) n q, lt-ltb (c + 1) n r)
+  pub carried_below : Below n xs → Below n (set xs i 0)
+  carried_below b =
+      record {
+        at = λ j q.
+            elim (ℕ_discrete j i) [
+              | yes e ↦ rw (e, get_or-set_same xs i 0 0 h) (omega (arith, b.at i h))
+              | no e ↦ rw (get_or-set_other xs i j 0 0 e) (b.at j (omega (arith, length-set xs i 0)))
+            ];
+      }
 
-  carry_three : n ≤ a + 1 → n ≤ b + 1 → n ≤ c + 1 → d + 1 < n → (0 ∷ 0 ∷ 0 ∷ (d + 1) ∷ []) ≡ next_digits n (a ∷ b ∷ c ∷ d ∷ [])
-  unfolding next_digits
-  carry_three p q r t =
-      rw (le-ltb (a + 1) n p, le-ltb (b + 1) n q, le-ltb (c + 1) n r, lt-ltb (d + 1) n t)
-
-  carry_all : n ≤ a + 1 → n ≤ b + 1 → n ≤ c + 1 → n ≤ d + 1 → (0 ∷ 0 ∷ 0 ∷ 0 ∷ []) ≡ next_digits n (a ∷ b ∷ c ∷ d ∷ [])
-  unfolding next_digits
-  carry_all p q r t =
-      rw (le-ltb (a + 1) n p, le-ltb (b + 1) n q, le-ltb (c + 1) n r, le-ltb (d + 1) n t)
-
-four : (xs : List ℕ) → length xs ≡ 4 → (get_or xs 0 0 ∷ get_or xs 1 0 ∷ get_or xs 2 0 ∷ get_or xs 3 0 ∷ []) ≡ xs
-four [] e = let z : ⊥ = omega arith in absurd z
-four (a ∷ []) e = let z : ⊥ = omega arith in absurd z
-four (a ∷ b ∷ []) e = let z : ⊥ = omega arith in absurd z
-four (a ∷ b ∷ c ∷ []) e = let z : ⊥ = omega arith in absurd z
-four (a ∷ b ∷ c ∷ d ∷ []) e = refl
-four (a ∷ b ∷ c ∷ d ∷ x ∷ xs) e = let z : ⊥ = omega arith in absurd z
-
--- as the program carries, in four places
-module _ (n : ℕ) (xs : List ℕ) (h : Below n xs) (e : length xs ≡ 4) where
-  here : {ys : List ℕ} → ys ≡ next_digits n (get_or xs 0 0 ∷ get_or xs 1 0 ∷ get_or xs 2 0 ∷ get_or xs 3 0 ∷ []) → ys ≡ next_digits n xs
-  here q = q ∙ ap (next_digits n) (four xs e)
-
-  pub next-none : get_or xs 0 0 + 1 < n → ((get_or xs 0 0 + 1) ∷ get_or xs 1 0 ∷ get_or xs 2 0 ∷ get_or xs 3 0 ∷ []) ≡ next_digits n xs
-  next-none p = here (carry_none n _ _ _ _ p)
-
-  pub next_one : n ≤ get_or xs 0 0 + 1 → get_or xs 1 0 + 1 < n → (0 ∷ (get_or xs 1 0 + 1) ∷ get_or xs 2 0 ∷ get_or xs 3 0 ∷ []) ≡ next_digits n xs
-  next_one p q = here (carry_one n (get_or xs 0 0) _ _ _ p q)
-
-  pub next-two : n ≤ get_or xs 0 0 + 1 → n ≤ get_or xs 1 0 + 1 → get_or xs 2 0 + 1 < n → (0 ∷ 0 ∷ (get_or xs 2 0 + 1) ∷ get_or xs 3 0 ∷ []) ≡ next_digits n xs
-  next-two p q r = here (carry_two n (get_or xs 0 0) (get_or xs 1 0) _ _ p q r)
-
-  pub next_three : n ≤ get_or xs 0 0 + 1 → n ≤ get_or xs 1 0 + 1 → n ≤ get_or xs 2 0 + 1 → get_or xs 3 0 + 1 < n → (0 ∷ 0 ∷ 0 ∷ (get_or xs 3 0 + 1) ∷ []) ≡ next_digits n xs
-  next_three p q r t = here (carry_three n (get_or xs 0 0) (get_or xs 1 0) (get_or xs 2 0) _ p q r t)
-
-  pub next-all : n ≤ get_or xs 0 0 + 1 → n ≤ get_or xs 1 0 + 1 → n ≤ get_or xs 2 0 + 1 → n ≤ get_or xs 3 0 + 1 → (0 ∷ 0 ∷ 0 ∷ 0 ∷ []) ≡ next_digits n xs
-  next-all p q r t = here (carry_all n (get_or xs 0 0) (get_or xs 1 0) (get_or xs 2 0) (get_or xs 3 0) p q r t)
-
-pub next_fits : (n : ℕ) (xs : List ℕ) → Fits w64 n → Below n xs → (i : ℕ) → i < length xs → Fits w64 (get_or xs i 0 + 1)
-next_fits n xs f h i p = omega (arith, f, h.at i p)
+pub carry_end : (n i : ℕ) (xs : List ℕ) → length xs ≤ i → xs ≡ take i xs ++ next_digits n (drop i xs)
+unfolding next_digits
+carry_end n i xs h = sym (rw (drop_of_length-le xs h) at (take-append-drop i xs)) ∙ rw (drop_of_length-le xs h)
 
 -- what they are
 next_here : (n a : ℕ) → a % n + 1 < n → ((a + 1) % n ≡ a % n + 1) × ((a + 1) / n ≡ a / n)
@@ -172,8 +141,8 @@ module _ (s : Shape) (a l : ℕ) (z : link_refusal s a l ≡ 0) where
     writing-digits p = h.own ∙ four-digits (writing-server p)
 
     -- what is asked before a number is found
-    pub writing-asked : x < m → (w : Digits) → w ≡ digits_answer s a → (link_refusal s a l ≡ 0) × Server s x × (w.places ≡ filled 4 (digits s a)) × (ds ≡ filled 4 (digits s x))
-    writing-asked p w f = (z, writing-server p, found-digits (link_of s a l z).server w f, writing-digits p)
+    pub writing-asked : x < m → (es : List ℕ) → es ≡ filled 4 (digits s a) → (link_refusal s a l ≡ 0) × Server s x × (es ≡ filled 4 (digits s a)) × (ds ≡ filled 4 (digits s x))
+    writing-asked p es f = (z, writing-server p, f, writing-digits p)
 
     pub writing-below : Below s.n ds
     writing-below = subst (Below s.n) (sym h.own) (digits-below s.n 4 x (positive valid))
@@ -201,31 +170,28 @@ module _ (s : Shape) (a l : ℕ) (z : link_refusal s a l ≡ 0) where
 
 -- ---- the answer as the program gives it
 
-module _ (s : Shape) (a l r : ℕ) (e : r ≡ link_refusal s a l) where
-  module _ (h : r ≡ 0 → ⊥) where
-    pub tree-refused : (q : Refusal) → q ≡ plain r → record { refusal = q; value = 0 } ≡ tree_answer s a l
-    unfolding tree_answer
-    tree-refused q f = answer-refused r _ no_number _ _ (ap (λ (y : Refusal). record { refusal = y; value = 0 }) f) e h
+module _ (s : Shape) (a l : ℕ) where
+  pub tree_keeps : (r : ℕ) → r ≡ link_refusal s a l → (r ≡ 0 → ⊥) → (ps : List ℕ) → ps ≡ tree_left s a l ps
+  unfolding tree_left
+  tree_keeps r e h ps = answer-refused r _ (λ q. ps) ps _ refl e h
 
-    pub tree_keeps : (ps : List ℕ) → ps ≡ tree_left s a l ps
-    unfolding tree_left
-    tree_keeps ps = answer-refused r _ (λ q. ps) ps _ refl e h
-
-  module _ (z : r ≡ 0) (m : ℕ) (f : m ≡ server_count s) where
+  module _ (e : 0 ≡ link_refusal s a l) where
     link : Link s a l
-    link = link_of s a l (sym e ∙ z)
+    link = link_of s a l (sym e)
 
-    all : m ≡ servers_of s
-    all = f ∙ count-servers link.server.valid
+    pub root-there : (r : Reason) → no_digits (number_of r) ≡ digits_answer s a → ⊥
+    root-there = digits-there link.server
 
-    pub tree-given : (q : Refusal) → q ≡ none → record { refusal = q; value = m } ≡ tree_answer s a l
+    pub root-digits : (es : List ℕ) → some_digits es ≡ digits_answer s a → es ≡ filled 4 (digits s a)
+    root-digits = found-digits link.server
+
+    pub tree-given : (m : ℕ) → m ≡ server_count s → a_number m ≡ tree_answer s a l
     unfolding tree_answer
-    tree-given q g =
-        answer-given r _ no_number _ _ e z (ap₂ (λ (y : Refusal) (w : ℕ). record { refusal = y; value = w }) g all)
+    tree-given m f = tells-given no_number a_number _ m _ e (f ∙ count-servers link.server.valid)
 
     pub tree-written : (ps qs : List ℕ) → qs ≡ tree_of s a l → qs ≡ tree_left s a l ps
     unfolding tree_left
-    tree-written ps qs g = answer-given r _ (λ q. ps) _ _ e z g
+    tree-written ps qs g = answer-given 0 _ (λ q. ps) _ _ e refl g
 
 -- ---- the numbers of a tree, one by one
 

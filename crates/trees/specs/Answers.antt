@@ -4,7 +4,7 @@ use Rattle.std.specs.Prelude.{ℕ, List, [], ◌∷◌, ◌++◌, not, cond, leb
 use Rattle.lists.specs.Lists.{filled, in_order}
 use Rattle.refusals.specs.Refusals.{◌or_else◌, ◌unless◌, answer}
 use Rattle.room.specs.declared.Shape.{Shape}
-use Rattle.room.specs.declared.Number.{Number}
+use Rattle.room.specs.Told.{Number}
 use Rattle.room.specs.Shapes.{servers_of}
 use Rattle.room.specs.Refusals.{server_numbers, pair_refusal, link_refusal}
 use Rattle.room.specs.Answers.{no_number, a_number}

@@ -17,6 +17,7 @@ fn level_at(k: usize, tree: usize, place: usize) -> usize
 
 // The level at which a tree lowers a digit, from the digits of the source and of the server: its own where they
 // agree there, else the last of its order at which they differ.
+#[tactic(auto, using(crate::proofs::LevelLaws::at_le))]
 pub(crate) fn lowered_level(k: usize, tree: usize, from: &[usize; 4], own: &[usize; 4]) -> usize
     requires { (k ≤ 3) × (tree ≤ k) }
     ensures { result ≡ lowered_at (alike_in from.now own.now) k tree }
@@ -24,13 +25,11 @@ pub(crate) fn lowered_level(k: usize, tree: usize, from: &[usize; 4], own: &[usi
     if from[tree] == own[tree] {
         return tree;
     }
-    let mut place = k;
-    while 0 < place {
+    for place in (1..=k).rev() {
         let level = level_at(k, tree, place);
         if from[level] != own[level] {
             return level;
         }
-        place -= 1;
     }
     tree
 }

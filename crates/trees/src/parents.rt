@@ -1,31 +1,30 @@
 // The parent of a server in a tree.
 ghost use Rattle.std.specs.Prelude.{◌≡◌};
 ghost use Rattle.lists.specs.Lists.{filled};
+ghost use Rattle.refusals.specs.Reasons.{told, tells};
 ghost use Rattle.room.specs.Shapes.{power_of, Link};
 ghost use Rattle.room.specs.Addresses.{digits, digit};
+ghost use Rattle.room.specs.Answers.{no_number, a_number};
 ghost use Rattle.trees.specs.Trees.{lowered};
 ghost use Rattle.trees.specs.Inside.{strides_of, parent_by};
 ghost use Rattle.trees.specs.Answers.{parent_refusal, parent_answer};
 
 use crate::levels::lowered_level;
-use refusals::Refusal;
-use room::{Number, Shape, digit_bound, digits_of, pair_refusal, power};
+use refusals::Reason;
+use room::{Shape, digit_bound, digits_of, pair_refusal, power};
 
-// The first of 1, 2, 26, 3, 4, 20, 5 that refuses to name a parent, or 0.
-fn parent_refusal(shape: Shape, source: usize, tree: usize, server: usize) -> usize
-    ensures { result ≡ parent_refusal shape source tree server }
+// The first of 1, 2, 26, 3, 4, 20, 5 that refuses to name a parent.
+fn parent_refusal(shape: Shape, source: usize, tree: usize, server: usize) -> Result<(), Reason>
+    ensures { told result ≡ parent_refusal shape source tree server }
 {
-    let r = pair_refusal(shape, source, server);
-    if r != 0 {
-        return r;
-    }
+    pair_refusal(shape, source, server)?;
     if shape.k < tree {
-        return Refusal::LEVEL;
+        return Err(Reason::Level);
     }
     if source == server {
-        return Refusal::SAME_ENDS;
+        return Err(Reason::SameEnds);
     }
-    0
+    Ok(())
 }
 
 // The strides of the four levels: how far apart two servers are whose digit there differs by one.
@@ -63,21 +62,12 @@ pub(crate) fn parent_by(
 }
 
 // The parent of a server in a tree of a source: the server that hands it the file. Refusals 1, 2, 26, 3, 4, 20, 5.
-pub fn parent_of(shape: Shape, source: usize, tree: usize, server: usize) -> Number
-    ensures { result ≡ parent_answer shape source tree server }
+pub fn parent_of(shape: Shape, source: usize, tree: usize, server: usize) -> Result<usize, Reason>
+    ensures { tells no_number a_number result ≡ parent_answer shape source tree server }
 {
-    let refusal = parent_refusal(shape, source, tree, server);
-    if refusal != 0 {
-        return Number {
-            refusal: Refusal::plain(refusal),
-            value: 0,
-        };
-    }
-    let from = digits_of(shape, source).places;
-    let own = digits_of(shape, server).places;
+    parent_refusal(shape, source, tree, server)?;
+    let from = digits_of(shape, source)?;
+    let own = digits_of(shape, server)?;
     let strides = strides_of(shape.n);
-    Number {
-        refusal: Refusal::none(),
-        value: parent_by(shape, tree, &strides, &from, &own, server),
-    }
+    Ok(parent_by(shape, tree, &strides, &from, &own, server))
 }

@@ -13,13 +13,13 @@ use lib.Seq.{take_at, drop_at}
 use borrow.Author.Tests.{eq-eqb, ne_eqb, eqb-true, leb-true, le-leb, not-true}
 use Rattle.lists.proofs.ListLaws.{both_held, Missing, in_missing, missing_in, length_turn, take-filled}
 use Rattle.lists.specs.Lists.{is_in, middle, filled, in_turn, Apart}
-use Rattle.refusals.specs.declared.Refusal.{Refusal}
+use Rattle.refusals.specs.Refusals.{Refusal}
 use Rattle.refusals.specs.Refusals.{none, plain, of_route}
 use Rattle.refusals.proofs.ChainLaws.{or_else_zero, chain_goes, test_held}
 use Rattle.refusals.proofs.AnswerLaws.{answered, answer-none}
 use Rattle.room.specs.declared.Shape.{Shape}
 use Rattle.links.specs.Table.{room_refusal}
-use Rattle.path.specs.declared.Walked.{Walked}
+use Rattle.path.specs.Told.{Walked}
 use Rattle.path.specs.Routes.{RouteTo, Parallel, encode, switches_of, switch_to}
 use Rattle.path.specs.Answers.{walk_answer}
 use Rattle.path.proofs.CodecLaws.{walk-given, walk-exactly, encode-long}

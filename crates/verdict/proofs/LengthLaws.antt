@@ -1,6 +1,6 @@
 -- The tests that come before a list is walked.
 use Prim.Native.Nat.{ℕ, suc, ◌+◌, ◌*◌, ◌%◌, ◌≤◌, ◌<◌}
-use mathlib.Core.Path.{◌≡◌, refl, sym, ◌∙◌}
+use mathlib.Core.Path.{◌≡◌, sym}
 use mathlib.Core.Bool.{◌&&◌}
 use mathlib.Core.List.{List}
 use native.Mathlib.Omega.{arith}
@@ -33,10 +33,9 @@ pub length-fits : (k n : ℕ) → n % 8 ≡ 0 → 1 ≤ n → n ≤ 8 * (k + 1) 
 length-fits k n e h g = let q : n ≤ 8 * suc k = omega arith in rw (eq-eqb (n % 8) 0 e, le-leb 1 n h, le-leb n (8 * suc k) q)
 
 -- what no refusal of the room tells
-pub room-levels : (s : Shape) (t : List ℕ) (a d r : ℕ) → r ≡ room_refusal s t a d → r ≡ 0 → s.k ≤ 3
+pub room-levels : (s : Shape) (t : List ℕ) (a d : ℕ) → 0 ≡ room_refusal s t a d → s.k ≤ 3
 unfolding room_refusal
-room-levels s t a d r e z =
-    (ends_of s a d (or_else_zero (ends_refusal s a d) _ (sym e ∙ z)).0).source.valid.levels
+room-levels s t a d e = (ends_of s a d (or_else_zero (ends_refusal s a d) _ (sym e)).0).source.valid.levels
 
 -- and of a list: no more than four arrays, and whole ones
 pub record Few (bs : List ℕ) : Type 0 where
@@ -49,5 +48,5 @@ list_few s t a d bs e =
     let z = or_else_zero (room_refusal s t a d) _ e in
     let w = both_held (eqb (length bs % 8) 0) _ (test_held _ 6 z.1) in
     let v = both_held (leb 1 (length bs)) (leb (length bs) (8 * suc s.k)) w.1 in
-    let k = room-levels s t a d (room_refusal s t a d) refl z.0 in
+    let k = room-levels s t a d (sym z.0) in
     record { whole = eqb-true (length bs % 8) 0 w.0; most = omega (arith, leb-true (length bs) (8 * suc s.k) v.1) }

@@ -1,5 +1,5 @@
 -- Laws of where two walked arrays meet: they meet exactly where they are not parallel, and what the program finds is the first meeting.
-use Prim.Native.Nat.{ℕ, zero, suc, ◌+◌, ◌-◌, ◌≤◌, ◌<◌, zero-le}
+use Prim.Native.Nat.{ℕ, zero, suc, ◌+◌, ◌-◌, ◌≤◌, ◌<◌}
 use mathlib.Core.Path.{◌≡◌, refl, sym, ap, ◌∙◌, subst}
 use mathlib.Core.Logic.{◌≢◌, ◌↔◌, ◌⊎◌, inl, inr, ⊎_elim}
 use mathlib.Core.Bool.{Bool, true, false, false≢true, cond, ◌&&◌, ◌||◌, or-false}
@@ -10,11 +10,12 @@ use lib.Dec.{ltb, eqb}
 use lib.ListN.{length, get_or, take, drop, length-take}
 use lib.Seq.{length-take-le, take-take, get_or-take}
 use borrow.Author.Tests.{eq-eqb, ne_eqb, lt-ltb, le-ltb, ltb-true, ltb-false, eqb-true}
+use Rattle.std.specs.Prelude.{Option, Some, None}
 use Rattle.lists.specs.Lists.{middle, first_where, place_in, Apart}
 use Rattle.lists.proofs.ListLaws.{both_held, length-middle, middle-at}
 use Rattle.lists.proofs.FirstPlaces.{where_most, where_holds, where_before, where_is, where_same, all_on}
 use Rattle.refusals.specs.Refusals.{refused_at, with_earlier}
-use Rattle.path.specs.declared.Walked.{Walked}
+use Rattle.path.specs.Told.{Walked}
 use Rattle.verdict.specs.declared.Meeting.{Meeting}
 use Rattle.verdict.specs.Checks.{disjoint, switches_in, between, parallel, hops_in, same_at, meets, met_at, meets_first, meeting}
 use Rattle.verdict.specs.Arrived.{Arrived, first_met, meeting_of}
@@ -233,9 +234,6 @@ module _ (used met : List ℕ) (w a : ℕ) where
     pub no_switch : (j : ℕ) → j < i → get_or used j 0 ≢ w
     pub no_server : (j : ℕ) → j < i → get_or met j 0 ≢ a
 
-  pub unmet_start : Unmet 0
-  unmet_start = record { within = zero-le; no_switch = λ j p. absurd (let z : ⊥ = omega arith in z); no_server = λ j p. absurd (let z : ⊥ = omega arith in z) }
-
   abbrev test : ℕ → Bool
   test q = eqb w (get_or used q 0) || (ltb q (length met) && eqb a (get_or met q 0))
 
@@ -246,6 +244,9 @@ module _ (used met : List ℕ) (w a : ℕ) where
         | yes y ↦ rw (ne_eqb w (get_or used j 0) (λ e. n (sym e)), lt-ltb j (length met) y, ne_eqb a (get_or met j 0) (λ e. m y (sym e)))
         | no y ↦ let z : length met ≤ j = omega arith in rw (ne_eqb w (get_or used j 0) (λ e. n (sym e)), le-ltb j (length met) z)
       ]
+
+  pub unmet_all : (i : ℕ) → Unmet i → length met ≤ i → Unmet (length met)
+  unmet_all i g h = record { within = omega arith; no_switch = λ j p. g.no_switch j (omega arith); no_server = λ j p. g.no_server j (omega arith) }
 
   module _ (l : length used ≡ length met + 1) (i : ℕ) (g : Unmet i) where
     before : (j : ℕ) → j < i → test j ≡ false
@@ -265,9 +266,6 @@ module _ (used met : List ℕ) (w a : ℕ) where
         by_server : (x : Bool) → (x || (ltb i (length met) && eqb a (get_or met i 0))) ≡ true
         by_server true = refl
         by_server false = rw (lt-ltb i (length met) h, eq-eqb a (get_or met i 0) (sym e))
-
-    pub unmet_on : i < length met → (get_or used i 0 ≡ w → ⊥) → (get_or met i 0 ≡ a → ⊥) → Unmet (i + 1)
-    unmet_on h n m = record { within = omega arith; no_switch = all_on (λ j. get_or used j 0 ≢ w) i g.no_switch n; no_server = all_on (λ j. get_or met j 0 ≢ a) i g.no_server m }
 
     -- past all
     pub unmet_end : length met ≤ i → (get_or used i 0 ≡ w → ⊥) → i + 1 ≡ first_met used met w a
@@ -303,14 +301,8 @@ pub record NoneMet (u v : Walked) (i : ℕ) : Type 0 where
   pub within : i ≤ hops_in u
   pub none-met : (j : ℕ) → j < i → hops_in v ≤ met_at u v j
 
-pub none-met-start : (u v : Walked) → NoneMet u v 0
-none-met-start u v = record { within = zero-le; none-met = λ j p. absurd (let z : ⊥ = omega arith in z) }
-
 module _ (u v : Walked) (i : ℕ) (g : NoneMet u v i) where
   module _ (h : i < u.count - 1) (q : ℕ) (e : q ≡ met_at u v i) where
-    pub none-met_on : v.count - 1 ≤ q → NoneMet u v (i + 1)
-    none-met_on k = record { within = omega arith; none-met = all_on (λ j. hops_in v ≤ met_at u v j) i g.none-met (rw (← e) k) }
-
     -- this one meets: they are not parallel, and it is the first
     first : q < v.count - 1 → meets_first u v ≡ i
     unfolding meets_first
@@ -327,39 +319,42 @@ module _ (u v : Walked) (i : ℕ) (g : NoneMet u v i) where
         go true f = absurd (false≢true (sym (parallel-apart u v f i (met_at u v i)) ∙ where_holds (meets u v i) (hops_in v) (rw (← e) k)))
         go false f = refl
 
-    pub met-here : q < v.count - 1 → ◌≡◌ {A = Meeting} (record { first = i + 1; later = q + 1 }) (meeting_of u v)
+    pub met-here : q < v.count - 1 → ◌≡◌ {A = Option Meeting} (Some (record { first = i + 1; later = q + 1 })) (meeting_of u v)
     unfolding meeting_of
-    met-here k = rw (crossed k, first k) (ap (λ (x : ℕ). record { first = i + 1; later = x + 1 }) e)
+    met-here k = rw (crossed k, first k) (ap (λ (x : ℕ). Some (record { first = i + 1; later = x + 1 })) e)
 
   none-meets : u.count - 1 ≤ i → (p q : ℕ) → p < hops_in u → q < hops_in v → meets u v p q ≡ false
   none-meets h p q x y = met-before u v p q (omega (arith, g.none-met p (omega arith)))
 
   -- none meets
-  pub none-met-end : u.count - 1 ≤ i → ◌≡◌ {A = Meeting} (record { first = 0; later = 0 }) (meeting_of u v)
+  pub none-met-end : u.count - 1 ≤ i → None ≡ meeting_of u v
   unfolding meeting_of
   none-met-end h = rw (apart-parallel u v (none-meets h))
 
--- ---- as it is told: x is where they meet
+-- ---- as it is told
 
-module _ (u v : Walked) (x : Meeting) (e : x ≡ meeting_of u v) where
-  pub meeting-none : x.first ≡ 0 → parallel u v ≡ true
+module _ (u v : Walked) where
+  pub meeting-none : None ≡ meeting_of u v → parallel u v ≡ true
   unfolding meeting_of
-  meeting-none z = go (parallel u v) (sym (ap (λ (y : Meeting). y.first) e) ∙ z)
+  meeting-none e = go (parallel u v) e
     where
-      go : (b : Bool) → (cond {A = Meeting} b (record { first = 0; later = 0 }) (record { first = meets_first u v + 1; later = met_at u v (meets_first u v) + 1 })).first ≡ 0 → b ≡ true
+      go : (b : Bool) → None ≡ cond {A = Option Meeting} b None (Some (record { first = meets_first u v + 1; later = met_at u v (meets_first u v) + 1 })) → b ≡ true
       go true k = refl
-      go false k = absurd (let n : ⊥ = omega arith in n)
+      go false k = cc
 
-  pub meeting-some : (x.first ≡ 0 → ⊥) → parallel u v ≡ false
-  unfolding meeting_of
-  meeting-some n = go (parallel u v) (λ z. n (ap (λ (y : Meeting). y.first) e ∙ z))
-    where
-      go : (b : Bool) → ((cond {A = Meeting} b (record { first = 0; later = 0 }) (record { first = meets_first u v + 1; later = met_at u v (meets_first u v) + 1 })).first ≡ 0 → ⊥) → b ≡ false
-      go true k = absurd (k refl)
-      go false k = refl
+  -- x is where they meet
+  module _ (x : Meeting) (e : Some x ≡ meeting_of u v) where
+    met : (parallel u v ≡ false) × (x ≡ record { first = meets_first u v + 1; later = met_at u v (meets_first u v) + 1 })
+    unfolding meeting_of
+    met = go (parallel u v) e
+      where
+        go : (b : Bool) → Some x ≡ cond {A = Option Meeting} b None (Some (record { first = meets_first u v + 1; later = met_at u v (meets_first u v) + 1 })) → (b ≡ false) × (x ≡ record { first = meets_first u v + 1; later = met_at u v (meets_first u v) + 1 })
+        go true k = cc
+        go false k = (refl, cc)
 
-  pub meeting-told : (x.first ≡ 0 → ⊥) → (i j : ℕ) → with_earlier i x.first (refused_at 15 j x.later) ≡ meeting i u j v
-  unfolding meeting_of meeting
-  meeting-told n i j =
-      let f : x ≡ record { first = meets_first u v + 1; later = met_at u v (meets_first u v) + 1 } = e ∙ rw (meeting-some n) in
-      ap (λ (y : Meeting). with_earlier i y.first (refused_at 15 j y.later)) f
+    pub meeting-some : parallel u v ≡ false
+    meeting-some = met.0
+
+    pub meeting-told : (i j : ℕ) → with_earlier i x.first (refused_at 15 j x.later) ≡ meeting i u j v
+    unfolding meeting
+    meeting-told i j = ap (λ (y : Meeting). with_earlier i y.first (refused_at 15 j y.later)) met.1

@@ -1,11 +1,11 @@
 -- Checking a list of arrays: each is walked in list order, then every two are held against each other.
 use Rattle.std.specs.Prelude.{ℕ, zero, suc, ◌+◌, ◌-◌, ◌*◌, ◌/◌, ◌%◌, List, [], ◌∷◌, ◌++◌, map, Bool, true, not, cond, ◌&&◌, ◌||◌, ltb, leb, eqb, length, get_or, take, drop}
 use Rattle.lists.specs.Lists.{is_in, first_where, middle}
-use Rattle.refusals.specs.declared.Refusal.{Refusal}
+use Rattle.refusals.specs.Refusals.{Refusal}
 use Rattle.refusals.specs.Refusals.{none, plain, refused_at, of_route, with_earlier, ◌or_else◌, ◌unless◌, answer}
 use Rattle.room.specs.declared.Shape.{Shape}
 use Rattle.links.specs.Table.{room_refusal, room_numbers}
-use Rattle.path.specs.declared.Walked.{Walked}
+use Rattle.path.specs.Told.{Walked}
 use Rattle.path.specs.Answers.{walk_answer}
 
 -- the arrays of a list: m of them, eight bytes each

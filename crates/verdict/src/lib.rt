@@ -8,8 +8,8 @@ mod pairs;
 
 pub use checks::check_list;
 
-// The hops where two walked arrays first meet, counted from 1; zeros where they are parallel.
-#[derive(Clone, Copy)]
+// The hops where two walked arrays first meet, counted from 1.
+#[derive(Clone, Copy, PartialEq, Eq)]
 pub(crate) struct Meeting {
     pub(crate) first: usize,
     pub(crate) later: usize,

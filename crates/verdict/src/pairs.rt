@@ -1,11 +1,13 @@
 // Every two routes held against each other.
-ghost use Rattle.std.specs.Prelude.{◌≡◌, ◌≤◌, ◌<◌, ◌+◌, length, take, drop, get_or};
+ghost use Rattle.std.specs.Prelude.{◌≡◌, ◌≤◌, ◌<◌, ◌+◌, map, length, take, drop, get_or};
+ghost use Rattle.refusals.specs.Reasons.{told_where};
+ghost use Rattle.path.specs.Answers.{the_walk};
 ghost use Rattle.verdict.specs.Checks.{hops_in, met_at, first_meeting, first_pair};
 ghost use Rattle.verdict.specs.Arrived.{Arrived, AllArrived, past_end, first_met, meeting_of};
 
 use crate::Meeting;
 use path::{Walked, place_in};
-use refusals::Refusal;
+use refusals::{Reason, Refused};
 
 // Hop i uses the switch used[i] and leads to the server met[i]; the last leads to none of them. The first hop that uses
 // a switch or leads to a server. Past all where none does.
@@ -13,27 +15,26 @@ fn first_met(used: &[usize], met: &[usize], switch: usize, server: usize) -> usi
     requires { length used.now ≡ length met.now + 1 }
     ensures { result ≡ first_met used.now met.now switch server }
 {
-    let mut i: usize = 0;
-    while i < met.len() {
+    for (i, leads) in met.iter().enumerate() {
         if used[i] == switch {
             return i;
         }
-        if met[i] == server {
+        if *leads == server {
             return i;
         }
-        i += 1;
     }
-    if used[i] == switch {
-        return i;
+    let last = met.len();
+    if used[last] == switch {
+        return last;
     }
-    i + 1
+    last + 1
 }
 
 // The place of the first hop of the other walked array that meets the hop at place i of this one: it uses its switch, or
 // leads to its server, which is no end. Past all where none does.
 fn met_at(one: Walked, other: Walked, i: usize) -> usize
-    requires { Arrived one × Arrived other × (i < hops_in one) }
-    ensures { result ≡ met_at one other i }
+    requires { Arrived (the_walk one) × Arrived (the_walk other) × (i < hops_in (the_walk one)) }
+    ensures { result ≡ met_at (the_walk one) (the_walk other) i }
 {
     let last = other.count - 1;
     let used = one.switches;
@@ -47,58 +48,57 @@ fn met_at(one: Walked, other: Walked, i: usize) -> usize
     place_in(&other_used[..last], used[i])
 }
 
-// The hops where two walked arrays first meet, by the first one's, then the other's; zeros where they are parallel.
-fn meeting_of(one: Walked, other: Walked) -> Meeting
-    requires { Arrived one × Arrived other }
-    ensures { result ≡ meeting_of one other }
+// The hops where two walked arrays first meet, by the first one's, then the other's; none where they are parallel.
+fn meeting_of(one: Walked, other: Walked) -> Option<Meeting>
+    requires { Arrived (the_walk one) × Arrived (the_walk other) }
+    ensures { result ≡ meeting_of (the_walk one) (the_walk other) }
 {
     let hops = one.count - 1;
     let other_hops = other.count - 1;
-    let mut i: usize = 0;
-    while i < hops {
+    for i in 0..hops {
         let place = met_at(one, other, i);
         if place < other_hops {
-            return Meeting {
+            return Some(Meeting {
                 first: i + 1,
                 later: place + 1,
-            };
+            });
         }
-        i += 1;
     }
-    Meeting { first: 0, later: 0 }
+    None
 }
 
-// The first of the walked arrays after place i that is not parallel to the one at i: 15.
-fn first_meeting(walks: [Walked; 4], count: usize, i: usize) -> Refusal
-    requires { (count ≤ 4) × (i < count) × AllArrived count walks }
-    ensures { result ≡ first_meeting (i + 1) (get_or walks i past_end) (i + 1 + 1) (drop (i + 1) (take count walks)) }
-{
-    let one = walks[i];
-    let mut j = i + 1;
-    while j < count {
-        let other = walks[j];
-        let meeting = meeting_of(one, other);
-        if meeting.first != 0 {
-            let refusal = Refusal::at(Refusal::NOT_PARALLEL, j + 1, meeting.later);
-            return refusal.with_earlier(i + 1, meeting.first);
-        }
-        j += 1;
-    }
-    Refusal::none()
+// The walked arrays of a list, in list order, each of which arrived.
+#[derive(Drop)]
+pub(crate) struct Walks {
+    pub(crate) walks: [Walked; 4],
+    pub(crate) count: usize,
+    ghost few: { count ≤ 4 },
+    ghost arrived: { AllArrived count walks },
 }
 
-// The first pair of the walked arrays that is not parallel, by first, then second: 15.
-pub(crate) fn first_pair(walks: [Walked; 4], count: usize) -> Refusal
-    requires { (count ≤ 4) × AllArrived count walks }
-    ensures { result ≡ first_pair 1 (take count walks) }
-{
-    let mut i: usize = 0;
-    while i < count {
-        let met = first_meeting(walks, count, i);
-        if met.number != 0 {
-            return met;
+impl Walks {
+    // The first of the walked arrays after place i that is not parallel to the one at i: 15.
+    fn first_meeting(&self, i: usize) -> Result<(), Refused>
+        requires { i < self.now.count }
+        ensures { told_where result ≡ first_meeting (i + 1) (the_walk (get_or self.now.walks i past_end)) (i + 1 + 1) (drop (i + 1) (map the_walk (take self.now.count self.now.walks))) }
+    {
+        let one = self.walks[i];
+        for j in i + 1..self.count {
+            if let Some(meeting) = meeting_of(one, self.walks[j]) {
+                let refused = Refused::at(Reason::NotParallel, j + 1, meeting.later);
+                return Err(refused.with_earlier(i + 1, meeting.first));
+            }
         }
-        i += 1;
+        Ok(())
     }
-    Refusal::none()
+
+    // The first pair of the walked arrays that is not parallel, by first, then second: 15.
+    pub(crate) fn first_pair(&self) -> Result<(), Refused>
+        ensures { told_where result ≡ first_pair 1 (map the_walk (take self.now.count self.now.walks)) }
+    {
+        for i in 0..self.count {
+            self.first_meeting(i)?;
+        }
+        Ok(())
+    }
 }

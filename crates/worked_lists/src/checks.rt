@@ -12,100 +12,62 @@ pub(crate) fn check_row(
 ) -> io::Result<()> {
     print::question(rt, b"check", shape)?;
     print::bytes(rt, table)?;
-    print::item(rt, source)?;
-    print::item(rt, destination)?;
+    print::all(rt, &[source, destination])?;
     print::bytes(rt, list)?;
-    let refusal = verdict::check_list(shape, table, source, destination, list);
-    if refusal.number != 0 {
-        return print::refused(rt, refusal);
+    match verdict::check_list(shape, table, source, destination, list) {
+        Ok(()) => print::text(rt, b" = accepted\n"),
+        Err(refused) => print::refused(rt, refused),
     }
-    print::text(rt, b" = accepted\n")
+}
+
+// A row for each of some lists, between the same two servers.
+pub(crate) fn check_rows(
+    rt: &impl Print,
+    shape: Shape,
+    table: &[u8],
+    source: usize,
+    destination: usize,
+    lists: &[&[u8]],
+) -> io::Result<()> {
+    for &list in lists {
+        check_row(rt, shape, table, source, destination, list)?;
+    }
+    Ok(())
 }
 
 // Lists in a room of sixteen servers with no failed link.
 pub(crate) fn healthy(rt: &impl Print) -> io::Result<()> {
     let shape = Shape::full(4, 1);
     let table = [0u8; 16];
-    check_row(
-        rt,
-        shape,
-        &table,
-        0,
-        7,
-        b"\x41\x03\0\0\0\0\0\0\x03\x41\0\0\0\0\0\0",
-    )?;
-    check_row(
+    let both = b"\x41\x03\0\0\0\0\0\0\x03\x41\0\0\0\0\0\0";
+    check_row(rt, shape, &table, 0, 7, both)?;
+    check_rows(
         rt,
         shape,
         &table,
         0,
         3,
-        b"\x03\0\0\0\0\0\0\0\x03\0\0\0\0\0\0\0",
+        &[
+            b"\x03\0\0\0\0\0\0\0\x03\0\0\0\0\0\0\0",
+            b"\x03\0\0\0\0\0\0\0\x41\x03\x40\0\0\0\0\0",
+        ],
     )?;
-    check_row(
-        rt,
-        shape,
-        &table,
-        0,
-        3,
-        b"\x03\0\0\0\0\0\0\0\x41\x03\x40\0\0\0\0\0",
-    )?;
-    check_row(
+    check_rows(
         rt,
         shape,
         &table,
         0,
         7,
-        b"\x41\x03\0\0\0\0\0\0\x01\x42\x03\x41\0\0\0\0",
-    )?;
-    check_row(
-        rt,
-        shape,
-        &table,
-        0,
-        7,
-        b"\x41\x03\0\0\0\0\0\0\x01\x41\x03\0\0\0\0\0",
-    )?;
-    check_row(rt, shape, &table, 0, 7, b"")?;
-    check_row(
-        rt,
-        shape,
-        &table,
-        0,
-        7,
-        b"\x41\x03\0\0\0\0\0\0\x03\x41\0\0\0\0\0",
-    )?;
-    check_row(
-        rt,
-        shape,
-        &table,
-        0,
-        7,
-        b"\x41\x03\0\0\0\0\0\0\x03\x41\0\0\0\0\0\0\x41\x03\0\0\0\0\0\0",
-    )?;
-    check_row(
-        rt,
-        shape,
-        &table,
-        0,
-        7,
-        b"\x41\x43\0\0\0\0\0\0\x84\x41\0\0\0\0\0\0",
-    )?;
-    check_row(
-        rt,
-        shape,
-        &table,
-        0,
-        7,
-        b"\x84\x41\0\0\0\0\0\0\x41\x43\0\0\0\0\0\0",
-    )?;
-    check_row(
-        rt,
-        shape,
-        &table,
-        0,
-        7,
-        b"\x41\x03\0\0\0\0\0\0\x84\x41\0\0\0\0\0\0",
+        &[
+            b"\x41\x03\0\0\0\0\0\0\x01\x42\x03\x41\0\0\0\0",
+            b"\x41\x03\0\0\0\0\0\0\x01\x41\x03\0\0\0\0\0",
+            b"",
+            b"\x41\x03\0\0\0\0\0\0\x03\x41\0\0\0\0\0",
+            b"\x41\x03\0\0\0\0\0\0\x03\x41\0\0\0\0\0\0\x41\x03\0\0\0\0\0\0",
+            b"\x41\x43\0\0\0\0\0\0\x84\x41\0\0\0\0\0\0",
+            b"\x84\x41\0\0\0\0\0\0\x41\x43\0\0\0\0\0\0",
+            b"\x41\x03\0\0\0\0\0\0\x84\x41\0\0\0\0\0\0",
+        ],
     )?;
     check_row(rt, shape, &table, 0, 0, b"")?;
     check_row(rt, shape, &table, 16, 0, b"")?;
@@ -118,21 +80,16 @@ pub(crate) fn repeats(rt: &impl Print) -> io::Result<()> {
     let table = [0u8; 16];
     let round = b"\x01\x41\0\x40\0\0\0\0";
     check_row(rt, shape, &table, 0, 7, round)?;
-    check_row(
+    check_rows(
         rt,
         shape,
         &table,
         0,
         15,
-        b"\x03\x43\0\0\0\0\0\0\x01\x41\x02\x40\x01\0\0\0",
-    )?;
-    check_row(
-        rt,
-        shape,
-        &table,
-        0,
-        15,
-        b"\x03\x43\0\0\0\0\0\0\x01\x41\x02\x40\x03\0\0\0",
+        &[
+            b"\x03\x43\0\0\0\0\0\0\x01\x41\x02\x40\x01\0\0\0",
+            b"\x03\x43\0\0\0\0\0\0\x01\x41\x02\x40\x03\0\0\0",
+        ],
     )?;
     let source = [2u8, 0, 0, 0, 0, 0, 0, 0, 0, 0, 0, 0, 0, 0, 0, 0];
     check_row(rt, shape, &source, 0, 7, round)?;
@@ -167,21 +124,16 @@ pub(crate) fn half_filled(rt: &impl Print) -> io::Result<()> {
     check_row(rt, shape, &[0, 0, 0, 0, 0, 0, 0, 4], 0, 7, both)?;
     check_row(rt, shape, &[0, 0, 0, 0, 2, 0, 0, 0], 0, 7, both)?;
     check_row(rt, shape, &[0, 0, 0, 2, 0, 0, 0, 0], 0, 7, both)?;
-    check_row(
+    check_rows(
         rt,
         shape,
         &table,
         0,
         7,
-        b"\x41\x03\0\0\0\0\0\0\x01\x42\x03\x41\0\0\0\0",
-    )?;
-    check_row(
-        rt,
-        shape,
-        &table,
-        0,
-        7,
-        b"\x03\x41\0\0\0\0\0\0\x01\x41\x03\0\0\0\0\0",
+        &[
+            b"\x41\x03\0\0\0\0\0\0\x01\x42\x03\x41\0\0\0\0",
+            b"\x03\x41\0\0\0\0\0\0\x01\x41\x03\0\0\0\0\0",
+        ],
     )?;
     check_row(rt, shape, &table, 0, 8, both)?;
     check_row(rt, Shape::new(4, 1, 5), &table, 8, 8, b"")
@@ -195,20 +147,15 @@ pub(crate) fn half_filled_levels(rt: &impl Print) -> io::Result<()> {
     check_row(rt, pair, &[0; 2], 0, 1, b"\x02\x01\0\0\0\0\0\0")?;
     let deep = Shape::new(3, 2, 2);
     let healthy = [0u8; 18];
-    check_row(
+    check_rows(
         rt,
         deep,
         &healthy,
         9,
         10,
-        b"\x80\x01\x81\0\0\0\0\0\x41\x01\x40\0\0\0\0\0\x01\0\0\0\0\0\0\0",
-    )?;
-    check_row(
-        rt,
-        deep,
-        &healthy,
-        9,
-        10,
-        b"\x82\x01\x81\0\0\0\0\0\x41\x01\x40\0\0\0\0\0\x01\0\0\0\0\0\0\0",
+        &[
+            b"\x80\x01\x81\0\0\0\0\0\x41\x01\x40\0\0\0\0\0\x01\0\0\0\0\0\0\0",
+            b"\x82\x01\x81\0\0\0\0\0\x41\x01\x40\0\0\0\0\0\x01\0\0\0\0\0\0\0",
+        ],
     )
 }

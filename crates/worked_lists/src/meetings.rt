@@ -1,5 +1,5 @@
 // Lists of routes that meet, or nearly do, checked: the pair, and the hops of its first meeting.
-use crate::checks::check_row;
+use crate::checks::{check_row, check_rows};
 use room::Shape;
 use std::io;
 
@@ -7,55 +7,40 @@ use std::io;
 pub(crate) fn shared(rt: &impl Print) -> io::Result<()> {
     let shape = Shape::full(2, 3);
     let table = [0u8; 16];
-    check_row(
+    check_rows(
         rt,
         shape,
         &table,
         0,
         15,
-        b"\x01\x41\x81\xc1\0\0\0\0\x41\x01\xc1\x81\0\0\0\0",
+        &[
+            b"\x01\x41\x81\xc1\0\0\0\0\x41\x01\xc1\x81\0\0\0\0",
+            b"\x01\x41\x81\xc1\0\0\0\0\x41\x81\xc1\x01\0\0\0\0",
+        ],
     )?;
-    check_row(
-        rt,
-        shape,
-        &table,
-        0,
-        15,
-        b"\x01\x41\x81\xc1\0\0\0\0\x41\x81\xc1\x01\0\0\0\0",
-    )?;
-    check_row(
+    check_rows(
         rt,
         shape,
         &table,
         0,
         3,
-        b"\x01\x41\0\0\0\0\0\0\x41\x01\0\0\0\0\0\0\x81\x01\x41\x80\0\0\0\0",
-    )?;
-    check_row(
-        rt,
-        shape,
-        &table,
-        0,
-        3,
-        b"\x01\x41\0\0\0\0\0\0\x41\x01\0\0\0\0\0\0\x41\x01\0\0\0\0\0\0\x01\x41\0\0\0\0\0\0",
+        &[
+            b"\x01\x41\0\0\0\0\0\0\x41\x01\0\0\0\0\0\0\x81\x01\x41\x80\0\0\0\0",
+            b"\x01\x41\0\0\0\0\0\0\x41\x01\0\0\0\0\0\0\x41\x01\0\0\0\0\0\0\x01\x41\0\0\0\0\0\0",
+        ],
     )?;
     let wide = Shape::full(3, 1);
     let healthy = [0u8; 9];
-    check_row(
+    check_rows(
         rt,
         wide,
         &healthy,
         0,
         8,
-        b"\x01\x41\x02\x42\0\0\0\0\x42\x02\0\0\0\0\0\0",
-    )?;
-    check_row(
-        rt,
-        wide,
-        &healthy,
-        0,
-        8,
-        b"\x42\x02\0\0\0\0\0\0\x02\x42\0\0\0\0\0\0",
+        &[
+            b"\x01\x41\x02\x42\0\0\0\0\x42\x02\0\0\0\0\0\0",
+            b"\x42\x02\0\0\0\0\0\0\x02\x42\0\0\0\0\0\0",
+        ],
     )
 }
 
@@ -73,37 +58,27 @@ pub(crate) fn twice(rt: &impl Print) -> io::Result<()> {
         7,
         b"\x41\x03\0\0\0\0\0\0\x02\x41\x03\0\0\0\0\0",
     )?;
-    check_row(
+    check_rows(
         rt,
         deep,
         &table,
         0,
         15,
-        b"\x01\x41\x81\xc1\0\0\0\0\x41\x81\x01\xc1\0\0\0\0",
+        &[
+            b"\x01\x41\x81\xc1\0\0\0\0\x41\x81\x01\xc1\0\0\0\0",
+            b"\x01\x41\x81\xc1\0\0\0\0\x41\x01\xc1\x40\xc0\x81\xc1\x41",
+        ],
     )?;
-    check_row(
-        rt,
-        deep,
-        &table,
-        0,
-        15,
-        b"\x01\x41\x81\xc1\0\0\0\0\x41\x01\xc1\x40\xc0\x81\xc1\x41",
-    )?;
-    check_row(
+    check_rows(
         rt,
         two,
         &[0; 8],
         0,
         7,
-        b"\x81\x41\x01\0\0\0\0\0\x41\x81\x40\x01\x41\0\0\0",
-    )?;
-    check_row(
-        rt,
-        two,
-        &[0; 8],
-        0,
-        7,
-        b"\x41\x81\x40\x01\x41\0\0\0\x81\x41\x01\0\0\0\0\0",
+        &[
+            b"\x81\x41\x01\0\0\0\0\0\x41\x81\x40\x01\x41\0\0\0",
+            b"\x41\x81\x40\x01\x41\0\0\0\x81\x41\x01\0\0\0\0\0",
+        ],
     )
 }
 
@@ -111,45 +86,28 @@ pub(crate) fn twice(rt: &impl Print) -> io::Result<()> {
 pub(crate) fn pairs(rt: &impl Print) -> io::Result<()> {
     let shape = Shape::full(2, 3);
     let table = [0u8; 16];
-    check_row(
+    check_rows(
         rt,
         shape,
         &table,
         0,
         15,
-        b"\x01\x41\x81\xc1\0\0\0\0\xc1\x81\x41\x01\0\0\0\0\x41\x01\xc1\x81\0\0\0\0",
+        &[
+            b"\x01\x41\x81\xc1\0\0\0\0\xc1\x81\x41\x01\0\0\0\0\x41\x01\xc1\x81\0\0\0\0",
+            b"\x01\x41\x81\xc1\0\0\0\0\x41\x81\x01\xc1\0\0\0\0\x01\x81\x41\xc1\0\0\0\0",
+            b"\x01\x41\x81\xc1\0\0\0\0\xc1\x81\x41\x01\0\0\0\0\xc1\x41\x01\xc0\x81\xc1\0\0",
+        ],
     )?;
-    check_row(
-        rt,
-        shape,
-        &table,
-        0,
-        15,
-        b"\x01\x41\x81\xc1\0\0\0\0\x41\x81\x01\xc1\0\0\0\0\x01\x81\x41\xc1\0\0\0\0",
-    )?;
-    check_row(
-        rt,
-        shape,
-        &table,
-        0,
-        15,
-        b"\x01\x41\x81\xc1\0\0\0\0\xc1\x81\x41\x01\0\0\0\0\xc1\x41\x01\xc0\x81\xc1\0\0",
-    )?;
-    check_row(
+    check_rows(
         rt,
         shape,
         &table,
         0,
         3,
-        b"\x01\x41\0\0\0\0\0\0\x41\x01\0\0\0\0\0\0\x81\x01\x41\x80\0\0\0\0\xc1\x81\x01\xc0\x41\x80\0\0",
-    )?;
-    check_row(
-        rt,
-        shape,
-        &table,
-        0,
-        3,
-        b"\x01\x41\0\0\0\0\0\0\x01\x41\0\0\0\0\0\0\x81\x01\x80\0\0\0\0\0",
+        &[
+            b"\x01\x41\0\0\0\0\0\0\x41\x01\0\0\0\0\0\0\x81\x01\x41\x80\0\0\0\0\xc1\x81\x01\xc0\x41\x80\0\0",
+            b"\x01\x41\0\0\0\0\0\0\x01\x41\0\0\0\0\0\0\x81\x01\x80\0\0\0\0\0",
+        ],
     )
 }
 
@@ -167,36 +125,26 @@ pub(crate) fn half_filled(rt: &impl Print) -> io::Result<()> {
         7,
         b"\x01\x41\x03\0\0\0\0\0\x41\x02\x40\x03\x41\0\0\0",
     )?;
-    check_row(
+    check_rows(
         rt,
         three,
         &[0; 18],
         0,
         10,
-        b"\x01\x81\0\0\0\0\0\0\x02\x41\x01\x40\x81\0\0\0",
+        &[
+            b"\x01\x81\0\0\0\0\0\0\x02\x41\x01\x40\x81\0\0\0",
+            b"\x02\x81\x01\0\0\0\0\0\x41\x02\x40\x01\x81\0\0\0",
+        ],
     )?;
-    check_row(
-        rt,
-        three,
-        &[0; 18],
-        0,
-        10,
-        b"\x02\x81\x01\0\0\0\0\0\x41\x02\x40\x01\x81\0\0\0",
-    )?;
-    check_row(
+    check_rows(
         rt,
         deep,
         &[0; 54],
         0,
         53,
-        b"\x41\x02\x82\0\x40\x02\xc1\x42\x01\x41\xc1\x02\xc0\x42\xc1\x82",
-    )?;
-    check_row(
-        rt,
-        deep,
-        &[0; 54],
-        0,
-        53,
-        b"\x02\x42\x82\xc1\0\0\0\0\x42\x82\xc1\x02\0\0\0\0\x81\x01\x82\0\x41\xc1\x02\x42\xc1\x41\x81\x42\x02\x40\x82\x42",
+        &[
+            b"\x41\x02\x82\0\x40\x02\xc1\x42\x01\x41\xc1\x02\xc0\x42\xc1\x82",
+            b"\x02\x42\x82\xc1\0\0\0\0\x42\x82\xc1\x02\0\0\0\0\x81\x01\x82\0\x41\xc1\x02\x42\xc1\x41\x81\x42\x02\x40\x82\x42",
+        ],
     )
 }

@@ -1,25 +1,24 @@
 // Picking a usable route.
+use refusals::Refused;
 use room::Shape;
 use std::io;
 
-fn pick_row<'a>(
+fn pick_row(
     rt: &impl Print,
     shape: Shape,
     table: &[u8],
     source: usize,
     destination: usize,
-    fresh: &'a [u8],
-    kept: &'a [u8],
+    fresh: &[u8],
+    kept: &[u8],
 ) -> io::Result<()> {
     print::question(rt, b"picked", shape)?;
     print::bytes(rt, table)?;
-    print::item(rt, source)?;
-    print::item(rt, destination)?;
+    print::all(rt, &[source, destination])?;
     print::bytes(rt, fresh)?;
     print::bytes(rt, kept)?;
-    let refusal = pick::pick_refusal(shape, table, source, destination, fresh, kept);
-    if refusal.number != 0 {
-        return print::refused(rt, refusal);
+    if let Err(reason) = pick::pick_refusal(shape, table, source, destination, fresh, kept) {
+        return print::refused(rt, Refused::from(reason));
     }
     print::text(rt, b" =")?;
     print::bytes(
@@ -29,97 +28,54 @@ fn pick_row<'a>(
     print::end(rt)
 }
 
+// A row for each of some pairs of lists, a fresh one and a kept one, between the same two servers.
+fn pick_rows(
+    rt: &impl Print,
+    shape: Shape,
+    table: &[u8],
+    source: usize,
+    destination: usize,
+    lists: &[(&[u8], &[u8])],
+) -> io::Result<()> {
+    for &(fresh, kept) in lists {
+        pick_row(rt, shape, table, source, destination, fresh, kept)?;
+    }
+    Ok(())
+}
+
 // Fresh before kept, the first that is usable, either list empty, lists that meet servers or switches again, which say no more
 // than 16, and every refusal in its order.
 pub(crate) fn picks(rt: &impl Print) -> io::Result<()> {
     let shape = Shape::full(4, 1);
     let table = [0u8; 16];
-    pick_row(
+    let falling: &[u8] = b"\x41\x03\0\0\0\0\0\0";
+    let rising: &[u8] = b"\x03\x41\0\0\0\0\0\0";
+    pick_rows(
         rt,
         shape,
         &table,
         0,
         7,
-        b"\x41\x03\0\0\0\0\0\0",
-        b"\x03\x41\0\0\0\0\0\0",
-    )?;
-    pick_row(
-        rt,
-        shape,
-        &table,
-        0,
-        7,
-        b"\x41\x43\0\0\0\0\0\0\x01\x41\x03\0\0\0\0\0",
-        b"\x03\x41\0\0\0\0\0\0",
-    )?;
-    pick_row(
-        rt,
-        shape,
-        &table,
-        0,
-        7,
-        b"\x41\x43\0\0\0\0\0\0\x03\x41\0\0\0\0\0\0",
-        b"\x41\x03\0\0\0\0\0\0",
-    )?;
-    pick_row(
-        rt,
-        shape,
-        &table,
-        0,
-        7,
-        b"",
-        b"\x41\x43\0\0\0\0\0\0\x03\x41\0\0\0\0\0\0",
-    )?;
-    pick_row(rt, shape, &table, 0, 7, b"\x41\x03\0\0\0\0\0\0", b"")?;
-    pick_row(rt, shape, &table, 0, 7, b"", b"")?;
-    pick_row(
-        rt,
-        shape,
-        &table,
-        0,
-        7,
-        b"\x41\x43\0\0\0\0\0\0",
-        b"\x41\x43\0\0\0\0\0\0",
-    )?;
-    pick_row(
-        rt,
-        shape,
-        &table,
-        0,
-        7,
-        b"\x01\0\x03\x41\0\0\0\0",
-        b"\x41\x43\x03\x41\0\0\0\0",
-    )?;
-    pick_row(
-        rt,
-        shape,
-        &table,
-        0,
-        7,
-        b"\x01\0\x03\x41\0\0\0\0",
-        b"\x03\x41\0\0\0\0\0\0\x03\x41\0\0\0\0\0\0",
-    )?;
-    pick_row(rt, shape, &table, 0, 7, b"\x41\x03\0\0\0\0\0", b"")?;
-    pick_row(
-        rt,
-        shape,
-        &table,
-        0,
-        7,
-        b"\x41\x03\0\0\0\0\0\0",
-        b"\x41\x03\0\0\0\0\0\0\x41",
+        &[
+            (falling, rising),
+            (b"\x41\x43\0\0\0\0\0\0\x01\x41\x03\0\0\0\0\0", rising),
+            (b"\x41\x43\0\0\0\0\0\0\x03\x41\0\0\0\0\0\0", falling),
+            (b"", b"\x41\x43\0\0\0\0\0\0\x03\x41\0\0\0\0\0\0"),
+            (falling, b""),
+            (b"", b""),
+            (b"\x41\x43\0\0\0\0\0\0", b"\x41\x43\0\0\0\0\0\0"),
+            (b"\x01\0\x03\x41\0\0\0\0", b"\x41\x43\x03\x41\0\0\0\0"),
+            (
+                b"\x01\0\x03\x41\0\0\0\0",
+                b"\x03\x41\0\0\0\0\0\0\x03\x41\0\0\0\0\0\0",
+            ),
+            (b"\x41\x03\0\0\0\0\0", b""),
+            (falling, b"\x41\x03\0\0\0\0\0\0\x41"),
+        ],
     )?;
     pick_row(rt, shape, &table, 7, 7, b"\0", b"\0")?;
     let dead = [0u8, 0, 0, 3, 0, 0, 0, 0, 0, 0, 0, 0, 0, 0, 0, 0];
-    pick_row(
-        rt,
-        shape,
-        &dead,
-        0,
-        7,
-        b"\x03\x41\0\0\0\0\0\0",
-        b"\x41\x03\0\0\0\0\0\0",
-    )?;
+    pick_row(rt, shape, &dead, 0, 7, rising, falling)?;
     let high = [4u8, 0, 0, 0, 0, 0, 0, 0, 0, 0, 0, 0, 0, 0, 0, 0];
     pick_row(rt, shape, &high, 0, 7, b"\x03", b"")
 }

@@ -1,5 +1,4 @@
 // One path byte by itself: made, and taken apart.
-use path::Parts;
 use room::Shape;
 use std::io;
 
@@ -13,16 +12,16 @@ fn byte_row(rt: &impl Print, shape: Shape, level: usize, value: usize) -> io::Re
 fn parts_row(rt: &impl Print, shape: Shape, byte: usize) -> io::Result<()> {
     print::question(rt, b"parts", shape)?;
     print::item(rt, byte)?;
-    let answer: Parts = path::parts_of(shape, byte);
-    let refusal = answer.refusal;
-    if refusal.number != 0 {
-        return print::refused(rt, refusal);
+    match path::parts_of(shape, byte) {
+        Ok(parts) => {
+            print::text(rt, b" = level")?;
+            print::item(rt, parts.level)?;
+            print::text(rt, b" value")?;
+            print::item(rt, parts.value)?;
+            print::end(rt)
+        }
+        Err(refused) => print::refused(rt, refused),
     }
-    print::text(rt, b" = level")?;
-    print::item(rt, answer.level)?;
-    print::text(rt, b" value")?;
-    print::item(rt, answer.value)?;
-    print::end(rt)
 }
 
 // The last values of a level, and the edges of 20 and 21, in a full and in half-filled rooms.

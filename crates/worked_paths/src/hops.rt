@@ -1,21 +1,14 @@
 // One hop by itself: where it leads, its level and the old value; and the hop of its way back.
 use path::Hop;
+use refusals::Refused;
 use room::Shape;
 use std::io;
 
 // The largest number that a call can be given.
 const MOST: usize = 18446744073709551615;
 
-fn hop_row(rt: &impl Print, shape: Shape, server: usize, byte: usize) -> io::Result<()> {
-    print::question(rt, b"hop", shape)?;
-    print::item(rt, server)?;
-    print::item(rt, byte)?;
-    print::text(rt, b" =")?;
-    let hop: Hop = path::hop_of(shape, server, byte);
-    let refusal = hop.refusal;
-    if refusal.number != 0 {
-        print::refused_item(rt, refusal)?;
-    }
+// What a hop tells.
+fn told(rt: &impl Print, hop: Hop) -> io::Result<()> {
     print::text(rt, b" next")?;
     print::item(rt, hop.next)?;
     print::text(rt, b" level")?;
@@ -25,14 +18,33 @@ fn hop_row(rt: &impl Print, shape: Shape, server: usize, byte: usize) -> io::Res
     print::end(rt)
 }
 
-// The next server of a hop and the path byte of its way back, which is the answer.
-fn back_from(rt: &impl Print, shape: Shape, hop: Hop) -> io::Result<usize> {
-    let byte = path::byte_of(shape, hop.level, hop.old);
-    print::text(rt, b" next")?;
-    print::item(rt, hop.next)?;
-    print::text(rt, b" byte")?;
-    print::item(rt, byte.value)?;
-    Ok(byte.value)
+// A hop, or the refusal and zeros.
+fn hop_row(rt: &impl Print, shape: Shape, server: usize, byte: usize) -> io::Result<()> {
+    print::question(rt, b"hop", shape)?;
+    print::item(rt, server)?;
+    print::item(rt, byte)?;
+    print::text(rt, b" =")?;
+    match path::hop_of(shape, server, byte) {
+        Ok(hop) => told(rt, hop),
+        Err(refused) => {
+            print::refused_item(rt, refused)?;
+            print::text(rt, b" next 0 level 0 old 0\n")
+        }
+    }
+}
+
+// The next server of a hop, and the path byte of its way back.
+fn turned(shape: Shape, server: usize, byte: usize) -> Result<(usize, usize), Refused> {
+    let hop = path::hop_of(shape, server, byte)?;
+    let back = path::byte_of(shape, hop.level, hop.old)?;
+    Ok((hop.next, back))
+}
+
+// The same of a hop, and then of the hop by its byte of the way back.
+fn turned_twice(shape: Shape, server: usize, byte: usize) -> Result<[(usize, usize); 2], Refused> {
+    let there = turned(shape, server, byte)?;
+    let again = turned(shape, there.0, there.1)?;
+    Ok([there, again])
 }
 
 // A hop, and the hop by its byte of the way back: it leads to the first server, and its own is the first byte.
@@ -40,11 +52,17 @@ fn back_row(rt: &impl Print, shape: Shape, server: usize, byte: usize) -> io::Re
     print::question(rt, b"back", shape)?;
     print::item(rt, server)?;
     print::item(rt, byte)?;
+    let hops = match turned_twice(shape, server, byte) {
+        Ok(hops) => hops,
+        Err(refused) => return print::refused(rt, refused),
+    };
     print::text(rt, b" =")?;
-    let hop: Hop = path::hop_of(shape, server, byte);
-    let there = back_from(rt, shape, hop)?;
-    let again: Hop = path::hop_of(shape, hop.next, there);
-    back_from(rt, shape, again)?;
+    for (next, back) in hops {
+        print::text(rt, b" next")?;
+        print::item(rt, next)?;
+        print::text(rt, b" byte")?;
+        print::item(rt, back)?;
+    }
     print::end(rt)
 }
 

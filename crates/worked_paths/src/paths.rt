@@ -1,5 +1,5 @@
 // Path bytes: read, written, reversed.
-use path::{Reading, Writing};
+use refusals::Refused;
 use room::Shape;
 use std::io;
 
@@ -14,15 +14,14 @@ fn read_row(
     print::item(rt, source)?;
     print::item(rt, destination)?;
     print::bytes(rt, path)?;
-    let answer: Reading = path::read_path(shape, source, destination, path);
-    let refusal = answer.refusal;
-    if refusal.number != 0 {
-        return print::refused(rt, refusal);
+    match path::read_path(shape, source, destination, path) {
+        Ok(reading) => {
+            print::text(rt, b" =")?;
+            print::items(rt, reading.servers, reading.count)?;
+            print::end(rt)
+        }
+        Err(refused) => print::refused(rt, refused),
     }
-    let servers = answer.servers;
-    print::text(rt, b" =")?;
-    print::items(rt, servers, answer.count)?;
-    print::end(rt)
 }
 
 // A row for each of the arrays, which stand one behind the other: a call for each would take the check longer.
@@ -33,26 +32,21 @@ fn read_rows(
     destination: usize,
     arrays: &[u8],
 ) -> io::Result<()> {
-    let count = arrays.len() / 8;
-    let mut i: usize = 0;
-    while i < count {
-        let at = 8 * i;
-        let end = at + 8;
-        read_row(rt, shape, source, destination, &arrays[at..end])?;
-        i += 1;
+    for path in arrays.chunks_exact(8) {
+        read_row(rt, shape, source, destination, path)?;
     }
     Ok(())
 }
 
-fn writing(rt: &impl Print, answer: Writing) -> io::Result<()> {
-    let refusal = answer.refusal;
-    if refusal.number != 0 {
-        return print::refused(rt, refusal);
+fn writing(rt: &impl Print, answer: Result<[u8; 8], Refused>) -> io::Result<()> {
+    match answer {
+        Ok(bytes) => {
+            print::text(rt, b" =")?;
+            print::bytes(rt, &bytes)?;
+            print::end(rt)
+        }
+        Err(refused) => print::refused(rt, refused),
     }
-    let bytes = answer.bytes;
-    print::text(rt, b" =")?;
-    print::bytes(rt, &bytes)?;
-    print::end(rt)
 }
 
 fn reverse_row(

@@ -1,17 +1,11 @@
 // One forwarding step, with one entry of the neighbour table filled.
+use refusals::Refused;
 use room::Shape;
 use std::io;
-use step::Step;
+use step::{Onward, Step};
 
 // The largest index that a step can be given.
 const MOST: usize = 18446744073709551615;
-
-// The six bytes of a MAC as hex.
-fn mac(rt: &impl Print, answer: Step) -> io::Result<()> {
-    let bytes = answer.mac;
-    print::text(rt, b" mac")?;
-    print::bytes(rt, &bytes)
-}
 
 // A step with a table whose entry 65 is filled, the path byte 41.
 fn step_row(
@@ -47,28 +41,45 @@ fn step_row(
     )
 }
 
-// All that a step answers: what is not answered at a refusal or a delivery is zero.
-pub(crate) fn answered(rt: &impl Print, answer: Step) -> io::Result<()> {
-    let refusal = answer.refusal;
-    print::text(rt, b" =")?;
-    if refusal.number != 0 {
-        print::refused_item(rt, refusal)?;
-    }
-    if answer.delivered {
-        print::text(rt, b" delivered")?;
-    }
+// Where a packet goes next.
+fn onward(rt: &impl Print, to: Onward) -> io::Result<()> {
     print::text(rt, b" next")?;
-    print::item(rt, answer.next)?;
+    print::item(rt, to.next)?;
     print::text(rt, b" index")?;
-    print::item(rt, answer.index)?;
-    mac(rt, answer)?;
+    print::item(rt, to.index)?;
+    print::text(rt, b" mac")?;
+    print::bytes(rt, &to.mac)?;
     print::text(rt, b" port")?;
-    print::item(rt, answer.port as usize)?;
+    print::item(rt, usize::from(to.port))?;
     print::text(rt, b" level")?;
-    print::item(rt, answer.level)?;
+    print::item(rt, to.level)?;
     print::text(rt, b" old")?;
-    print::item(rt, answer.old)?;
+    print::item(rt, to.old)?;
     print::end(rt)
+}
+
+// The zeros of a step that goes nowhere.
+fn nowhere(rt: &impl Print) -> io::Result<()> {
+    print::text(
+        rt,
+        b" next 0 index 0 mac 000000000000 port 0 level 0 old 0\n",
+    )
+}
+
+// All that a step answers: zeros beside a refusal or a delivery.
+pub(crate) fn answered(rt: &impl Print, answer: Result<Step, Refused>) -> io::Result<()> {
+    print::text(rt, b" =")?;
+    match answer {
+        Ok(Step::Onward(to)) => onward(rt, to),
+        Ok(Step::Delivered) => {
+            print::text(rt, b" delivered")?;
+            nowhere(rt)
+        }
+        Err(refused) => {
+            print::refused_item(rt, refused)?;
+            nowhere(rt)
+        }
+    }
 }
 
 // A step taken, a delivery with any index, and every refusal in its order.

@@ -1,19 +1,19 @@
 // Packets where each byte has an entry in the neighbour table: one step, and all steps to the destination with the path
 // bytes of their ways back, which are the packet's trace.
 use crate::steps::answered;
+use refusals::Refused;
 use room::Shape;
 use std::io;
-use step::Step;
+use step::{Onward, Step};
 
 // A neighbour table. The MAC of a byte's entry is the byte, its OutPort the byte's level, its flag 1.
 fn every_entry() -> [u8; 2048] {
     let mut table = [0u8; 2048];
-    let mut byte: usize = 0;
-    while byte < 256 {
-        table[8 * byte + 5] = byte as u8;
-        table[8 * byte + 6] = (byte / 64) as u8;
-        table[8 * byte + 7] = 1;
-        byte += 1;
+    for byte in 0..=u8::MAX {
+        let entry = 8 * usize::from(byte);
+        table[entry + 5] = byte;
+        table[entry + 6] = byte / 64;
+        table[entry + 7] = 1;
     }
     table
 }
@@ -40,12 +40,14 @@ fn step_row(
 }
 
 // Where a step leads, and the path byte of its way back.
-fn stepped(rt: &impl Print, shape: Shape, answer: Step) -> io::Result<()> {
-    let byte = path::byte_of(shape, answer.level, answer.old);
+fn stepped(rt: &impl Print, shape: Shape, to: Onward) -> io::Result<()> {
     print::text(rt, b" next")?;
-    print::item(rt, answer.next)?;
+    print::item(rt, to.next)?;
     print::text(rt, b" back")?;
-    print::hex(rt, byte.value)
+    match path::byte_of(shape, to.level, to.old) {
+        Ok(byte) => print::hex(rt, byte),
+        Err(reason) => print::refused_item(rt, Refused::from(reason)),
+    }
 }
 
 // Step after step from the source, until one is a delivery or refused.
@@ -59,20 +61,16 @@ fn forwarded(
     let table = every_entry();
     let mut here = source;
     let mut index: usize = 0;
-    let mut steps: usize = 0;
-    while steps < 9 {
-        let answer: Step = step::step_once(shape, here, destination, index, path, &table);
-        let refusal = answer.refusal;
-        if refusal.number != 0 {
-            return print::refused_item(rt, refusal);
+    for _ in 0..9 {
+        match step::step_once(shape, here, destination, index, path, &table) {
+            Ok(Step::Onward(to)) => {
+                stepped(rt, shape, to)?;
+                here = to.next;
+                index = to.index;
+            }
+            Ok(Step::Delivered) => return print::text(rt, b" delivered"),
+            Err(refused) => return print::refused_item(rt, refused),
         }
-        if answer.delivered {
-            return print::text(rt, b" delivered");
-        }
-        stepped(rt, shape, answer)?;
-        here = answer.next;
-        index = answer.index;
-        steps += 1;
     }
     Ok(())
 }
@@ -92,13 +90,9 @@ fn trace_row(
     print::text(rt, b" =")?;
     forwarded(rt, shape, source, destination, path)?;
     print::text(rt, b" reversed")?;
-    let turned = path::reverse_path(shape, source, destination, path);
-    let refusal = turned.refusal;
-    if refusal.number != 0 {
-        print::refused_item(rt, refusal)?;
-    } else {
-        let bytes = turned.bytes;
-        print::bytes(rt, &bytes)?;
+    match path::reverse_path(shape, source, destination, path) {
+        Ok(bytes) => print::bytes(rt, &bytes)?,
+        Err(refused) => print::refused_item(rt, refused)?,
     }
     print::end(rt)
 }

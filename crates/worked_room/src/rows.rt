@@ -1,5 +1,6 @@
 // One question each, printed with its answer.
-use room::{Between, Digits, Shape, Switch};
+use refusals::Refused;
+use room::Shape;
 use std::io;
 
 // The largest number that a call can be given.
@@ -22,18 +23,14 @@ pub(crate) fn bound_row(rt: &impl Print, shape: Shape, level: usize) -> io::Resu
 pub(crate) fn digits_row(rt: &impl Print, shape: Shape, server: usize) -> io::Result<()> {
     print::question(rt, b"digits", shape)?;
     print::item(rt, server)?;
-    let answer: Digits = room::digits_of(shape, server);
-    let refusal = answer.refusal;
-    if refusal.number != 0 {
-        return print::refused(rt, refusal);
+    match room::digits_of(shape, server) {
+        Ok(places) => {
+            print::text(rt, b" =")?;
+            print::all(rt, &places)?;
+            print::end(rt)
+        }
+        Err(reason) => print::refused(rt, Refused::from(reason)),
     }
-    let places = answer.places;
-    print::text(rt, b" =")?;
-    print::item(rt, places[0])?;
-    print::item(rt, places[1])?;
-    print::item(rt, places[2])?;
-    print::item(rt, places[3])?;
-    print::text(rt, b"\n")
 }
 
 // The digit of a server at a level.
@@ -52,10 +49,7 @@ pub(crate) fn digit_row(
 // The server that has four places.
 pub(crate) fn address_row(rt: &impl Print, shape: Shape, places: [usize; 4]) -> io::Result<()> {
     print::question(rt, b"address", shape)?;
-    print::item(rt, places[0])?;
-    print::item(rt, places[1])?;
-    print::item(rt, places[2])?;
-    print::item(rt, places[3])?;
+    print::all(rt, &places)?;
     print::answer(rt, room::address_of(shape, places))
 }
 
@@ -69,16 +63,16 @@ pub(crate) fn switch_row(
     print::question(rt, b"switch", shape)?;
     print::item(rt, server)?;
     print::item(rt, level)?;
-    let answer: Switch = room::switch_of(shape, server, level);
-    let refusal = answer.refusal;
-    if refusal.number != 0 {
-        return print::refused(rt, refusal);
+    match room::switch_of(shape, server, level) {
+        Ok(switch) => {
+            print::text(rt, b" = level")?;
+            print::item(rt, switch.level)?;
+            print::text(rt, b" number")?;
+            print::item(rt, switch.number)?;
+            print::end(rt)
+        }
+        Err(reason) => print::refused(rt, Refused::from(reason)),
     }
-    print::text(rt, b" = level")?;
-    print::item(rt, answer.level)?;
-    print::text(rt, b" number")?;
-    print::item(rt, answer.number)?;
-    print::text(rt, b"\n")
 }
 
 // How many switches a level has.
@@ -128,15 +122,13 @@ pub(crate) fn between_row(
     print::question(rt, b"between", shape)?;
     print::item(rt, one)?;
     print::item(rt, other)?;
-    let answer: Between = room::level_between(shape, one, other);
-    let refusal = answer.refusal;
-    if refusal.number != 0 {
-        return print::refused(rt, refusal);
+    match room::level_between(shape, one, other) {
+        Ok(Some(level)) => {
+            print::text(rt, b" = level")?;
+            print::item(rt, level)?;
+            print::end(rt)
+        }
+        Ok(None) => print::text(rt, b" = no neighbours\n"),
+        Err(reason) => print::refused(rt, Refused::from(reason)),
     }
-    if answer.adjacent {
-        print::text(rt, b" = level")?;
-        print::item(rt, answer.level)?;
-        return print::text(rt, b"\n");
-    }
-    print::text(rt, b" = no neighbours\n")
 }

@@ -1,4 +1,5 @@
 // The failed-link table, asked.
+use refusals::Refused;
 use room::Shape;
 use std::io;
 
@@ -13,15 +14,11 @@ fn failed_row(
     print::bytes(rt, table)?;
     print::item(rt, server)?;
     print::item(rt, level)?;
-    let answer = links::failed_link(shape, table, server, level);
-    let refusal = answer.refusal;
-    if refusal.number != 0 {
-        return print::refused(rt, refusal);
+    match links::failed_link(shape, table, server, level) {
+        Ok(true) => print::text(rt, b" = yes\n"),
+        Ok(false) => print::text(rt, b" = no\n"),
+        Err(reason) => print::refused(rt, Refused::from(reason)),
     }
-    if answer.failed {
-        return print::text(rt, b" = yes\n");
-    }
-    print::text(rt, b" = no\n")
 }
 
 // Links that are failed and links that are not, in a room of four servers.

@@ -1,36 +1,26 @@
 // Built routes.
 use build::RouteSet;
+use refusals::{Reason, Refused};
 use room::Shape;
 use std::io;
 
-// The arrays of a set, each with a space before it.
-pub(crate) fn arrays(rt: &impl Print, set: RouteSet) -> io::Result<()> {
-    let bytes = set.bytes;
-    let count = set.count;
-    let mut i: usize = 0;
-    while i < 4 {
-        if i < count {
-            let at = 8 * i;
-            let end = at + 8;
-            print::bytes(rt, &bytes[at..end])?;
-        }
-        i += 1;
+// "=" and the arrays of a set, each with a space before it; or the refusal.
+pub(crate) fn answered(rt: &impl Print, answer: Result<RouteSet, Reason>) -> io::Result<()> {
+    let set = match answer {
+        Ok(set) => set,
+        Err(reason) => return print::refused(rt, Refused::from(reason)),
+    };
+    print::text(rt, b" =")?;
+    for path in set.bytes.chunks_exact(8).take(set.count) {
+        print::bytes(rt, path)?;
     }
     print::end(rt)
 }
 
 fn build_row(rt: &impl Print, shape: Shape, source: usize, destination: usize) -> io::Result<()> {
     print::question(rt, b"build", shape)?;
-    print::item(rt, source)?;
-    print::item(rt, destination)?;
-    let answer = build::build_routes(shape, source, destination);
-    let refusal = answer.refusal;
-    if refusal.number != 0 {
-        return print::refused(rt, refusal);
-    }
-    let set = answer.routes;
-    print::text(rt, b" =")?;
-    arrays(rt, set)
+    print::all(rt, &[source, destination])?;
+    answered(rt, build::build_routes(shape, source, destination))
 }
 
 // Figure 4's four routes, the testbed's two, the smallest room, a detour past the last value, and refusals.
@@ -74,39 +64,28 @@ pub(crate) fn half_filled(rt: &impl Print) -> io::Result<()> {
 
 // Whether the built list of two servers is accepted.
 fn is_accepted(shape: Shape, table: &[u8], source: usize, destination: usize) -> bool {
-    let answer = build::build_routes(shape, source, destination);
-    let set = answer.routes;
-    let count = set.count;
-    if 4 < count {
-        return false;
+    match build::build_routes(shape, source, destination) {
+        Ok(set) if set.count <= RouteSet::MOST_ROUTES => {
+            let list = &set.bytes[..8 * set.count];
+            verdict::check_list(shape, table, source, destination, list).is_ok()
+        }
+        _ => false,
     }
-    let bytes = set.bytes;
-    let end = 8 * count;
-    let refusal = verdict::check_list(shape, table, source, destination, &bytes[..end]);
-    refusal.number == 0
 }
 
 // How many destinations of a server have a built list that is accepted.
 fn accepted_from(shape: Shape, table: &[u8], source: usize) -> usize {
-    let mut count: usize = 0;
-    let mut destination: usize = 0;
-    while destination < table.len() {
-        if is_accepted(shape, table, source, destination) {
-            count += 1;
-        }
-        destination += 1;
-    }
-    count
+    (0..table.len())
+        .filter(|&destination| is_accepted(shape, table, source, destination))
+        .count()
 }
 
 // For every server of a room with a healthy table, how many of its built lists are accepted.
 fn accepted_row(rt: &impl Print, shape: Shape, table: &[u8]) -> io::Result<()> {
     print::question(rt, b"accepted", shape)?;
     print::text(rt, b" =")?;
-    let mut source: usize = 0;
-    while source < table.len() {
+    for source in 0..table.len() {
         print::item(rt, accepted_from(shape, table, source))?;
-        source += 1;
     }
     print::end(rt)
 }

@@ -1,5 +1,5 @@
 // Selection around failed links.
-use crate::routes;
+use crate::routes::answered;
 use room::Shape;
 use std::io;
 
@@ -12,16 +12,8 @@ fn select_row(
 ) -> io::Result<()> {
     print::question(rt, b"select", shape)?;
     print::bytes(rt, table)?;
-    print::item(rt, source)?;
-    print::item(rt, destination)?;
-    let answer = select::select_routes(shape, table, source, destination);
-    let refusal = answer.refusal;
-    if refusal.number != 0 {
-        return print::refused(rt, refusal);
-    }
-    let set = answer.routes;
-    print::text(rt, b" =")?;
-    routes::arrays(rt, set)
+    print::all(rt, &[source, destination])?;
+    answered(rt, select::select_routes(shape, table, source, destination))
 }
 
 // A healthy room, a dead server, a dead switch, a dead end, and the refusals, in a room of sixteen servers.

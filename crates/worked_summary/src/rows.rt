@@ -1,10 +1,8 @@
 // One question each: its words, and the answer.
-use refusals::Refusal;
-use room::Shape;
+use refusals::{Reason, Refused};
+use room::{Shape, Switch};
 use std::io;
-use summary::{
-    DeadSwitch, clear_link, clear_server, dead_switch, mark_link, mark_server, summarize,
-};
+use summary::{clear_link, clear_server, dead_switch, mark_link, mark_server, summarize};
 
 // The largest number that a call can be given.
 pub(crate) const MOST: usize = 18446744073709551615;
@@ -23,30 +21,31 @@ fn asked(
 }
 
 // The table and the summary that a call leaves, or its refusal.
-fn left(rt: &impl Print, refusal: Refusal, table: &[u8], summary: &[u8]) -> io::Result<()> {
-    if refusal.number != 0 {
-        return print::refused(rt, refusal);
+fn left(rt: &impl Print, done: Result<(), Reason>, table: &[u8], summary: &[u8]) -> io::Result<()> {
+    match done {
+        Ok(()) => {
+            print::text(rt, b" =")?;
+            print::bytes(rt, table)?;
+            print::bytes(rt, summary)?;
+            print::end(rt)
+        }
+        Err(reason) => print::refused(rt, Refused::from(reason)),
     }
-    print::text(rt, b" =")?;
-    print::bytes(rt, table)?;
-    print::bytes(rt, summary)?;
-    print::end(rt)
 }
 
 // A dead switch, none, or the refusal.
-fn found(rt: &impl Print, answer: DeadSwitch) -> io::Result<()> {
-    let refusal = answer.refusal;
-    if refusal.number != 0 {
-        return print::refused(rt, refusal);
+fn found(rt: &impl Print, answer: Result<Option<Switch>, Reason>) -> io::Result<()> {
+    match answer {
+        Ok(Some(switch)) => {
+            print::text(rt, b" = level")?;
+            print::item(rt, switch.level)?;
+            print::text(rt, b" number")?;
+            print::item(rt, switch.number)?;
+            print::end(rt)
+        }
+        Ok(None) => print::text(rt, b" = none\n"),
+        Err(reason) => print::refused(rt, Refused::from(reason)),
     }
-    if answer.found {
-        print::text(rt, b" = level")?;
-        print::item(rt, answer.level)?;
-        print::text(rt, b" number")?;
-        print::item(rt, answer.number)?;
-        return print::end(rt);
-    }
-    print::text(rt, b" = none\n")
 }
 
 // A link marked.
@@ -61,8 +60,8 @@ pub(crate) fn mark_row(
     asked(rt, b"mark", shape, &*table, &*summary)?;
     print::item(rt, server)?;
     print::item(rt, level)?;
-    let refusal = mark_link(shape, &mut *table, &mut *summary, server, level);
-    left(rt, refusal, &*table, &*summary)
+    let done = mark_link(shape, &mut *table, &mut *summary, server, level);
+    left(rt, done, &*table, &*summary)
 }
 
 // A link cleared.
@@ -77,8 +76,8 @@ pub(crate) fn clear_row(
     asked(rt, b"clear", shape, &*table, &*summary)?;
     print::item(rt, server)?;
     print::item(rt, level)?;
-    let refusal = clear_link(shape, &mut *table, &mut *summary, server, level);
-    left(rt, refusal, &*table, &*summary)
+    let done = clear_link(shape, &mut *table, &mut *summary, server, level);
+    left(rt, done, &*table, &*summary)
 }
 
 // All links of a server marked.
@@ -91,8 +90,8 @@ pub(crate) fn mark_server_row(
 ) -> io::Result<()> {
     asked(rt, b"mark_server", shape, &*table, &*summary)?;
     print::item(rt, server)?;
-    let refusal = mark_server(shape, &mut *table, &mut *summary, server);
-    left(rt, refusal, &*table, &*summary)
+    let done = mark_server(shape, &mut *table, &mut *summary, server);
+    left(rt, done, &*table, &*summary)
 }
 
 // All links of a server cleared.
@@ -105,8 +104,8 @@ pub(crate) fn clear_server_row(
 ) -> io::Result<()> {
     asked(rt, b"clear_server", shape, &*table, &*summary)?;
     print::item(rt, server)?;
-    let refusal = clear_server(shape, &mut *table, &mut *summary, server);
-    left(rt, refusal, &*table, &*summary)
+    let done = clear_server(shape, &mut *table, &mut *summary, server);
+    left(rt, done, &*table, &*summary)
 }
 
 // The first dead switch.
@@ -128,13 +127,14 @@ pub(crate) fn fresh_row(
     summary: &mut [u8],
 ) -> io::Result<()> {
     asked(rt, b"fresh", shape, table, &*summary)?;
-    let refusal = summarize(shape, table, &mut *summary);
-    if refusal.number != 0 {
-        return print::refused(rt, refusal);
+    match summarize(shape, table, &mut *summary) {
+        Ok(()) => {
+            print::text(rt, b" =")?;
+            print::bytes(rt, &*summary)?;
+            print::end(rt)
+        }
+        Err(reason) => print::refused(rt, Refused::from(reason)),
     }
-    print::text(rt, b" =")?;
-    print::bytes(rt, &*summary)?;
-    print::end(rt)
 }
 
 // The first dead switch, the buffers being as many zeros as their lengths say.

@@ -22,10 +22,8 @@ fn parent_row(
 
 // A row for each tree that a room of four levels has, and for the one after them.
 fn tree_rows(rt: &impl Print, shape: Shape, source: usize, server: usize) -> io::Result<()> {
-    let mut tree: usize = 0;
-    while tree < 5 {
+    for tree in 0..5 {
         parent_row(rt, shape, source, tree, server)?;
-        tree += 1;
     }
     Ok(())
 }

@@ -12,18 +12,14 @@ fn climbed(
     server: usize,
 ) -> io::Result<usize> {
     let mut at = server;
-    let mut steps: usize = 0;
-    while steps < 4096 {
-        let answer = trees::parent_of(shape, source, tree, at);
-        let refusal = answer.refusal;
-        if refusal.number != 0 {
+    for steps in 0..4096 {
+        let Ok(parent) = trees::parent_of(shape, source, tree, at) else {
             return Ok(steps);
-        }
-        at = answer.value;
+        };
+        at = parent;
         print::item(rt, at)?;
-        steps += 1;
     }
-    Ok(steps)
+    Ok(4096)
 }
 
 // The way of one server.
@@ -61,41 +57,30 @@ pub(crate) fn farthest(rt: &impl Print) -> io::Result<()> {
 // The steps by the numbers of a tree, from one of them on until one is no place: the source's.
 fn steps_from(parents: &[u32], first: usize) -> usize {
     let mut at = first;
-    let mut steps: usize = 0;
-    while steps < 4096 {
-        if parents.len() <= at {
+    for steps in 0..4096 {
+        let Some(&parent) = parents.get(at) else {
             return steps;
-        }
-        at = wide(parents[at]);
-        steps += 1;
+        };
+        at = wide(parent);
     }
-    steps
+    4096
 }
 
 // The most steps from any server of the room.
 fn most_steps(parents: [u32; 4096], count: usize) -> usize {
-    let mut most: usize = 0;
-    let mut server: usize = 0;
-    while server < count {
-        if server < 4096 {
-            let first = wide(parents[server]);
-            let steps = steps_from(&parents, first);
-            if most < steps {
-                most = steps;
-            }
-        }
-        server += 1;
-    }
-    most
+    parents
+        .iter()
+        .take(count)
+        .map(|&first| steps_from(&parents, wide(first)))
+        .max()
+        .unwrap_or(0)
 }
 
 // The most steps in one tree, if the room has it.
 fn most_item(rt: &impl Print, shape: Shape, source: usize, tree: usize) -> io::Result<()> {
     let mut parents = [0u32; 4096];
-    let answer = trees::write_tree(shape, source, tree, &mut parents);
-    let refusal = answer.refusal;
-    if refusal.number == 0 {
-        print::item(rt, most_steps(parents, answer.value))?;
+    if let Ok(count) = trees::write_tree(shape, source, tree, &mut parents) {
+        print::item(rt, most_steps(parents, count))?;
     }
     Ok(())
 }
@@ -105,10 +90,8 @@ fn most_row(rt: &impl Print, shape: Shape, source: usize) -> io::Result<()> {
     print::question(rt, b"most", shape)?;
     print::item(rt, source)?;
     print::text(rt, b" =")?;
-    let mut tree: usize = 0;
-    while tree < 4 {
+    for tree in 0..4 {
         most_item(rt, shape, source, tree)?;
-        tree += 1;
     }
     print::end(rt)
 }

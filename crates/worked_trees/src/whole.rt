@@ -1,5 +1,6 @@
 // Trees written whole, into numbers that are all 7 before.
 use crate::parents::MOST;
+use refusals::Refused;
 use room::Shape;
 use std::io;
 
@@ -10,27 +11,19 @@ pub(crate) fn wide(x: u32) -> usize {
 
 // The numbers from one place to before another, each with a space before it.
 fn numbers(rt: &impl Print, parents: [u32; 4096], from: usize, to: usize) -> io::Result<()> {
-    let mut place = from;
-    while place < to {
-        if place < 4096 {
-            print::item(rt, wide(parents[place]))?;
-        }
-        place += 1;
+    for &number in parents.iter().take(to).skip(from) {
+        print::item(rt, wide(number))?;
     }
     Ok(())
 }
 
 // How many of the numbers from a place on are a given one.
 fn holding(parents: [u32; 4096], from: usize, number: u32) -> usize {
-    let mut count: usize = 0;
-    let mut place = from;
-    while place < 4096 {
-        if parents[place] == number {
-            count += 1;
-        }
-        place += 1;
-    }
-    count
+    parents
+        .iter()
+        .skip(from)
+        .filter(|&&held| held == number)
+        .count()
 }
 
 // The servers of the room, the numbers from one place to before another, and how many zeros are past the last server.
@@ -50,30 +43,27 @@ fn tree_row(
     print::item(rt, to)?;
     print::text(rt, b" =")?;
     let mut parents = [7u32; 4096];
-    let answer = trees::write_tree(shape, source, tree, &mut parents);
-    let refusal = answer.refusal;
-    if refusal.number != 0 {
-        print::refused_item(rt, refusal)?;
-        print::text(rt, b" kept")?;
-        print::item(rt, holding(parents, 0, 7))?;
-    } else {
-        print::item(rt, answer.value)?;
-        print::text(rt, b" numbers")?;
-        numbers(rt, parents, from, to)?;
-        print::text(rt, b" zeros")?;
-        print::item(rt, holding(parents, answer.value, 0))?;
+    match trees::write_tree(shape, source, tree, &mut parents) {
+        Ok(count) => {
+            print::item(rt, count)?;
+            print::text(rt, b" numbers")?;
+            numbers(rt, parents, from, to)?;
+            print::text(rt, b" zeros")?;
+            print::item(rt, holding(parents, count, 0))?;
+        }
+        Err(reason) => {
+            print::refused_item(rt, Refused::from(reason))?;
+            print::text(rt, b" kept")?;
+            print::item(rt, holding(parents, 0, 7))?;
+        }
     }
     print::end(rt)
 }
 
 // A row for each tree of a source, its numbers from the first to before a place.
 fn all_trees(rt: &impl Print, shape: Shape, source: usize, to: usize) -> io::Result<()> {
-    let mut tree: usize = 0;
-    while tree < 4 {
-        if tree <= shape.k {
-            tree_row(rt, shape, source, tree, 0, to)?;
-        }
-        tree += 1;
+    for tree in 0..=shape.k {
+        tree_row(rt, shape, source, tree, 0, to)?;
     }
     Ok(())
 }

@@ -8,8 +8,7 @@ use native.Mathlib.Omega.{arith}
 use lib.Dec.{eqb}
 use lib.ListN.{get_or}
 use Rattle.lists.specs.Lists.{is_in, first_where, place_in, filled}
-use Rattle.refusals.specs.declared.Refusal.{Refusal}
-use Rattle.refusals.specs.Refusals.{plain, refused_at, earlier_route, earlier_hop, ◌or_else◌}
+use Rattle.refusals.specs.Refusals.{Refusal, plain, refused_at, earlier_route, earlier_hop, ◌or_else◌}
 use Rattle.refusals.proofs.AnswerLaws.{answer-none}
 use Rattle.room.specs.declared.Shape.{Shape}
 use Rattle.room.specs.Shapes.{servers_of, bound, shape_of, full_room}
@@ -17,17 +16,15 @@ use Rattle.room.specs.Digits.{digits_of, address_of, differ_from}
 use Rattle.room.specs.Addresses.{digits, digit, with_digit, switch_of, differing}
 use Rattle.room.specs.Refusals.{shape_refusal, server_refusal, pair_refusal, ends_refusal}
 use Rattle.links.specs.Table.{bit, failed, live, bits_fit, fits_levels, table_refusal, room_refusal}
-use Rattle.path.specs.declared.Walked.{Walked}
-use Rattle.path.specs.declared.Reading.{Reading}
-use Rattle.path.specs.declared.Writing.{Writing}
+use Rattle.path.specs.Told.{Walked, Reading, Writing}
 use Rattle.path.specs.Routes.{switch_at, level_to, switch_to}
 use Rattle.path.specs.Walks.{hop_to, hop_refusal, again, earlier_of, fault, ended, walk_from, walk, write_fault, write_from}
 use Rattle.path.specs.Answers.{array_refusal, walk_answer, read_answer, reverse_answer, servers_refusal, write_refusal, on_the_way, write_answer}
 use Rattle.verdict.specs.Checks.{arrays, first_stop, first_of, list_refusal, walks_of, check_answer}
 use Rattle.laying.specs.Answers.{lay_refusal}
-use Rattle.pick.specs.declared.Place.{Place}
+use Rattle.pick.specs.Told.{Place}
 use Rattle.pick.specs.Places.{place_answer}
-use Rattle.step.specs.declared.Step.{Step}
+use Rattle.step.specs.Told.{Step}
 use Rattle.driver.specs.declared.Answer.{Answer}
 use Rattle.driver.specs.Rooms.{held, room_of, shape_in}
 use Rattle.driver.specs.Words.{word, refusal_in, Small, left}

@@ -23,6 +23,10 @@ clash_left i n p e = differ (λ (l : List ℕ). get_or l i 0) n (sym p ∙ e)
 pub tells : {R : Type 0} (f : R → ℕ) {r a : R} {v : ℕ} → eqb (f a) v ≡ false → r ≡ a → f r ≡ v → ⊥
 tells f {r} {a} {v} n p e = eqb-false (f a) v n (sym (ap f p) ∙ e)
 
+-- what a call tells is the answer a, and so not the wrong v
+pub clash_told : {K X R Y : Type 0} (told : R → Y) (f : Y → ℕ) {a v : Y} → eqb (f a) (f v) ≡ false → K → (r : R) → X → told r ≡ a → told r ≡ v → ⊥
+clash_told told f n κ r x p e = differ f n (sym p ∙ e)
+
 -- a truth value as a number
 abbrev pub bit : Bool → ℕ
 bit b = cond b 1 0

@@ -9,8 +9,7 @@ use native.Mathlib.Decide.{ℕ_discrete}
 use lib.Dec.{eqb}
 use lib.ListN.{length, get_or, take}
 use Rattle.lists.specs.Lists.{filled, is_in, first_where, place_in, same, in_turn, middle}
-use Rattle.refusals.specs.declared.Refusal.{Refusal}
-use Rattle.refusals.specs.Refusals.{plain, ◌or_else◌}
+use Rattle.refusals.specs.Refusals.{Refusal, plain, ◌or_else◌}
 use Rattle.room.specs.declared.Shape.{Shape}
 use Rattle.room.specs.Shapes.{servers_of, bound, full_room}
 use Rattle.room.specs.Digits.{digits_of, address_of, differ_from}
@@ -35,15 +34,15 @@ use Rattle.verdict.specs.Checks.{arrays, disjoint, switches_in, between, paralle
 use Rattle.build.specs.Built.{plus_one, built_hops, bytes_of as builtBytesOf, built_bytes, built_arrays}
 use Rattle.build.specs.Sets.{joined, set_of, array_in}
 use Rattle.build.specs.Answers.{build_answer}
-use Rattle.finder.specs.declared.Found.{Found}
+use Rattle.finder.specs.Told.{Found}
 use Rattle.finder.specs.Alternates.{hop_bytes, Before}
 use Rattle.finder.specs.Answers.{Finding}
-use Rattle.select.specs.declared.Selection.{Selection}
+use Rattle.select.specs.Told.{Selection}
 use Rattle.select.specs.Selection.{Selecting}
 use Rattle.select.proofs.SelectLaws.{none-selected-exactly}
 use Rattle.pick.specs.Picks.{usable, first_usable, first_usable_in, found, fits, lists_refusal, pick_source, pick_refusal}
 use Rattle.pick.specs.Places.{place_answer}
-use Rattle.step.specs.declared.Step.{Step}
+use Rattle.step.specs.Told.{Step}
 use Rattle.step.specs.Steps.{entry, mac_at, port_at, flag_at, given_refusal, byte_refusal, away_refusal, step_refusal, at_hop, with_place, step_answer}
 use Rattle.driver.specs.declared.Room.{Room}
 use Rattle.driver.specs.declared.Answer.{Answer}

@@ -10,15 +10,13 @@ use lib.ListN.{length, get_or}
 use Rattle.lists.specs.Lists.{is_in}
 use Rattle.lists.proofs.ListLaws.{length_snoc}
 use Rattle.lists.proofs.FirstPlaces.{place-in}
-use Rattle.refusals.specs.declared.Refusal.{Refusal}
-use Rattle.refusals.specs.Refusals.{none, plain, refused_at, of_route, earlier_route, earlier_hop, ◌or_else◌, ◌unless◌, answer}
+use Rattle.refusals.specs.Refusals.{Refusal, none, plain, refused_at, of_route, earlier_route, earlier_hop, ◌or_else◌, ◌unless◌, answer}
 use Rattle.refusals.proofs.NumberLaws.{test_one, chain_one, one_passes}
 use Rattle.room.specs.declared.Shape.{Shape}
 use Rattle.room.specs.Addresses.{differing}
 use Rattle.links.specs.Table.{live, room_refusal}
 use Rattle.links.proofs.NumberLaws.{room-numbers}
-use Rattle.path.specs.declared.Walked.{Walked}
-use Rattle.path.specs.declared.Writing.{Writing}
+use Rattle.path.specs.Told.{Walked, Writing}
 use Rattle.path.specs.Routes.{level_of, switch_at, switch_to}
 use Rattle.path.specs.Walks.{Walk, stopped, arrived, hop_to, hop_refusal, again, stops_at, fault, ended, walk_from, walk, write_fault, write_from, single}
 use Rattle.path.specs.Answers.{no_walk, walked, walk_answer, no_writing, array_refusal, read_answer, reversed, reverse_answer, write_refusal, written, on_the_way, write_answer}
@@ -31,7 +29,7 @@ use Rattle.laying.specs.Answers.{lay_refusal}
 use Rattle.pick.specs.Picks.{Source, in_fresh, in_kept, nowhere, pick_source, pick_refusal, pick_answer}
 use Rattle.pick.specs.Places.{place_of, place_answer}
 use Rattle.pick.proofs.NumberLaws.{pick-numbers}
-use Rattle.step.specs.declared.Step.{Step}
+use Rattle.step.specs.Told.{Step}
 use Rattle.step.specs.Steps.{step_refusal, at_hop, with_place, no_step, delivery, forwarded, step_answer}
 use Rattle.step.proofs.NumberLaws.{step-numbers}
 

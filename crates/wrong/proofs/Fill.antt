@@ -9,51 +9,43 @@ use lib.Dec.{eqb}
 use lib.ListN.{replicate}
 use Rattle.lists.specs.Lists.{filled, is_in}
 use Rattle.lists.proofs.ListLaws.{both_held}
-use Rattle.refusals.specs.declared.Refusal.{Refusal}
-use Rattle.refusals.specs.Refusals.{plain, ◌or_else◌}
+use Rattle.refusals.specs.Refusals.{Refusal, plain, ◌or_else◌}
 use Rattle.room.specs.declared.Shape.{Shape}
-use Rattle.room.specs.declared.Number.{Number}
-use Rattle.room.specs.declared.Digits.{Digits}
-use Rattle.room.specs.declared.Switch.{Switch}
-use Rattle.room.specs.declared.Between.{Between}
+use Rattle.room.specs.Told.{Number, Digits, Switch, Between}
 use Rattle.room.specs.Shapes.{servers_of, bound}
 use Rattle.room.specs.Digits.{digits_of, address_of, differ_from}
 use Rattle.room.specs.Addresses.{digits, digit, with_digit, switch_of, switches_at, differing}
 use Rattle.room.specs.Refusals.{shape_refusal, level_refusal, server_refusal, pair_refusal, link_refusal, value_refusal, place_bound, places_fit, places_refusal, ends_refusal}
 use Rattle.room.specs.Answers.{servers_answer, bound_answer, digits_answer, digit_answer, address_answer, switch_answer, neighbour_answer, between_answer}
 use Rattle.room.specs.Wiring.{server_at, port_refusal, switches_answer, server_at_answer}
-use Rattle.links.specs.declared.Asked.{Asked}
+use Rattle.links.specs.Told.{Asked}
 use Rattle.links.specs.Table as links
 use Rattle.links.specs.Table.{room_refusal}
 use Rattle.links.specs.Answers.{failed_answer}
 use Rattle.trees.specs.Trees.{level_at, last_apart, lowered_at, hangs_at, lowered, parent_of}
 use Rattle.trees.specs.Answers.{parent_refusal, parent_answer, tree_answer}
-use Rattle.summary.specs.declared.DeadSwitch.{DeadSwitch}
+use Rattle.summary.specs.Told.{DeadSwitch}
 use Rattle.summary.specs.Refusals.{counted_link_refusal, counted_server_refusal, summary_refusal, entries_refusal}
 use Rattle.summary.specs.Answers.{link_answer, server_answer, dead_answer, fresh_answer}
-use Rattle.path.specs.declared.Parts.{Parts}
-use Rattle.path.specs.declared.Hop.{Hop}
-use Rattle.path.specs.declared.Walked.{Walked}
-use Rattle.path.specs.declared.Reading.{Reading}
-use Rattle.path.specs.declared.Writing.{Writing}
+use Rattle.path.specs.Told.{Parts, Hop, Walked, Reading, Writing}
 use Rattle.path.specs.Routes.{byte_of}
 use Rattle.path.specs.Walks.{hop_to, hop_refusal, again, fault, ended, walk_from, walk, write_fault, write_from}
 use Rattle.path.specs.Bytes.{made_refusal, byte_answer, parts_refusal, parts_answer}
 use Rattle.path.specs.Answers.{array_refusal, walk_answer, read_answer, reverse_answer, hop_from, hop_answer, servers_refusal, write_refusal, on_the_way, write_answer}
 use Rattle.verdict.specs.Checks.{list_refusal, check_answer}
-use Rattle.build.specs.declared.Building.{Building}
+use Rattle.build.specs.Told.{Building}
 use Rattle.build.specs.Built.{built_arrays}
 use Rattle.build.specs.Sets.{set_of}
 use Rattle.build.specs.Answers.{build_answer}
 use Rattle.laying.specs.Answers.{lay_refusal}
-use Rattle.finder.specs.declared.Found.{Found}
+use Rattle.finder.specs.Told.{Found}
 use Rattle.finder.specs.Answers.{no_route}
-use Rattle.select.specs.declared.Selection.{Selection}
+use Rattle.select.specs.Told.{Selection}
 use Rattle.select.specs.Selection.{no_selection}
-use Rattle.pick.specs.declared.Place.{Place}
+use Rattle.pick.specs.Told.{Place}
 use Rattle.pick.specs.Picks.{lists_refusal, pick_source, pick_refusal, pick_answer}
 use Rattle.pick.specs.Places.{place_answer}
-use Rattle.step.specs.declared.Step as declared
+use Rattle.step.specs.Told as declared
 use Rattle.step.specs.Steps.{given_refusal, step_refusal, at_hop, with_place, step_answer}
 use Rattle.driver.specs.declared.Answer.{Answer}
 use Rattle.driver.specs.declared.Stepped.{Stepped}
@@ -144,7 +136,7 @@ wrong_fill o q b =
       check_list = λ s v m κ y x. never number (λ s. check_answer s [] 0 1 (array (0x01 ∷ []))) refl s v m;
       build_routes = λ s v m κ y x. never (λ (y : Building). y.refusal.number) (λ s. build_answer s 0 1) refl s v m;
       lay_route = λ s v m κ y x p. never number (λ s. lay_refusal s [] 0 1 (array (0x01 ∷ []))) refl s v m p.refusal;
-      find_route = λ s v m κ y x p. never (λ (y : Found). y.refusal.number) (λ s. no_route (room_refusal s [] 0 1)) refl s v m (p.refused (refused (λ s. s) refl s v m));
+      find_route = λ s v m κ y x p. never (λ (y : Found). y.refusal.number) (λ s. no_route (room_refusal s [] 0 1)) refl s v m (p.0.refused (refused (λ s. s) refl s v m));
       select_routes = λ s v m κ y x p. never (λ (y : Selection). y.refusal.number) (λ s. no_selection (room_refusal s [] 0 1)) refl s v m (p.refused (refused (λ s. s) refl s v m));
       pick_place = λ s v m κ y x. never (λ (y : Place). y.refusal.number) (λ s. place_answer s [] 0 1 (array (0x01 ∷ [])) []) refl s v m;
       pick-refusal = λ s v m κ y x. never number (λ s. pick_answer s [] 0 1 (array (0x01 ∷ [])) []) refl s v m;

@@ -5,8 +5,7 @@ use mathlib.Core.Bool.{false, ◌||◌}
 use mathlib.Core.List.{List, [], ◌∷◌}
 use lib.Dec.{eqb}
 use Rattle.lists.specs.Lists.{is_in, in_turn, middle, filled}
-use Rattle.refusals.specs.declared.Refusal.{Refusal}
-use Rattle.refusals.specs.Refusals.{◌or_else◌}
+use Rattle.refusals.specs.Refusals.{Refusal, ◌or_else◌}
 use Rattle.room.specs.declared.Shape.{Shape}
 use Rattle.room.specs.Shapes.{servers_of, bound}
 use Rattle.room.specs.Digits.{digits_of, address_of, differ_from}
@@ -38,9 +37,9 @@ pub wrong_laying : (o q : Loan) → Laying o q
 unfolding servers_of bound digits_of address_of differ_from digits digit with_digit switch_of differing ◌or_else◌ shape_refusal level_refusal server_refusal pair_refusal link_refusal bit failed live bits_fit fits_levels table_refusal is_in in_turn middle filled byte_of switch_at level_to switch_to byte_to switches_of encode hop_to hop_refusal again fault ended walk_from walk ends_refusal array_refusal walk_answer read_answer takes taken room_refusal lay_refusal
 wrong_laying o q =
     record {
-      short_table_taken = λ κ x p. differ (λ (y : Refusal). y.number) refl p.refusal;
-      array_before_table = λ κ x p. differ (λ (y : Refusal). y.number) refl p.refusal;
-      failed_link_refused = λ κ x p. differ (λ (y : Refusal). y.number) refl p.refusal;
+      short_table_taken = λ κ r x p e. differ (λ (y : Refusal). y.number) refl (sym e ∙ p.refusal);
+      array_before_table = λ κ r x p e. differ (λ (y : Refusal). y.number) refl (sym e ∙ p.refusal);
+      failed_link_refused = λ κ r x p e. differ (λ (y : Refusal). y.number) refl (sym e ∙ p.refusal);
       lays_nothing = λ κ r x p. not-laid p (walks direct _ _ refl refl refl) refl refl 4 0 refl refl;
       switches_forgotten = λ κ r x p. not-laid p (walks direct _ _ refl refl refl) refl refl 5 0 refl refl;
       middle_servers_forgotten = λ κ r x p. not-laid p (walks (array (0x81 ∷ 0x41 ∷ [])) _ _ refl refl refl) refl refl 4 0 refl refl;
@@ -50,7 +49,7 @@ wrong_laying o q =
       bits_exchanged = λ κ r x p. not-laid p (walks direct _ _ refl refl refl) refl refl 0 0 refl refl;
       earlier_mark_lost = λ κ r x p. not-laid p (walks direct _ _ refl refl refl) refl refl 15 0 refl refl;
       laid_on_refusal = λ κ r x p. clash_left 0 refl (p.kept (λ z. differ (λ y. y) refl (sym z ∙ number p)));
-      full_table_taken = λ κ x p. differ (λ (y : Refusal). y.number) refl p.refusal;
-      value_m_laid = λ κ x p. differ (λ (y : Refusal). y.number) refl p.refusal;
+      full_table_taken = λ κ r x p e. differ (λ (y : Refusal). y.number) refl (sym e ∙ p.refusal);
+      value_m_laid = λ κ r x p e. differ (λ (y : Refusal). y.number) refl (sym e ∙ p.refusal);
       m_servers_at_level_0 = λ κ r x p. not-laid p (walks direct _ _ refl refl refl) refl refl 6 0 refl refl;
     }

@@ -1,5 +1,6 @@
 pub mod Clash
 pub mod Routes
+pub mod Numbers
 pub mod Helpers
 pub mod Room
 pub mod Links

@@ -6,9 +6,10 @@ use mathlib.Core.List.Memᴰ
 use mathlib.Core.List.{List, [], ◌∷◌, ◌++◌, Memᴰ as In}
 use native.Mathlib.Omega.{arith}
 use lib.ListN.{length, get_or}
+use Rattle.std.specs.Prelude.{Result}
 use Rattle.lists.specs.Lists.{is_in, in_turn, middle, filled}
-use Rattle.refusals.specs.declared.Refusal.{Refusal}
-use Rattle.refusals.specs.Refusals.{◌or_else◌}
+use Rattle.refusals.specs.declared.Reason.{Reason}
+use Rattle.refusals.specs.Refusals.{Refusal, ◌or_else◌}
 use Rattle.room.specs.declared.Shape.{Shape}
 use Rattle.room.specs.Shapes.{servers_of, bound, full_room}
 use Rattle.room.specs.Digits.{digits_of, address_of, differ_from}
@@ -24,7 +25,7 @@ use Rattle.build.specs.Built.{plus_one, built_hops, met_by, built_route}
 use Rattle.build.specs.Sets.{joined, set_of, array_in}
 use Rattle.laying.specs.Avoids.{Avoids}
 use Rattle.finder.specs.Alternates.{hop_bytes, Before}
-use Rattle.select.specs.declared.Selection.{Selection}
+use Rattle.select.specs.Told.{Selection}
 use Rattle.select.specs.Avoided.{avoided}
 use Rattle.select.specs.Selection.{Unbroken, Slot, kept, replaced, nothing, selection, GivesRoutes, Selecting}
 use Rattle.select.proofs.HeldLaws.{route-array, set-count}
@@ -34,6 +35,7 @@ use Rattle.select.proofs.SelectLaws.{Gives, gives, selection_checked, none-selec
 use Rattle.wrong.specs.Never.{Loan}
 use Rattle.wrong.specs.Examples.{array, failing, both_broken, direct, other}
 use Rattle.wrong.specs.Select.{Select}
+use Rattle.wrong.specs.Told.{selection_told}
 use Rattle.wrong.proofs.Clash.{differ, bit as truth}
 use Rattle.wrong.proofs.Routes.{Walks, walks, parallel_walks, never_stops, same_route}
 
@@ -185,23 +187,27 @@ two-routes h n c w = let k = (given h n).slots in go k.0 k.2.0 k.1 k.2.1 k.2.2
 
 -- ---- all of them
 
+-- a call tells what its contract says, and so not v, of which that is not so
+refute : {K X : Type 0} {s : Shape} {t : List ℕ} {a d : ℕ} {v : Selection} → (Selecting s t a d v → ⊥) → K → (r : Result RouteSet Reason) → X → Selecting s t a d (selection_told r) → selection_told r ≡ v → ⊥
+refute f κ r x h e = f (subst (Selecting _ _ _ _) e h)
+
 pub wrong-select : (o : Loan) → Select o
 unfolding servers_of bound digits_of address_of differ_from digits digit with_digit switch_of differing ◌or_else◌ shape_refusal server_refusal pair_refusal bit failed live bits_fit fits_levels table_refusal is_in in_turn middle filled byte_of switch_at level_to byte_to hop_to hop_refusal again fault ended walk_from walk ends_refusal array_refusal walk_answer arrays disjoint switches_in between parallel meeting first_stop first_meeting first_of first_pair room_refusal list_refusal walks_of check_answer joined set_of array_in hop_bytes
 wrong-select o =
     record {
-      broken_kept = λ κ x h. differ (λ (y : Refusal). y.number) refl (selection_checked _ _ _ _ _ h refl);
-      alternate_denied = λ κ x h. one-route h refl refl;
-      second_alternate_denied = λ κ x h. two-routes h refl refl refl;
-      higher_value_first = λ κ x h. not_first h refl refl refl (inr (refl, inl (inr (refl, omega arith))));
-      settled_not_avoided = λ κ x h. differ (λ (y : Refusal). y.number) refl (selection_checked _ _ _ _ _ h refl);
-      switches_not_avoided = λ κ x h. differ (λ (y : Refusal). y.number) refl (selection_checked _ _ _ _ _ h refl);
-      lower_slots_first = λ κ x h. differ (λ (y : List ℕ). get_or y 0 0) refl (slot_1_first h).1;
-      sixteen_with_a_route = λ κ x h. (none-selected-exactly _ _ _ _ _ refl h).0 refl _ straight.route;
-      sixteen_not_told = λ κ x h. differ (λ (y : Refusal). y.number) refl (selection_checked _ _ _ _ _ h refl);
-      not_closed_up = λ κ x h. differ (λ (y : Refusal). y.number) refl (selection_checked _ _ _ _ _ h refl);
-      detour_mod_n = λ κ x h. differ (λ (y : Refusal). y.number) refl (selection_checked _ _ _ _ _ h refl);
-      value_m_tried = λ κ x h. differ (λ (y : Refusal). y.number) refl (selection_checked _ _ _ _ _ h refl);
-      sixteen_for_value_3 = λ κ x h. (none-selected-exactly _ _ _ _ _ refl h).0 refl _ (walks (array (0x03 ∷ [])) _ _ refl refl refl).route;
-      selected_in_the_full_room = λ κ x h. differ (λ (y : Selection). y.refusal.number) refl (h.refused (differ (λ y. y) refl));
-      selected_over_full_table = λ κ x h. differ (λ (y : Selection). y.refusal.number) refl (h.refused (differ (λ y. y) refl));
+      broken_kept = refute (λ h. differ (λ (y : Refusal). y.number) refl (selection_checked _ _ _ _ _ h refl));
+      alternate_denied = refute (λ h. one-route h refl refl);
+      second_alternate_denied = refute (λ h. two-routes h refl refl refl);
+      higher_value_first = refute (λ h. not_first h refl refl refl (inr (refl, inl (inr (refl, omega arith)))));
+      settled_not_avoided = refute (λ h. differ (λ (y : Refusal). y.number) refl (selection_checked _ _ _ _ _ h refl));
+      switches_not_avoided = refute (λ h. differ (λ (y : Refusal). y.number) refl (selection_checked _ _ _ _ _ h refl));
+      lower_slots_first = refute (λ h. differ (λ (y : List ℕ). get_or y 0 0) refl (slot_1_first h).1);
+      sixteen_with_a_route = refute (λ h. (none-selected-exactly _ _ _ _ _ refl h).0 refl _ straight.route);
+      sixteen_not_told = refute (λ h. differ (λ (y : Refusal). y.number) refl (selection_checked _ _ _ _ _ h refl));
+      not_closed_up = refute (λ h. differ (λ (y : Refusal). y.number) refl (selection_checked _ _ _ _ _ h refl));
+      detour_mod_n = refute (λ h. differ (λ (y : Refusal). y.number) refl (selection_checked _ _ _ _ _ h refl));
+      value_m_tried = refute (λ h. differ (λ (y : Refusal). y.number) refl (selection_checked _ _ _ _ _ h refl));
+      sixteen_for_value_3 = refute (λ h. (none-selected-exactly _ _ _ _ _ refl h).0 refl _ (walks (array (0x03 ∷ [])) _ _ refl refl refl).route);
+      selected_in_the_full_room = refute (λ h. differ (λ (y : Selection). y.refusal.number) refl (h.refused (differ (λ y. y) refl)));
+      selected_over_full_table = refute (λ h. differ (λ (y : Selection). y.refusal.number) refl (h.refused (differ (λ y. y) refl)));
     }

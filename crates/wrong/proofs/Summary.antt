@@ -6,8 +6,7 @@ use mathlib.Core.Bool.{true, false, true≢false}
 use mathlib.Core.List.{List}
 use lib.ListN.{length, get_or}
 use Rattle.lists.specs.Lists.{same}
-use Rattle.refusals.specs.declared.Refusal.{Refusal}
-use Rattle.refusals.specs.Refusals.{◌or_else◌}
+use Rattle.refusals.specs.Refusals.{Refusal, ◌or_else◌}
 use Rattle.refusals.proofs.ChainLaws.{or_else_left, or_else_passed}
 use Rattle.refusals.proofs.NumberLaws.{one-not}
 use Rattle.room.specs.declared.Shape.{Shape}
@@ -17,7 +16,7 @@ use Rattle.room.specs.Addresses.{digits, switch_of, switches_at}
 use Rattle.room.specs.Refusals.{shape_refusal, level_refusal, server_refusal, link_refusal}
 use Rattle.links.specs.Table as links
 use Rattle.links.proofs.NumberLaws.{room-table-numbers, table-link-numbers, table-server-numbers}
-use Rattle.summary.specs.declared.DeadSwitch.{DeadSwitch}
+use Rattle.summary.specs.Told.{DeadSwitch}
 use Rattle.summary.specs.Counts.{numbered, switches_below, switches_in, place_of, count_below, count_at, summary_of, is_dead, recounted, recounted_below}
 use Rattle.summary.specs.Refusals.{has_entries, is_counted, are_counted, counted_link_refusal, counted_server_refusal, summary_refusal, entries_refusal}
 use Rattle.summary.specs.Answers.{link_answer, link_table, link_summary, all_bits, changed_server, server_answer, server_table, server_summary, first_dead, dead_answer, fresh_answer, fresh_summary}
@@ -27,7 +26,7 @@ use Rattle.summary.proofs.KeptLaws.{link-kept, link_stays, link-nothing, server-
 use Rattle.summary.proofs.DeadLaws.{dead-number, dead_tells}
 use Rattle.wrong.specs.Never.{Loan}
 use Rattle.wrong.specs.Summary.{Summary}
-use Rattle.wrong.proofs.Clash.{differ, clash, clash_left, bit}
+use Rattle.wrong.proofs.Clash.{differ, clash_left, bit, clash_told}
 
 -- ---- what is tested before 30, and what 30 tests
 
@@ -70,22 +69,22 @@ pub wrong_summary : (o q : Loan) → Summary o q
 unfolding servers_of bound digits_of address_of digits switch_of switches_at ◌or_else◌ same shape_refusal level_refusal server_refusal link_refusal links.bit links.failed links.with_bit links.changed links.bits_fit links.fits_levels links.table_refusal links.room_table_refusal links.table_link_refusal links.table_server_refusal numbered switches_below switches_in place_of count_below count_at summary_of is_dead recounted recounted_below has_entries is_counted are_counted counted_link_refusal counted_server_refusal summary_refusal entries_refusal link_answer link_table link_summary all_bits changed_server server_answer server_table server_summary first_dead dead_answer fresh_answer fresh_summary
 wrong_summary o q =
     record {
-      marked_above_k = λ κ x p. differ (λ (y : Refusal). y.number) refl p.0;
-      table_before_address = λ κ x p. differ (λ (y : Refusal). y.number) refl p.0;
-      summary_before_address = λ κ x p. differ (λ (y : Refusal). y.number) refl p.0;
-      summary_before_level = λ κ x p. differ (λ (y : Refusal). y.number) refl p.0;
-      summary_before_table = λ κ x p. differ (λ (y : Refusal). y.number) refl p.0;
-      six_for_thirty = λ κ x p. differ (λ (y : Refusal). y.number) refl p.0;
-      thirty_at_route_1 = λ κ x p. differ (λ (y : Refusal). y.route) refl p.0;
-      full_summary_taken = λ κ x p. differ (λ (y : Refusal). y.number) refl p.0;
-      long_summary_taken = λ κ x p. differ (λ (y : Refusal). y.number) refl p.0;
-      short_summary_taken = λ κ x p. differ (λ (y : Refusal). y.number) refl p.0;
-      entry_not_tested = λ κ x p. differ (λ (y : Refusal). y.number) refl p.0;
-      entry_not_tested_again = λ κ x p. differ (λ (y : Refusal). y.number) refl p.0;
-      elsewhere_tested = λ κ x p. differ (λ (y : Refusal). y.number) refl p.0;
-      m_servers_counted = λ κ x p. differ (λ (y : Refusal). y.number) refl p.0;
-      another_level_counted = λ κ x p. differ (λ (y : Refusal). y.number) refl p.0;
-      place_by_power_tested = λ κ x p. differ (λ (y : Refusal). y.number) refl p.0;
+      marked_above_k = λ κ r x p e. differ (λ (y : Refusal). y.number) refl (sym e ∙ p.0);
+      table_before_address = λ κ r x p e. differ (λ (y : Refusal). y.number) refl (sym e ∙ p.0);
+      summary_before_address = λ κ r x p e. differ (λ (y : Refusal). y.number) refl (sym e ∙ p.0);
+      summary_before_level = λ κ r x p e. differ (λ (y : Refusal). y.number) refl (sym e ∙ p.0);
+      summary_before_table = λ κ r x p e. differ (λ (y : Refusal). y.number) refl (sym e ∙ p.0);
+      six_for_thirty = λ κ r x p e. differ (λ (y : Refusal). y.number) refl (sym e ∙ p.0);
+      thirty_at_route_1 = λ κ r x p e. differ (λ (y : Refusal). y.route) refl (sym e ∙ p.0);
+      full_summary_taken = λ κ r x p e. differ (λ (y : Refusal). y.number) refl (sym e ∙ p.0);
+      long_summary_taken = λ κ r x p e. differ (λ (y : Refusal). y.number) refl (sym e ∙ p.0);
+      short_summary_taken = λ κ r x p e. differ (λ (y : Refusal). y.number) refl (sym e ∙ p.0);
+      entry_not_tested = λ κ r x p e. differ (λ (y : Refusal). y.number) refl (sym e ∙ p.0);
+      entry_not_tested_again = λ κ r x p e. differ (λ (y : Refusal). y.number) refl (sym e ∙ p.0);
+      elsewhere_tested = λ κ r x p e. differ (λ (y : Refusal). y.number) refl (sym e ∙ p.0);
+      m_servers_counted = λ κ r x p e. differ (λ (y : Refusal). y.number) refl (sym e ∙ p.0);
+      another_level_counted = λ κ r x p e. differ (λ (y : Refusal). y.number) refl (sym e ∙ p.0);
+      place_by_power_tested = λ κ r x p e. differ (λ (y : Refusal). y.number) refl (sym e ∙ p.0);
       marks_nothing = λ κ r x p. clash_left 3 refl p.1;
       other_mark_lost = λ κ r x p. clash_left 3 refl p.1;
       marked_twice = λ κ r x p. clash_left 3 refl p.1;
@@ -108,16 +107,16 @@ wrong_summary o q =
       mark_moves_elsewhere = λ s t c u a l i f n κ r x p e. n (ap (λ (y : List ℕ). get_or y i 0) (sym e ∙ p.2) ∙ link_stays true s t c a l i f);
       mark_refused_and_table_touched = λ s t c u a l f n κ r x p e. n (sym e ∙ p.1 ∙ (link-kept true s t c a l f).0);
       mark_refused_and_summary_touched = λ s t c u a l f n κ r x p e. n (sym e ∙ p.2 ∙ (link-kept true s t c a l f).1);
-      mark_thirty_first = λ s t c a l f κ x p. link-first s t c a l f (sym (ap (λ (y : Refusal). y.number) p.0));
-      mark_other_entries_tested = λ s t c a l f g κ x p. link-entry_alone s t c a l f g (sym (ap (λ (y : Refusal). y.number) p.0));
-      cleared_above_k = λ κ x p. differ (λ (y : Refusal). y.number) refl p.0;
-      level_before_address = λ κ x p. differ (λ (y : Refusal). y.number) refl p.0;
-      clear_summary_before_table = λ κ x p. differ (λ (y : Refusal). y.number) refl p.0;
-      clear_long_summary_taken = λ κ x p. differ (λ (y : Refusal). y.number) refl p.0;
-      clear_entry_not_tested = λ κ x p. differ (λ (y : Refusal). y.number) refl p.0;
-      clear_entry_not_tested_again = λ κ x p. differ (λ (y : Refusal). y.number) refl p.0;
-      clear_elsewhere_tested = λ κ x p. differ (λ (y : Refusal). y.number) refl p.0;
-      unmarked_refused = λ κ x p. differ (λ (y : Refusal). y.number) refl p.0;
+      mark_thirty_first = λ s t c a l f κ r x p e. link-first s t c a l f (sym (ap (λ (y : Refusal). y.number) (sym e ∙ p.0)));
+      mark_other_entries_tested = λ s t c a l f g κ r x p e. link-entry_alone s t c a l f g (sym (ap (λ (y : Refusal). y.number) (sym e ∙ p.0)));
+      cleared_above_k = λ κ r x p e. differ (λ (y : Refusal). y.number) refl (sym e ∙ p.0);
+      level_before_address = λ κ r x p e. differ (λ (y : Refusal). y.number) refl (sym e ∙ p.0);
+      clear_summary_before_table = λ κ r x p e. differ (λ (y : Refusal). y.number) refl (sym e ∙ p.0);
+      clear_long_summary_taken = λ κ r x p e. differ (λ (y : Refusal). y.number) refl (sym e ∙ p.0);
+      clear_entry_not_tested = λ κ r x p e. differ (λ (y : Refusal). y.number) refl (sym e ∙ p.0);
+      clear_entry_not_tested_again = λ κ r x p e. differ (λ (y : Refusal). y.number) refl (sym e ∙ p.0);
+      clear_elsewhere_tested = λ κ r x p e. differ (λ (y : Refusal). y.number) refl (sym e ∙ p.0);
+      unmarked_refused = λ κ r x p e. differ (λ (y : Refusal). y.number) refl (sym e ∙ p.0);
       clears_nothing = λ κ r x p. clash_left 3 refl p.1;
       clears_all = λ κ r x p. clash_left 3 refl p.1;
       cleared_twice = λ κ r x p. clash_left 3 refl p.1;
@@ -135,16 +134,16 @@ wrong_summary o q =
       clear_moves_elsewhere = λ s t c u a l i f n κ r x p e. n (ap (λ (y : List ℕ). get_or y i 0) (sym e ∙ p.2) ∙ link_stays false s t c a l i f);
       clear_refused_and_table_touched = λ s t c u a l f n κ r x p e. n (sym e ∙ p.1 ∙ (link-kept false s t c a l f).0);
       clear_refused_and_summary_touched = λ s t c u a l f n κ r x p e. n (sym e ∙ p.2 ∙ (link-kept false s t c a l f).1);
-      clear_thirty_first = λ s t c a l f κ x p. link-first s t c a l f (sym (ap (λ (y : Refusal). y.number) p.0));
-      clear_other_entries_tested = λ s t c a l f g κ x p. link-entry_alone s t c a l f g (sym (ap (λ (y : Refusal). y.number) p.0));
-      server_n_marked = λ κ x p. differ (λ (y : Refusal). y.number) refl p.0;
-      mark_table_before_address = λ κ x p. differ (λ (y : Refusal). y.number) refl p.0;
-      server_summary_before_table = λ κ x p. differ (λ (y : Refusal). y.number) refl p.0;
-      server_long_summary_taken = λ κ x p. differ (λ (y : Refusal). y.number) refl p.0;
-      level_k_not_tested = λ κ x p. differ (λ (y : Refusal). y.number) refl p.0;
-      level_0_not_tested = λ κ x p. differ (λ (y : Refusal). y.number) refl p.0;
-      dead_server_not_tested = λ κ x p. differ (λ (y : Refusal). y.number) refl p.0;
-      server_elsewhere_tested = λ κ x p. differ (λ (y : Refusal). y.number) refl p.0;
+      clear_thirty_first = λ s t c a l f κ r x p e. link-first s t c a l f (sym (ap (λ (y : Refusal). y.number) (sym e ∙ p.0)));
+      clear_other_entries_tested = λ s t c a l f g κ r x p e. link-entry_alone s t c a l f g (sym (ap (λ (y : Refusal). y.number) (sym e ∙ p.0)));
+      server_n_marked = λ κ r x p e. differ (λ (y : Refusal). y.number) refl (sym e ∙ p.0);
+      mark_table_before_address = λ κ r x p e. differ (λ (y : Refusal). y.number) refl (sym e ∙ p.0);
+      server_summary_before_table = λ κ r x p e. differ (λ (y : Refusal). y.number) refl (sym e ∙ p.0);
+      server_long_summary_taken = λ κ r x p e. differ (λ (y : Refusal). y.number) refl (sym e ∙ p.0);
+      level_k_not_tested = λ κ r x p e. differ (λ (y : Refusal). y.number) refl (sym e ∙ p.0);
+      level_0_not_tested = λ κ r x p e. differ (λ (y : Refusal). y.number) refl (sym e ∙ p.0);
+      dead_server_not_tested = λ κ r x p e. differ (λ (y : Refusal). y.number) refl (sym e ∙ p.0);
+      server_elsewhere_tested = λ κ r x p e. differ (λ (y : Refusal). y.number) refl (sym e ∙ p.0);
       marks_no_server = λ κ r x p. clash_left 3 refl p.1;
       marks_one_link = λ κ r x p. clash_left 3 refl p.1;
       marks_whole_byte = λ κ r x p. clash_left 3 refl p.1;
@@ -166,17 +165,17 @@ wrong_summary o q =
       mark_server_moves_elsewhere = λ s t c u a i f n κ r x p e. n (ap (λ (y : List ℕ). get_or y i 0) (sym e ∙ p.2) ∙ server_stays true s t c a i f);
       mark_server_refused_and_table_touched = λ s t c u a f n κ r x p e. n (sym e ∙ p.1 ∙ (server-kept true s t c a f).0);
       mark_server_refused_and_summary_touched = λ s t c u a f n κ r x p e. n (sym e ∙ p.2 ∙ (server-kept true s t c a f).1);
-      mark_server_thirty_first = λ s t c a f κ x p. server-first s t c a f (sym (ap (λ (y : Refusal). y.number) p.0));
-      server_n_cleared = λ κ x p. differ (λ (y : Refusal). y.number) refl p.0;
-      clear_table_before_address = λ κ x p. differ (λ (y : Refusal). y.number) refl p.0;
-      live_server_refused = λ κ x p. differ (λ (y : Refusal). y.number) refl p.0;
-      live_server_refused_30 = λ κ x p. differ (λ (y : Refusal). y.number) refl p.0;
-      clear_server_summary_before_table = λ κ x p. differ (λ (y : Refusal). y.number) refl p.0;
-      clear_server_long_summary_taken = λ κ x p. differ (λ (y : Refusal). y.number) refl p.0;
-      clear_level_k_not_tested = λ κ x p. differ (λ (y : Refusal). y.number) refl p.0;
-      clear_level_0_not_tested = λ κ x p. differ (λ (y : Refusal). y.number) refl p.0;
-      clear_server_not_tested_again = λ κ x p. differ (λ (y : Refusal). y.number) refl p.0;
-      clear_server_elsewhere_tested = λ κ x p. differ (λ (y : Refusal). y.number) refl p.0;
+      mark_server_thirty_first = λ s t c a f κ r x p e. server-first s t c a f (sym (ap (λ (y : Refusal). y.number) (sym e ∙ p.0)));
+      server_n_cleared = λ κ r x p e. differ (λ (y : Refusal). y.number) refl (sym e ∙ p.0);
+      clear_table_before_address = λ κ r x p e. differ (λ (y : Refusal). y.number) refl (sym e ∙ p.0);
+      live_server_refused = λ κ r x p e. differ (λ (y : Refusal). y.number) refl (sym e ∙ p.0);
+      live_server_refused_30 = λ κ r x p e. differ (λ (y : Refusal). y.number) refl (sym e ∙ p.0);
+      clear_server_summary_before_table = λ κ r x p e. differ (λ (y : Refusal). y.number) refl (sym e ∙ p.0);
+      clear_server_long_summary_taken = λ κ r x p e. differ (λ (y : Refusal). y.number) refl (sym e ∙ p.0);
+      clear_level_k_not_tested = λ κ r x p e. differ (λ (y : Refusal). y.number) refl (sym e ∙ p.0);
+      clear_level_0_not_tested = λ κ r x p e. differ (λ (y : Refusal). y.number) refl (sym e ∙ p.0);
+      clear_server_not_tested_again = λ κ r x p e. differ (λ (y : Refusal). y.number) refl (sym e ∙ p.0);
+      clear_server_elsewhere_tested = λ κ r x p e. differ (λ (y : Refusal). y.number) refl (sym e ∙ p.0);
       clears_no_server = λ κ r x p. clash_left 3 refl p.1;
       clears_one_link = λ κ r x p. clash_left 3 refl p.1;
       clears_whole_table = λ κ r x p. clash_left 7 refl p.1;
@@ -194,40 +193,40 @@ wrong_summary o q =
       clear_server_moves_elsewhere = λ s t c u a i f n κ r x p e. n (ap (λ (y : List ℕ). get_or y i 0) (sym e ∙ p.2) ∙ server_stays false s t c a i f);
       clear_server_refused_and_table_touched = λ s t c u a f n κ r x p e. n (sym e ∙ p.1 ∙ (server-kept false s t c a f).0);
       clear_server_refused_and_summary_touched = λ s t c u a f n κ r x p e. n (sym e ∙ p.2 ∙ (server-kept false s t c a f).1);
-      clear_server_thirty_first = λ s t c a f κ x p. server-first s t c a f (sym (ap (λ (y : Refusal). y.number) p.0));
-      n_for_m = clash (λ (y : DeadSwitch). bit y.found) refl;
-      m_for_n = clash (λ (y : DeadSwitch). bit y.found) refl;
-      one_mark_is_dead = clash (λ (y : DeadSwitch). bit y.found) refl;
-      first_switch_is_none = clash (λ (y : DeadSwitch). bit y.found) refl;
-      none_is_first_switch = clash (λ (y : DeadSwitch). bit y.found) refl;
-      later_switch_given = clash (λ (y : DeadSwitch). y.number) refl;
-      higher_level_first = clash (λ (y : DeadSwitch). y.level) refl;
-      place_for_number = clash (λ (y : DeadSwitch). y.number) refl;
-      level_by_power = clash (λ (y : DeadSwitch). y.level) refl;
-      dead_level_and_number_exchanged = clash (λ (y : DeadSwitch). y.level) refl;
-      server_for_switch = clash (λ (y : DeadSwitch). bit y.found) refl;
-      table_not_counted = clash (λ (y : DeadSwitch). y.refusal.number) refl;
-      summary_not_asked = clash (λ (y : DeadSwitch). y.refusal.number) refl;
-      none_over_wrong_entries = clash (λ (y : DeadSwitch). y.refusal.number) refl;
-      tested_to_the_first = clash (λ (y : DeadSwitch). y.refusal.number) refl;
-      dead_summary_before_table = clash (λ (y : DeadSwitch). y.refusal.number) refl;
-      dead_full_table_taken = clash (λ (y : DeadSwitch). y.refusal.number) refl;
-      dead_long_summary_taken = clash (λ (y : DeadSwitch). y.refusal.number) refl;
-      dead_short_summary_taken = clash (λ (y : DeadSwitch). y.refusal.number) refl;
-      found_beside_refusal = clash (λ (y : DeadSwitch). bit y.found) refl;
-      last_switch_missed = clash (λ (y : DeadSwitch). bit y.found) refl;
-      dead_denied = λ s t c l w h κ x p. (told s t c p refl).nothing refl l w h;
-      live_switch_found = λ s t c l w a h e f κ x p. true≢false (sym (((told s t c p refl).dead refl).all a h e) ∙ f);
-      not_the_first = λ s t c l w j v e h κ x p. (told s t c p refl).first refl j v e h;
-      answered_over_wrong_summary = λ s t c y f z κ x p. f (dead-counted s t c (sym (ap (λ (v : DeadSwitch). v.refusal.number) p) ∙ z));
-      dead_thirty_first = λ s t c f κ x p. dead-first s t c f (sym (ap (λ (v : DeadSwitch). v.refusal.number) p));
-      old_entries_tested = λ κ x p. differ (λ (y : Refusal). y.number) refl p.0;
-      old_entries_refused = λ κ x p. differ (λ (y : Refusal). y.number) refl p.0;
-      fresh_summary_before_table = λ κ x p. differ (λ (y : Refusal). y.number) refl p.0;
-      fresh_long_summary_taken = λ κ x p. differ (λ (y : Refusal). y.number) refl p.0;
-      fresh_full_summary_taken = λ κ x p. differ (λ (y : Refusal). y.number) refl p.0;
-      fresh_2048_taken = λ κ x p. differ (λ (y : Refusal). y.number) refl p.0;
-      fresh_full_table_taken = λ κ x p. differ (λ (y : Refusal). y.number) refl p.0;
+      clear_server_thirty_first = λ s t c a f κ r x p e. server-first s t c a f (sym (ap (λ (y : Refusal). y.number) (sym e ∙ p.0)));
+      n_for_m = clash_told _ (λ (y : DeadSwitch). bit y.found) refl;
+      m_for_n = clash_told _ (λ (y : DeadSwitch). bit y.found) refl;
+      one_mark_is_dead = clash_told _ (λ (y : DeadSwitch). bit y.found) refl;
+      first_switch_is_none = clash_told _ (λ (y : DeadSwitch). bit y.found) refl;
+      none_is_first_switch = clash_told _ (λ (y : DeadSwitch). bit y.found) refl;
+      later_switch_given = clash_told _ (λ (y : DeadSwitch). y.number) refl;
+      higher_level_first = clash_told _ (λ (y : DeadSwitch). y.level) refl;
+      place_for_number = clash_told _ (λ (y : DeadSwitch). y.number) refl;
+      level_by_power = clash_told _ (λ (y : DeadSwitch). y.level) refl;
+      dead_level_and_number_exchanged = clash_told _ (λ (y : DeadSwitch). y.level) refl;
+      server_for_switch = clash_told _ (λ (y : DeadSwitch). bit y.found) refl;
+      table_not_counted = clash_told _ (λ (y : DeadSwitch). y.refusal.number) refl;
+      summary_not_asked = clash_told _ (λ (y : DeadSwitch). y.refusal.number) refl;
+      none_over_wrong_entries = clash_told _ (λ (y : DeadSwitch). y.refusal.number) refl;
+      tested_to_the_first = clash_told _ (λ (y : DeadSwitch). y.refusal.number) refl;
+      dead_summary_before_table = clash_told _ (λ (y : DeadSwitch). y.refusal.number) refl;
+      dead_full_table_taken = clash_told _ (λ (y : DeadSwitch). y.refusal.number) refl;
+      dead_long_summary_taken = clash_told _ (λ (y : DeadSwitch). y.refusal.number) refl;
+      dead_short_summary_taken = clash_told _ (λ (y : DeadSwitch). y.refusal.number) refl;
+      found_beside_refusal = clash_told _ (λ (y : DeadSwitch). bit y.found) refl;
+      last_switch_missed = clash_told _ (λ (y : DeadSwitch). bit y.found) refl;
+      dead_denied = λ s t c l w h κ r x p e. (told s t c (sym e ∙ p) refl).nothing refl l w h;
+      live_switch_found = λ s t c l w a h e f κ r x p q. true≢false (sym (((told s t c (sym q ∙ p) refl).dead refl).all a h e) ∙ f);
+      not_the_first = λ s t c l w j v e h κ r x p q. (told s t c (sym q ∙ p) refl).first refl j v e h;
+      answered_over_wrong_summary = λ s t c y f z κ r x p e. f (dead-counted s t c (sym (ap (λ (v : DeadSwitch). v.refusal.number) (sym e ∙ p)) ∙ z));
+      dead_thirty_first = λ s t c f κ r x p e. dead-first s t c f (sym (ap (λ (v : DeadSwitch). v.refusal.number) (sym e ∙ p)));
+      old_entries_tested = λ κ r x p e. differ (λ (y : Refusal). y.number) refl (sym e ∙ p.0);
+      old_entries_refused = λ κ r x p e. differ (λ (y : Refusal). y.number) refl (sym e ∙ p.0);
+      fresh_summary_before_table = λ κ r x p e. differ (λ (y : Refusal). y.number) refl (sym e ∙ p.0);
+      fresh_long_summary_taken = λ κ r x p e. differ (λ (y : Refusal). y.number) refl (sym e ∙ p.0);
+      fresh_full_summary_taken = λ κ r x p e. differ (λ (y : Refusal). y.number) refl (sym e ∙ p.0);
+      fresh_2048_taken = λ κ r x p e. differ (λ (y : Refusal). y.number) refl (sym e ∙ p.0);
+      fresh_full_table_taken = λ κ r x p e. differ (λ (y : Refusal). y.number) refl (sym e ∙ p.0);
       old_bytes_left = λ κ r x p. clash_left 0 refl p.1;
       old_bytes_added = λ κ r x p. clash_left 3 refl p.1;
       counted_at_other_level = λ κ r x p. clash_left 1 refl p.1;
@@ -240,6 +239,6 @@ wrong_summary o q =
       servers_counted = λ κ r x p. clash_left 1 refl p.1;
       fresh_on_refusal = λ κ r x p. clash_left 0 refl p.1;
       fresh_on_refusal_6 = λ κ r x p. clash_left 0 refl p.1;
-      any_old_entries_tested = λ s t c f κ x p. fresh-length_alone s t c f (sym (ap (λ (y : Refusal). y.number) p.0));
+      any_old_entries_tested = λ s t c f κ r x p e. fresh-length_alone s t c f (sym (ap (λ (y : Refusal). y.number) (sym e ∙ p.0)));
       fresh_refused_and_touched = λ s t c u f n κ r x p e. n (sym e ∙ p.1 ∙ fresh_kept s t c f);
     }

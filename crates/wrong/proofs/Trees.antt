@@ -10,14 +10,13 @@ use native.Mathlib.Decide.{dec_le, ℕ_discrete}
 use lib.Dec.{eqb}
 use lib.ListN.{length, get_or}
 use borrow.Author.Tests.{eqb-true, eqb-false}
-use Rattle.refusals.specs.declared.Refusal.{Refusal}
-use Rattle.refusals.specs.Refusals.{plain, answer, ◌or_else◌}
+use Rattle.refusals.specs.Refusals.{Refusal, plain, answer, ◌or_else◌}
 use Rattle.refusals.proofs.ChainLaws.{or_else_left}
 use Rattle.refusals.proofs.NumberLaws.{one-not}
 use Rattle.refusals.proofs.AnswerLaws.{answer-none}
 use Rattle.room.specs.declared.Shape.{Shape}
-use Rattle.room.specs.declared.Number.{Number}
-use Rattle.room.specs.Shapes.{shape_of, full_room, bound, servers_of, server_count, Server, Link}
+use Rattle.room.specs.Told.{Number}
+use Rattle.room.specs.Shapes.{shape_of, full_room, bound, servers_of, Server, Link}
 use Rattle.room.specs.Digits.{digits_of, address_of}
 use Rattle.room.specs.Addresses.{digits, digit, with_digit}
 use Rattle.room.specs.Refusals.{shape_refusal, level_refusal, server_refusal, pair_refusal, link_refusal}
@@ -45,6 +44,7 @@ use Rattle.wrong.specs.Never.{NeverTells, NeverLeaves, NeverLeavesAt, Loan}
 use Rattle.wrong.specs.Examples.{stale}
 use Rattle.wrong.specs.Again.{room_for}
 use Rattle.wrong.specs.Trees.{number_in, Misparented, AnyMisparented, Misrefused, AnyMisrefused, Misgrown, AnyMisgrown, Trees}
+use Rattle.wrong.specs.Told.{number_told}
 use Rattle.wrong.proofs.Clash.{differ, clash_left, tells}
 
 abbrev number : Number → ℕ
@@ -323,7 +323,7 @@ source-link c = record { server = c.source; level = c.link.level }
 
 module _ {s : Shape} {a l : ℕ} (h : Link s a l) (ps : List ℕ) {qs : List ℕ} (e : qs ≡ tree_left s a l ps) where
   written : qs ≡ tree_of s a l
-  written = e ∙ sym (tree-written s a l 0 (link-none h) refl (server_count s) refl ps (tree_of s a l) refl)
+  written = e ∙ sym (tree-written s a l (link-none h) ps (tree_of s a l) refl)
 
   holds_none : get_or qs a 0 ≡ no_parent
   holds_none = ap (λ (y : List ℕ). get_or y a 0) written ∙ tree-source h
@@ -424,14 +424,14 @@ module _ (s : Shape) (a l x : ℕ) where
 
   no_tree_first : s.k < l → parent_refusal s a l x ≢ 5
   no_tree_first h e =
-      elim (ℕ_discrete (pair_refusal s a x) 0) [ yes z ↦ omega (arith, tree-missing s a l x _ refl z h) | no n ↦ not_five n e ]
+      elim (ℕ_discrete (pair_refusal s a x) 0) [ yes z ↦ omega (arith, tree-missing s a l x (sym z) h) | no n ↦ not_five n e ]
 
   tree-taken : l ≤ s.k → parent_refusal s a l x ≢ 20
   tree-taken h e =
       elim (ℕ_discrete (pair_refusal s a x) 0) [
         | yes z ↦ elim (ℕ_discrete a x) [
-          | yes q ↦ omega (arith, source-asked s a l x _ refl z h q)
-          | no q ↦ omega (arith, nothing-refused s a l x _ refl z h q)
+          | yes q ↦ omega (arith, source-asked s a l x (sym z) h q)
+          | no q ↦ omega (arith, nothing-refused s a l x (sym z) h q)
         ]
         | no n ↦ not_twenty n e
       ]
@@ -439,7 +439,7 @@ module _ (s : Shape) (a l x : ℕ) where
   other-taken : a ≢ x → parent_refusal s a l x ≢ 5
   other-taken q e =
       elim (dec_le l s.k) [
-        | yes h ↦ elim (ℕ_discrete (pair_refusal s a x) 0) [ yes z ↦ omega (arith, nothing-refused s a l x _ refl z h q) | no n ↦ not_five n e ]
+        | yes h ↦ elim (ℕ_discrete (pair_refusal s a x) 0) [ yes z ↦ omega (arith, nothing-refused s a l x (sym z) h q) | no n ↦ not_five n e ]
         | no h ↦ no_tree_first (omega arith) e
       ]
 
@@ -541,7 +541,7 @@ module _ (s : Shape) (a l : ℕ) where
   unfolding link_refusal
   level-taken h e =
       elim (ℕ_discrete (server_refusal s a) 0) [
-        | yes z ↦ omega (arith, link-passed s a l _ refl z h)
+        | yes z ↦ omega (arith, link-passed s a l (sym z) h)
         | no n ↦ one-not 20 refl refl (server-numbers s a) (sym (or_else_left _ _ n) ∙ e)
       ]
 
@@ -578,7 +578,7 @@ wrong_trees b =
       bcube_parent = misparented (λ s a l x p v h n κ r e q. tells value n (held-parent h.held a l x q ∙ h.answers));
       write_tree = misparented (λ s a l x p v h n κ r e q. tells (λ y. y) n (row_parent h (stale 4096) q.1));
       bcube_tree = misparented (λ s a l x p v h n κ r e q. tells (λ y. y) n (held_number h (stale 4096) q.1));
-      any_parent_of = λ s a l x c. any_misparented c (λ v n κ r e q z. n (sym (ap value (parent-answered c r q)) ∙ z));
+      any_parent_of = λ s a l x c. any_misparented c (λ v n κ r e q z. n (sym (ap value (parent-answered c (number_told r) q)) ∙ z));
       any_bcube_parent = λ k a l x c. any_misparented c (λ v n κ r e q z. n (sym (ap value (parent-answered c (number_in r) (number-in (parent-small (shape_in k) a l x) q))) ∙ z));
       any_write_tree = λ s a l x ps c. any_misparented c (λ v n κ r e q z. n (sym (holds_parent c ps q.1) ∙ z));
       any_bcube_tree = λ k a l x ps c. any_misparented c (λ v n κ r e q z. n (sym (holds_parent c ps q.1) ∙ z));

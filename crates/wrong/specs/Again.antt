@@ -1,7 +1,7 @@
 -- A server or a switch that comes on a route again, wrongly told, in every call that reads or writes a route, wherever the buffers lie.
 use Rattle.std.specs.Prelude.{ℕ, ◌≤◌, ◌≡◌, ◌≢◌, List, [], ◌∷◌}
-use Rattle.refusals.specs.declared.Refusal.{Refusal}
-use Rattle.refusals.specs.Refusals.{none, refused_at, with_earlier, earlier_route, earlier_hop}
+use Rattle.refusals.specs.Refusals.{Refusal, none, refused_at, with_earlier, earlier_route, earlier_hop}
+use Rattle.refusals.specs.Reasons.{told_where}
 use Rattle.room.specs.declared.Shape.{Shape}
 use Rattle.room.specs.Shapes.{shape_of, full_room}
 use Rattle.path.proofs.walk.Reads as walk_reads
@@ -25,6 +25,7 @@ use Rattle.driver.proofs.bcube_pick.Reads as bcube_pick_reads
 use Rattle.driver.proofs.bcube_step.Reads as bcube_step_reads
 use Rattle.wrong.specs.Never.{NeverLeaves, NeverTells, NeverSo, Loan, second, third, fifth, ◌&◌, ◌lends◌, ◌lends_mut◌}
 use Rattle.wrong.specs.Examples.{none_failed, switch_twice, straight_back, round_to_source, round_to_server, switch_later, eight_round, stale}
+use Rattle.wrong.specs.Told.{walk_told, reading_told, writing_told, place_told, step_told, refusal_told}
 
 -- refusal r at hop h of route 1, with hop g as the earlier one
 abbrev pub with_hop : ℕ → ℕ → ℕ → Refusal
@@ -161,31 +162,31 @@ pub record Overtold {K A R X : Type 0} (post : K → A → R → X → Type 0) (
 
 pub record Again (o q b : Loan) : Type 0 where
   -- from Rattle
-  pub walk : Misread walk_reads.Post (λ s d bs. s & o lends [] & 0 & d & q lends bs & tt) (λ y. y.refusal)
-  pub read_path : Misread read_path_reads.Post (λ s d bs. s & 0 & d & q lends bs & tt) (λ y. y.refusal)
-  pub reverse_path : Misread reverse_path_reads.Post (λ s d bs. s & 0 & d & q lends bs & tt) (λ y. y.refusal)
-  pub lay_route : Misread lay_route_reads.Post (λ s d bs. s & o lends_mut none_failed s & 0 & d & q lends bs & tt) (λ y. y)
-  pub check_list : Misread check_list_reads.Post (λ s d bs. s & o lends none_failed s & 0 & d & q lends bs & tt) (λ y. y)
-  pub write_path : Miswritten write_path_reads.Post (λ s vs. s & q lends vs & tt) (λ y. y.refusal)
+  pub walk : Misread walk_reads.Post (λ s d bs. s & o lends [] & 0 & d & q lends bs & tt) (λ y. (walk_told y).refusal)
+  pub read_path : Misread read_path_reads.Post (λ s d bs. s & 0 & d & q lends bs & tt) (λ y. (reading_told y).refusal)
+  pub reverse_path : Misread reverse_path_reads.Post (λ s d bs. s & 0 & d & q lends bs & tt) (λ y. (writing_told y).refusal)
+  pub lay_route : Misread lay_route_reads.Post (λ s d bs. s & o lends_mut none_failed s & 0 & d & q lends bs & tt) told_where
+  pub check_list : Misread check_list_reads.Post (λ s d bs. s & o lends none_failed s & 0 & d & q lends bs & tt) told_where
+  pub write_path : Miswritten write_path_reads.Post (λ s vs. s & q lends vs & tt) (λ y. (writing_told y).refusal)
   -- from C
   pub bcube_read : Misread bcube_read_reads.Post (λ s d bs. room_for s & 0 & d & q lends bs & b lends_mut stale 9 & tt) refusal_in
   pub bcube_reverse : Misread bcube_reverse_reads.Post (λ s d bs. room_for s & 0 & d & q lends bs & b lends_mut stale 8 & tt) refusal_in
   pub bcube_check : Misread bcube_check_reads.Post (λ s d bs. room_for s & 0 & d & o lends none_failed s & q lends bs & tt) refusal_in
   pub bcube_write : Miswritten bcube_write_reads.Post (λ s vs. room_for s & q lends vs & b lends_mut stale 8 & tt) refusal_in
   -- with any arguments, from Rattle
-  pub any_walk : (s : Shape) (t : List ℕ) (a d : ℕ) (bs : List ℕ) → Misnamed walk_reads.Post (s & o lends t & a & d & q lends bs & tt) (λ y. y.refusal)
-  pub any_read_path : (s : Shape) (a d : ℕ) (bs : List ℕ) → Misnamed read_path_reads.Post (s & a & d & q lends bs & tt) (λ y. y.refusal)
-  pub any_reverse_path : (s : Shape) (a d : ℕ) (bs : List ℕ) → Misnamed reverse_path_reads.Post (s & a & d & q lends bs & tt) (λ y. y.refusal)
-  pub any_lay_route : (s : Shape) (t : List ℕ) (a d : ℕ) (bs : List ℕ) → Misnamed lay_route_reads.Post (s & o lends_mut t & a & d & q lends bs & tt) (λ y. y)
-  pub any_write_path : (s : Shape) (vs : List ℕ) → Misnamed write_path_reads.Post (s & q lends vs & tt) (λ y. y.refusal)
+  pub any_walk : (s : Shape) (t : List ℕ) (a d : ℕ) (bs : List ℕ) → Misnamed walk_reads.Post (s & o lends t & a & d & q lends bs & tt) (λ y. (walk_told y).refusal)
+  pub any_read_path : (s : Shape) (a d : ℕ) (bs : List ℕ) → Misnamed read_path_reads.Post (s & a & d & q lends bs & tt) (λ y. (reading_told y).refusal)
+  pub any_reverse_path : (s : Shape) (a d : ℕ) (bs : List ℕ) → Misnamed reverse_path_reads.Post (s & a & d & q lends bs & tt) (λ y. (writing_told y).refusal)
+  pub any_lay_route : (s : Shape) (t : List ℕ) (a d : ℕ) (bs : List ℕ) → Misnamed lay_route_reads.Post (s & o lends_mut t & a & d & q lends bs & tt) told_where
+  pub any_write_path : (s : Shape) (vs : List ℕ) → Misnamed write_path_reads.Post (s & q lends vs & tt) (λ y. (writing_told y).refusal)
   -- with any arguments, from C
   pub any_bcube_read : (c : Room) (a d : ℕ) (bs lent : List ℕ) → Misnamed bcube_read_reads.Post (c & a & d & q lends bs & b lends_mut lent & tt) refusal_in
   pub any_bcube_reverse : (c : Room) (a d : ℕ) (bs lent : List ℕ) → Misnamed bcube_reverse_reads.Post (c & a & d & q lends bs & b lends_mut lent & tt) refusal_in
   pub any_bcube_write : (c : Room) (vs lent : List ℕ) → Misnamed bcube_write_reads.Post (c & q lends vs & b lends_mut lent & tt) refusal_in
   -- picking and a step, with any arguments
-  pub any_pick_place : (s : Shape) (t : List ℕ) (a d : ℕ) (fs ks : List ℕ) → Overtold pick_place_reads.Post (s & o lends t & a & d & q lends fs & b lends ks & tt) (λ y. y.refusal)
-  pub any_pick_refusal : (s : Shape) (t : List ℕ) (a d : ℕ) (fs ks : List ℕ) → Overtold pick_refusal_reads.Post (s & o lends t & a & d & q lends fs & b lends ks & tt) (λ y. y)
-  pub any_step_once : (s : Shape) (a d i : ℕ) (bs es : List ℕ) → Overtold step_once_reads.Post (s & a & d & i & q lends bs & o lends es & tt) (λ y. y.refusal)
+  pub any_pick_place : (s : Shape) (t : List ℕ) (a d : ℕ) (fs ks : List ℕ) → Overtold pick_place_reads.Post (s & o lends t & a & d & q lends fs & b lends ks & tt) (λ y. (place_told y).refusal)
+  pub any_pick_refusal : (s : Shape) (t : List ℕ) (a d : ℕ) (fs ks : List ℕ) → Overtold pick_refusal_reads.Post (s & o lends t & a & d & q lends fs & b lends ks & tt) refusal_told
+  pub any_step_once : (s : Shape) (a d i : ℕ) (bs es : List ℕ) → Overtold step_once_reads.Post (s & a & d & i & q lends bs & o lends es & tt) (λ y. (step_told y).refusal)
   pub any_bcube_pick : (c : Room) (t : List ℕ) (a d : ℕ) (fs ks : List ℕ) → Overtold bcube_pick_reads.Post (c & a & d & o lends t & q lends fs & b lends ks & tt) refusal_in
   pub any_bcube_step : (c : Room) (a d i : ℕ) (bs es : List ℕ) → Bytes es → Overtold bcube_step_reads.Post (c & a & d & i & q lends bs & o lends es & tt) (λ y. (unpacked y).refusal)
   -- the buffer touched on 28 or 29: the servers met before it, the way back of the hops before it, the bytes before it

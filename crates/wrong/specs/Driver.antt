@@ -4,7 +4,7 @@ use Rattle.std.specs.Prelude.{ℕ, ◌+◌, ◌*◌, ◌≤◌, ◌≡◌, ◌�
 use Rattle.lists.specs.Lists.{filled}
 use Rattle.refusals.specs.Refusals.{none, plain, refused_at, with_earlier}
 use Rattle.build.specs.Sets.{joined}
-use Rattle.step.specs.declared.Step.{Step}
+use Rattle.step.specs.Told.{Step}
 use Rattle.step.specs.Steps.{no_step}
 use Rattle.driver.specs.declared.Room.{Room}
 use Rattle.driver.specs.declared.Stepped.{Stepped}

@@ -1,6 +1,7 @@
 -- The fill of a room wrongly tested or counted, in every call that takes a room, wherever the buffers lie.
 use Rattle.std.specs.Prelude.{ℕ, ◌+◌, ◌*◌, replicate}
 use mathlib.Core.List.{List, [], ◌∷◌, ◌++◌, map, Memᴰ as In}
+use Rattle.refusals.specs.Reasons.{told, told_where}
 use Rattle.room.specs.declared.Shape.{Shape}
 use Rattle.room.specs.Shapes.{shape_of}
 use Rattle.room.proofs.shape_refusal.Reads as shape_refusal_reads
@@ -84,6 +85,7 @@ use Rattle.driver.proofs.bcube_parent.Reads as bcube_parent_reads
 use Rattle.driver.proofs.bcube_tree.Reads as bcube_tree_reads
 use Rattle.wrong.specs.Never.{NeverTells, Loan, ◌&◌, ◌lends◌, ◌lends_mut◌}
 use Rattle.wrong.specs.Examples.{array, stale}
+use Rattle.wrong.specs.Told.{number_told, digits_told, switch_told, between_told, asked_told, dead_told, parts_told, hop_told, walk_told, reading_told, writing_told, building_told, found_told, selection_told, place_told, step_told}
 
 -- shapes, each with a number that no call tells of it:
 -- 3 of (9,3,10), which has more than 4,096 servers too: 3 tested before 26
@@ -107,49 +109,49 @@ OfEach {S} xs P = (s : S) (v : ℕ) → In (s, v) xs → P s v
 -- between servers 0 and 1, by path byte 01, over a table of no bytes, and with a summary of none
 pub record Fill (o q b : Loan) : Type 0 where
   -- ---- from Rattle
-  pub shape-refusal : OfEach shapes (λ s. NeverTells shape_refusal_reads.Post (s & tt) (λ y. y))
-  pub server-refusal : OfEach shapes (λ s. NeverTells server_refusal_reads.Post (s & 0 & tt) (λ y. y))
-  pub pair-refusal : OfEach shapes (λ s. NeverTells pair_refusal_reads.Post (s & 0 & 1 & tt) (λ y. y))
-  pub ends-refusal : OfEach shapes (λ s. NeverTells ends_refusal_reads.Post (s & 0 & 1 & tt) (λ y. y))
-  pub link-refusal : OfEach shapes (λ s. NeverTells link_refusal_reads.Post (s & 0 & 0 & tt) (λ y. y))
-  pub servers-of : OfEach shapes (λ s. NeverTells servers_of_reads.Post (s & tt) (λ y. y.refusal.number))
-  pub bound_of : OfEach shapes (λ s. NeverTells bound_of_reads.Post (s & 0 & tt) (λ y. y.refusal.number))
-  pub digits-of : OfEach shapes (λ s. NeverTells digits_of_reads.Post (s & 0 & tt) (λ y. y.refusal.number))
-  pub digit_of : OfEach shapes (λ s. NeverTells digit_of_reads.Post (s & 0 & 0 & tt) (λ y. y.refusal.number))
-  pub address-of : OfEach shapes (λ s. NeverTells address_of_reads.Post (s & replicate 4 0 & tt) (λ y. y.refusal.number))
-  pub switch-of : OfEach shapes (λ s. NeverTells switch_of_reads.Post (s & 0 & 0 & tt) (λ y. y.refusal.number))
-  pub switches-of : OfEach shapes (λ s. NeverTells switches_of_reads.Post (s & 0 & tt) (λ y. y.refusal.number))
-  pub server-at : OfEach shapes (λ s. NeverTells server_at_reads.Post (s & 0 & 0 & 0 & tt) (λ y. y.refusal.number))
-  pub neighbour_of : OfEach shapes (λ s. NeverTells neighbour_of_reads.Post (s & 0 & 0 & 1 & tt) (λ y. y.refusal.number))
-  pub level_between : OfEach shapes (λ s. NeverTells level_between_reads.Post (s & 0 & 1 & tt) (λ y. y.refusal.number))
-  pub table-refusal : OfEach shapes (λ s. NeverTells table_refusal_reads.Post (s & o lends [] & tt) (λ y. y))
-  pub room-refusal : OfEach shapes (λ s. NeverTells room_refusal_reads.Post (s & o lends [] & 0 & 1 & tt) (λ y. y))
-  pub failed_link : OfEach shapes (λ s. NeverTells failed_link_reads.Post (s & o lends [] & 0 & 0 & tt) (λ y. y.refusal.number))
-  pub table-link-refusal : OfEach shapes (λ s. NeverTells table_link_refusal_reads.Post (s & o lends [] & 0 & 0 & tt) (λ y. y))
-  pub table-server-refusal : OfEach shapes (λ s. NeverTells table_server_refusal_reads.Post (s & o lends [] & 0 & tt) (λ y. y))
-  pub parent-of : OfEach shapes (λ s. NeverTells parent_of_reads.Post (s & 0 & 0 & 1 & tt) (λ y. y.refusal.number))
-  pub write_tree : OfEach shapes (λ s. NeverTells write_tree_reads.Post (s & 0 & 0 & b lends_mut stale 4096 & tt) (λ y. y.refusal.number))
-  pub mark-link : OfEach shapes (λ s. NeverTells mark_link_reads.Post (s & o lends_mut [] & q lends_mut [] & 0 & 0 & tt) (λ y. y.number))
-  pub clear-link : OfEach shapes (λ s. NeverTells clear_link_reads.Post (s & o lends_mut [] & q lends_mut [] & 0 & 0 & tt) (λ y. y.number))
-  pub mark-server : OfEach shapes (λ s. NeverTells mark_server_reads.Post (s & o lends_mut [] & q lends_mut [] & 0 & tt) (λ y. y.number))
-  pub clear-server : OfEach shapes (λ s. NeverTells clear_server_reads.Post (s & o lends_mut [] & q lends_mut [] & 0 & tt) (λ y. y.number))
-  pub dead-switch : OfEach shapes (λ s. NeverTells dead_switch_reads.Post (s & o lends [] & q lends [] & tt) (λ y. y.refusal.number))
-  pub summarize : OfEach shapes (λ s. NeverTells summarize_reads.Post (s & o lends [] & q lends_mut [] & tt) (λ y. y.number))
-  pub byte-of : OfEach shapes (λ s. NeverTells byte_of_reads.Post (s & 0 & 1 & tt) (λ y. y.refusal.number))
-  pub parts_of : OfEach shapes (λ s. NeverTells parts_of_reads.Post (s & 0x01 & tt) (λ y. y.refusal.number))
-  pub hop_of : OfEach shapes (λ s. NeverTells hop_of_reads.Post (s & 0 & 0x01 & tt) (λ y. y.refusal.number))
-  pub walk : OfEach shapes (λ s. NeverTells walk_reads.Post (s & o lends [] & 0 & 1 & q lends array (0x01 ∷ []) & tt) (λ y. y.refusal.number))
-  pub read_path : OfEach shapes (λ s. NeverTells read_path_reads.Post (s & 0 & 1 & q lends array (0x01 ∷ []) & tt) (λ y. y.refusal.number))
-  pub write_path : OfEach shapes (λ s. NeverTells write_path_reads.Post (s & q lends 0 ∷ 1 ∷ [] & tt) (λ y. y.refusal.number))
-  pub reverse_path : OfEach shapes (λ s. NeverTells reverse_path_reads.Post (s & 0 & 1 & q lends array (0x01 ∷ []) & tt) (λ y. y.refusal.number))
-  pub check_list : OfEach shapes (λ s. NeverTells check_list_reads.Post (s & o lends [] & 0 & 1 & q lends array (0x01 ∷ []) & tt) (λ y. y.number))
-  pub build_routes : OfEach shapes (λ s. NeverTells build_routes_reads.Post (s & 0 & 1 & tt) (λ y. y.refusal.number))
-  pub lay_route : OfEach shapes (λ s. NeverTells lay_route_reads.Post (s & o lends_mut [] & 0 & 1 & q lends array (0x01 ∷ []) & tt) (λ y. y.number))
-  pub find_route : OfEach shapes (λ s. NeverTells find_route_reads.Post (s & o lends [] & 0 & 1 & tt) (λ y. y.refusal.number))
-  pub select_routes : OfEach shapes (λ s. NeverTells select_routes_reads.Post (s & o lends [] & 0 & 1 & tt) (λ y. y.refusal.number))
-  pub pick_place : OfEach shapes (λ s. NeverTells pick_place_reads.Post (s & o lends [] & 0 & 1 & q lends array (0x01 ∷ []) & b lends [] & tt) (λ y. y.refusal.number))
-  pub pick-refusal : OfEach shapes (λ s. NeverTells pick_refusal_reads.Post (s & o lends [] & 0 & 1 & q lends array (0x01 ∷ []) & b lends [] & tt) (λ y. y.number))
-  pub step_once : OfEach shapes (λ s. NeverTells step_once_reads.Post (s & 0 & 1 & 0 & q lends array (0x01 ∷ []) & o lends [] & tt) (λ y. y.refusal.number))
+  pub shape-refusal : OfEach shapes (λ s. NeverTells shape_refusal_reads.Post (s & tt) told)
+  pub server-refusal : OfEach shapes (λ s. NeverTells server_refusal_reads.Post (s & 0 & tt) told)
+  pub pair-refusal : OfEach shapes (λ s. NeverTells pair_refusal_reads.Post (s & 0 & 1 & tt) told)
+  pub ends-refusal : OfEach shapes (λ s. NeverTells ends_refusal_reads.Post (s & 0 & 1 & tt) told)
+  pub link-refusal : OfEach shapes (λ s. NeverTells link_refusal_reads.Post (s & 0 & 0 & tt) told)
+  pub servers-of : OfEach shapes (λ s. NeverTells servers_of_reads.Post (s & tt) (λ y. (number_told y).refusal.number))
+  pub bound_of : OfEach shapes (λ s. NeverTells bound_of_reads.Post (s & 0 & tt) (λ y. (number_told y).refusal.number))
+  pub digits-of : OfEach shapes (λ s. NeverTells digits_of_reads.Post (s & 0 & tt) (λ y. (digits_told y).refusal.number))
+  pub digit_of : OfEach shapes (λ s. NeverTells digit_of_reads.Post (s & 0 & 0 & tt) (λ y. (number_told y).refusal.number))
+  pub address-of : OfEach shapes (λ s. NeverTells address_of_reads.Post (s & replicate 4 0 & tt) (λ y. (number_told y).refusal.number))
+  pub switch-of : OfEach shapes (λ s. NeverTells switch_of_reads.Post (s & 0 & 0 & tt) (λ y. (switch_told y).refusal.number))
+  pub switches-of : OfEach shapes (λ s. NeverTells switches_of_reads.Post (s & 0 & tt) (λ y. (number_told y).refusal.number))
+  pub server-at : OfEach shapes (λ s. NeverTells server_at_reads.Post (s & 0 & 0 & 0 & tt) (λ y. (number_told y).refusal.number))
+  pub neighbour_of : OfEach shapes (λ s. NeverTells neighbour_of_reads.Post (s & 0 & 0 & 1 & tt) (λ y. (number_told y).refusal.number))
+  pub level_between : OfEach shapes (λ s. NeverTells level_between_reads.Post (s & 0 & 1 & tt) (λ y. (between_told y).refusal.number))
+  pub table-refusal : OfEach shapes (λ s. NeverTells table_refusal_reads.Post (s & o lends [] & tt) told)
+  pub room-refusal : OfEach shapes (λ s. NeverTells room_refusal_reads.Post (s & o lends [] & 0 & 1 & tt) told)
+  pub failed_link : OfEach shapes (λ s. NeverTells failed_link_reads.Post (s & o lends [] & 0 & 0 & tt) (λ y. (asked_told y).refusal.number))
+  pub table-link-refusal : OfEach shapes (λ s. NeverTells table_link_refusal_reads.Post (s & o lends [] & 0 & 0 & tt) told)
+  pub table-server-refusal : OfEach shapes (λ s. NeverTells table_server_refusal_reads.Post (s & o lends [] & 0 & tt) told)
+  pub parent-of : OfEach shapes (λ s. NeverTells parent_of_reads.Post (s & 0 & 0 & 1 & tt) (λ y. (number_told y).refusal.number))
+  pub write_tree : OfEach shapes (λ s. NeverTells write_tree_reads.Post (s & 0 & 0 & b lends_mut stale 4096 & tt) (λ y. (number_told y).refusal.number))
+  pub mark-link : OfEach shapes (λ s. NeverTells mark_link_reads.Post (s & o lends_mut [] & q lends_mut [] & 0 & 0 & tt) told)
+  pub clear-link : OfEach shapes (λ s. NeverTells clear_link_reads.Post (s & o lends_mut [] & q lends_mut [] & 0 & 0 & tt) told)
+  pub mark-server : OfEach shapes (λ s. NeverTells mark_server_reads.Post (s & o lends_mut [] & q lends_mut [] & 0 & tt) told)
+  pub clear-server : OfEach shapes (λ s. NeverTells clear_server_reads.Post (s & o lends_mut [] & q lends_mut [] & 0 & tt) told)
+  pub dead-switch : OfEach shapes (λ s. NeverTells dead_switch_reads.Post (s & o lends [] & q lends [] & tt) (λ y. (dead_told y).refusal.number))
+  pub summarize : OfEach shapes (λ s. NeverTells summarize_reads.Post (s & o lends [] & q lends_mut [] & tt) told)
+  pub byte-of : OfEach shapes (λ s. NeverTells byte_of_reads.Post (s & 0 & 1 & tt) (λ y. (number_told y).refusal.number))
+  pub parts_of : OfEach shapes (λ s. NeverTells parts_of_reads.Post (s & 0x01 & tt) (λ y. (parts_told y).refusal.number))
+  pub hop_of : OfEach shapes (λ s. NeverTells hop_of_reads.Post (s & 0 & 0x01 & tt) (λ y. (hop_told y).refusal.number))
+  pub walk : OfEach shapes (λ s. NeverTells walk_reads.Post (s & o lends [] & 0 & 1 & q lends array (0x01 ∷ []) & tt) (λ y. (walk_told y).refusal.number))
+  pub read_path : OfEach shapes (λ s. NeverTells read_path_reads.Post (s & 0 & 1 & q lends array (0x01 ∷ []) & tt) (λ y. (reading_told y).refusal.number))
+  pub write_path : OfEach shapes (λ s. NeverTells write_path_reads.Post (s & q lends 0 ∷ 1 ∷ [] & tt) (λ y. (writing_told y).refusal.number))
+  pub reverse_path : OfEach shapes (λ s. NeverTells reverse_path_reads.Post (s & 0 & 1 & q lends array (0x01 ∷ []) & tt) (λ y. (writing_told y).refusal.number))
+  pub check_list : OfEach shapes (λ s. NeverTells check_list_reads.Post (s & o lends [] & 0 & 1 & q lends array (0x01 ∷ []) & tt) (λ y. (told_where y).number))
+  pub build_routes : OfEach shapes (λ s. NeverTells build_routes_reads.Post (s & 0 & 1 & tt) (λ y. (building_told y).refusal.number))
+  pub lay_route : OfEach shapes (λ s. NeverTells lay_route_reads.Post (s & o lends_mut [] & 0 & 1 & q lends array (0x01 ∷ []) & tt) (λ y. (told_where y).number))
+  pub find_route : OfEach shapes (λ s. NeverTells find_route_reads.Post (s & o lends [] & 0 & 1 & tt) (λ y. (found_told y).refusal.number))
+  pub select_routes : OfEach shapes (λ s. NeverTells select_routes_reads.Post (s & o lends [] & 0 & 1 & tt) (λ y. (selection_told y).refusal.number))
+  pub pick_place : OfEach shapes (λ s. NeverTells pick_place_reads.Post (s & o lends [] & 0 & 1 & q lends array (0x01 ∷ []) & b lends [] & tt) (λ y. (place_told y).refusal.number))
+  pub pick-refusal : OfEach shapes (λ s. NeverTells pick_refusal_reads.Post (s & o lends [] & 0 & 1 & q lends array (0x01 ∷ []) & b lends [] & tt) told)
+  pub step_once : OfEach shapes (λ s. NeverTells step_once_reads.Post (s & 0 & 1 & 0 & q lends array (0x01 ∷ []) & o lends [] & tt) (λ y. (step_told y).refusal.number))
   -- ---- from C
   pub bcube_shape : OfEach rooms (λ c. NeverTells bcube_shape_reads.Post (c & tt) (λ y. (refusal_in y).number))
   pub bcube_servers : OfEach rooms (λ c. NeverTells bcube_servers_reads.Post (c & tt) (λ y. (refusal_in y).number))

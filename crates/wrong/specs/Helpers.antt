@@ -1,9 +1,11 @@
 -- Wrong answers of the functions that serve the layers above them, wherever the table lies.
 use Rattle.std.specs.Prelude.{ℕ, ◌+◌, ◌≢◌, replicate}
-use Rattle.refusals.specs.declared.Refusal.{Refusal}
-use Rattle.refusals.specs.Refusals.{plain, refused_at, with_earlier, earlier_route, earlier_hop}
-use Rattle.refusals.proofs.Refusal.of_route.Reads as of-route
-use Rattle.refusals.proofs.Refusal.with_earlier.Reads as with-earlier
+use Rattle.refusals.specs.declared.Reason.{Reason}
+use Rattle.refusals.specs.declared.Refused.{Refused}
+use Rattle.refusals.specs.Refusals.{plain, refused_at, with_earlier}
+use Rattle.refusals.specs.Reasons.{number_of, refusal_of, told}
+use Rattle.refusals.proofs.Refused.of_route.Reads as of-route
+use Rattle.refusals.proofs.Refused.with_earlier.Reads as with-earlier
 use Rattle.room.specs.declared.Side.{Side}
 use Rattle.room.specs.Shapes.{shape_of, full_room}
 use Rattle.room.proofs.power.Reads as power
@@ -17,38 +19,42 @@ use Rattle.links.proofs.clear.Reads as clear
 use Rattle.links.proofs.room_refusal.Reads as room-refusal
 use Rattle.path.proofs.level_of.Reads as level-of
 use Rattle.path.proofs.value_of.Reads as value-of
-use Rattle.wrong.specs.Never.{Never, NeverLeaves, Loan, ◌&◌, ◌lends◌, ◌lends_mut◌}
+use Rattle.wrong.specs.Never.{Never, NeverLeaves, Loan, ◌&◌, ◌lends◌, ◌lends_mut◌, NeverTells}
 use Rattle.wrong.specs.Examples.{healthy, failing}
+
+-- the refusal for this reason at hop h of route i, with hop g of route j as the earlier one
+abbrev pub refused : Reason → ℕ → ℕ → ℕ → ℕ → Refused
+refused r i h j g = record { reason = r; route = i; hop = h; earlier_route = j; earlier_hop = g }
 
 abbrev pub a_side : ℕ → ℕ → ℕ → Side
 a_side a p m = record { first = a; stride = p; count = m }
 
 pub record Helpers (o : Loan) : Type 0 where
-  -- ---- Refusal::of_route
+  -- ---- Refused::of_route
   -- the route that it had kept
-  pub route_kept : (r i j h : ℕ) → i ≢ j → Never of-route.Post (refused_at r i h & j & tt) (refused_at r i h)
+  pub route_kept : (r : Reason) (i j h : ℕ) → i ≢ j → NeverTells of-route.Post (refused r i h 0 0 & j & tt) refusal_of (refused_at (number_of r) i h)
   -- the hop lost
-  pub hop_lost : (r i j h : ℕ) → h ≢ 0 → Never of-route.Post (refused_at r i h & j & tt) (refused_at r j 0)
+  pub hop_lost : (r : Reason) (i j h : ℕ) → h ≢ 0 → NeverTells of-route.Post (refused r i h 0 0 & j & tt) refusal_of (refused_at (number_of r) j 0)
   -- the earlier hop lost, or the earlier route
-  pub earlier_hop_lost : (r i h j g k : ℕ) → g ≢ 0 → Never of-route.Post (with_earlier j g (refused_at r i h) & k & tt) (with_earlier j 0 (refused_at r k h))
-  pub earlier_route_lost : (r i h j g k : ℕ) → j ≢ 0 → Never of-route.Post (with_earlier j g (refused_at r i h) & k & tt) (with_earlier 0 g (refused_at r k h))
+  pub earlier_hop_lost : (r : Reason) (i h j g k : ℕ) → g ≢ 0 → NeverTells of-route.Post (refused r i h j g & k & tt) refusal_of (with_earlier j 0 (refused_at (number_of r) k h))
+  pub earlier_route_lost : (r : Reason) (i h j g k : ℕ) → j ≢ 0 → NeverTells of-route.Post (refused r i h j g & k & tt) refusal_of (with_earlier 0 g (refused_at (number_of r) k h))
   -- the route given to the earlier hop too, or to it alone
-  pub earlier_route_given : (r i h j g k : ℕ) → j ≢ k → Never of-route.Post (with_earlier j g (refused_at r i h) & k & tt) (with_earlier k g (refused_at r k h))
-  pub earlier_route_alone_given : (r i h j g k : ℕ) → i ≢ k → Never of-route.Post (with_earlier j g (refused_at r i h) & k & tt) (with_earlier k g (refused_at r i h))
-  -- ---- Refusal::with_earlier
+  pub earlier_route_given : (r : Reason) (i h j g k : ℕ) → j ≢ k → NeverTells of-route.Post (refused r i h j g & k & tt) refusal_of (with_earlier k g (refused_at (number_of r) k h))
+  pub earlier_route_alone_given : (r : Reason) (i h j g k : ℕ) → i ≢ k → NeverTells of-route.Post (refused r i h j g & k & tt) refusal_of (with_earlier k g (refused_at (number_of r) i h))
+  -- ---- Refused::with_earlier
   -- nothing set
-  pub earlier_route_not_set : (y : Refusal) (i h : ℕ) → earlier_route y ≢ i → Never with-earlier.Post (y & i & h & tt) y
-  pub earlier_hop_not_set : (y : Refusal) (i h : ℕ) → earlier_hop y ≢ h → Never with-earlier.Post (y & i & h & tt) y
+  pub earlier_route_not_set : (y : Refused) (i h : ℕ) → y.earlier_route ≢ i → NeverTells with-earlier.Post (y & i & h & tt) refusal_of (refusal_of y)
+  pub earlier_hop_not_set : (y : Refused) (i h : ℕ) → y.earlier_hop ≢ h → NeverTells with-earlier.Post (y & i & h & tt) refusal_of (refusal_of y)
   -- route and hop exchanged
-  pub earlier_exchanged : (y : Refusal) (i h : ℕ) → i ≢ h → Never with-earlier.Post (y & i & h & tt) (with_earlier h i y)
+  pub earlier_exchanged : (y : Refused) (i h : ℕ) → i ≢ h → NeverTells with-earlier.Post (y & i & h & tt) refusal_of (with_earlier h i (refusal_of y))
   -- the hop counted from 0
-  pub earlier_hop_from_0 : (y : Refusal) (i h : ℕ) → Never with-earlier.Post (y & i & h + 1 & tt) (with_earlier i h y)
+  pub earlier_hop_from_0 : (y : Refused) (i h : ℕ) → NeverTells with-earlier.Post (y & i & h + 1 & tt) refusal_of (with_earlier i h (refusal_of y))
   -- the refusal's own route and hop set, or lost
-  pub own_route_set : (y : Refusal) (i h : ℕ) → y.route ≢ i → Never with-earlier.Post (y & i & h & tt) (refused_at y.number i h)
-  pub own_hop_set : (y : Refusal) (i h : ℕ) → y.hop ≢ h → Never with-earlier.Post (y & i & h & tt) (refused_at y.number i h)
-  pub own_hop_lost : (y : Refusal) (i h : ℕ) → y.hop ≢ 0 → Never with-earlier.Post (y & i & h & tt) (with_earlier i h (plain y.number))
+  pub own_route_set : (y : Refused) (i h : ℕ) → y.route ≢ i → NeverTells with-earlier.Post (y & i & h & tt) refusal_of (refused_at (number_of y.reason) i h)
+  pub own_hop_set : (y : Refused) (i h : ℕ) → y.hop ≢ h → NeverTells with-earlier.Post (y & i & h & tt) refusal_of (refused_at (number_of y.reason) i h)
+  pub own_hop_lost : (y : Refused) (i h : ℕ) → y.hop ≢ 0 → NeverTells with-earlier.Post (y & i & h & tt) refusal_of (with_earlier i h (plain (number_of y.reason)))
   -- the number lost
-  pub own_number_lost : (y : Refusal) (i h : ℕ) → y.number ≢ 0 → Never with-earlier.Post (y & i & h & tt) (with_earlier i h (refused_at 0 y.route y.hop))
+  pub own_number_lost : (y : Refused) (i h : ℕ) → NeverTells with-earlier.Post (y & i & h & tt) refusal_of (with_earlier i h (refused_at 0 y.route y.hop))
   -- ---- power
   -- base and level exchanged
   pub base_and_level_exchanged : Never power.Post (8 & 3 & tt) 6561
@@ -76,11 +82,11 @@ pub record Helpers (o : Loan) : Type 0 where
   pub n_at_level_k : Never digit_bound.Post (shape_of 8 3 4 & 3 & tt) 8
   -- ---- pair_refusal
   -- the second server not tested
-  pub second_not_tested : Never pair-refusal.Post (full_room 4 1 & 0 & 16 & tt) 0
+  pub second_not_tested : NeverTells pair-refusal.Post (full_room 4 1 & 0 & 16 & tt) told 0
   -- a server twice refused
-  pub same_server_refused : Never pair-refusal.Post (full_room 4 1 & 7 & 7 & tt) 5
+  pub same_server_refused : NeverTells pair-refusal.Post (full_room 4 1 & 7 & 7 & tt) told 5
   -- N as n to the power k + 1: 2048 of (8,3,4) taken
-  pub second_of_the_full_room : Never pair-refusal.Post (shape_of 8 3 4 & 0 & 2048 & tt) 0
+  pub second_of_the_full_room : NeverTells pair-refusal.Post (shape_of 8 3 4 & 0 & 2048 & tt) told 0
   -- ---- side_of, of 13 of (4,1) at level 1 where not said otherwise
   -- the server itself for the first
   pub server_for_first : Never side-of.Post (full_room 4 1 & 7 & 1 & tt) (a_side 7 4 4)
@@ -121,17 +127,17 @@ pub record Helpers (o : Loan) : Type 0 where
   pub cleared_twice : NeverLeaves clear.Post (o lends_mut failing 3 2 & 3 & 0 & tt) (λ x. x.0.now) (failing 3 1)
   -- ---- room_refusal
   -- 6 not tested: a table of 15 bytes
-  pub short_table_taken : Never room-refusal.Post (full_room 4 1 & o lends replicate 15 0 & 0 & 3 & tt) 0
+  pub short_table_taken : NeverTells room-refusal.Post (full_room 4 1 & o lends replicate 15 0 & 0 & 3 & tt) told 0
   -- 6 tested before 5
-  pub table_before_ends : Never room-refusal.Post (full_room 4 1 & o lends replicate 15 0 & 3 & 3 & tt) 6
+  pub table_before_ends : NeverTells room-refusal.Post (full_room 4 1 & o lends replicate 15 0 & 3 & 3 & tt) told 6
   -- the bits of a table not tested
-  pub bit_above_k_taken : Never room-refusal.Post (full_room 4 1 & o lends failing 3 4 & 0 & 3 & tt) 0
+  pub bit_above_k_taken : NeverTells room-refusal.Post (full_room 4 1 & o lends failing 3 4 & 0 & 3 & tt) told 0
   -- a good room refused
-  pub good_room_refused : Never room-refusal.Post (full_room 4 1 & o lends healthy & 0 & 3 & tt) 6
+  pub good_room_refused : NeverTells room-refusal.Post (full_room 4 1 & o lends healthy & 0 & 3 & tt) told 6
   -- N as n to the power k + 1: a table of 16 bytes for (4,1,2) taken
-  pub full_table_taken : Never room-refusal.Post (shape_of 4 1 2 & o lends healthy & 0 & 3 & tt) 0
+  pub full_table_taken : NeverTells room-refusal.Post (shape_of 4 1 2 & o lends healthy & 0 & 3 & tt) told 0
   -- its own table of 8 bytes refused
-  pub half_filled_table_refused : Never room-refusal.Post (shape_of 4 1 2 & o lends replicate 8 0 & 0 & 3 & tt) 6
+  pub half_filled_table_refused : NeverTells room-refusal.Post (shape_of 4 1 2 & o lends replicate 8 0 & 0 & 3 & tt) told 6
   -- ---- level_of
   -- the low bits
   pub level_in_low_bits : Never level-of.Post (0x42 & tt) 0x02

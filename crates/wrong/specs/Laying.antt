@@ -1,20 +1,21 @@
 -- Wrong answers of `laying`, wherever the table and the array lie.
 use Rattle.std.specs.Prelude.{[], ◌∷◌, replicate, set}
 use Rattle.refusals.specs.Refusals.{none, plain, refused_at}
+use Rattle.refusals.specs.Reasons.{told_where}
 use Rattle.room.specs.Shapes.{shape_of, full_room}
 use Rattle.laying.proofs.lay_route.Reads as lay_route
-use Rattle.wrong.specs.Never.{Never, NeverLeaves, Loan, second, ◌&◌, ◌lends◌, ◌lends_mut◌}
+use Rattle.wrong.specs.Never.{NeverLeaves, Loan, second, ◌&◌, ◌lends◌, ◌lends_mut◌, NeverTells}
 use Rattle.wrong.specs.Examples.{array, healthy, failing, direct, laid}
 
 -- the route 41 03 from 00 by 10 to 13 of (4,1), where not said otherwise
 pub record Laying (o q : Loan) : Type 0 where
   -- ---- lay_route
   -- 6 not tested: a table of 15 bytes taken
-  pub short_table_taken : Never lay_route.Post (full_room 4 1 & o lends_mut replicate 15 0 & 0 & 7 & q lends direct & tt) none
+  pub short_table_taken : NeverTells lay_route.Post (full_room 4 1 & o lends_mut replicate 15 0 & 0 & 7 & q lends direct & tt) told_where none
   -- 7 tested before 6: seven bytes, a table of none
-  pub array_before_table : Never lay_route.Post (full_room 4 1 & o lends_mut [] & 0 & 7 & q lends replicate 7 0 & tt) (plain 7)
+  pub array_before_table : NeverTells lay_route.Post (full_room 4 1 & o lends_mut [] & 0 & 7 & q lends replicate 7 0 & tt) told_where (plain 7)
   -- 11, which plain reading does not have: the level-1 link of 10 is failed already
-  pub failed_link_refused : Never lay_route.Post (full_room 4 1 & o lends_mut failing 4 2 & 0 & 7 & q lends direct & tt) (refused_at 11 1 1)
+  pub failed_link_refused : NeverTells lay_route.Post (full_room 4 1 & o lends_mut failing 4 2 & 0 & 7 & q lends direct & tt) told_where (refused_at 11 1 1)
   -- nothing laid
   pub lays_nothing : NeverLeaves lay_route.Post (full_room 4 1 & o lends_mut healthy & 0 & 7 & q lends direct & tt) second healthy
   -- middle servers laid only
@@ -39,8 +40,8 @@ pub record Laying (o q : Loan) : Type 0 where
   pub laid_on_refusal : NeverLeaves lay_route.Post (full_room 4 1 & o lends_mut healthy & 0 & 7 & q lends array (0x41 ∷ 0x41 ∷ []) & tt) second
       (2 ∷ 0 ∷ 0 ∷ 0 ∷ 2 ∷ 0 ∷ 0 ∷ 0 ∷ 2 ∷ 0 ∷ 0 ∷ 0 ∷ 2 ∷ 0 ∷ 0 ∷ 0 ∷ [])
   -- N as n to the power k + 1: a table of 16 bytes for (4,1,2) taken
-  pub full_table_taken : Never lay_route.Post (shape_of 4 1 2 & o lends_mut healthy & 0 & 7 & q lends direct & tt) none
+  pub full_table_taken : NeverTells lay_route.Post (shape_of 4 1 2 & o lends_mut healthy & 0 & 7 & q lends direct & tt) told_where none
   -- the bound of level k as n: 0 to 3 of (4,1,2) by 42 03 40
-  pub value_m_laid : Never lay_route.Post (shape_of 4 1 2 & o lends_mut replicate 8 0 & 0 & 3 & q lends array (0x42 ∷ 0x03 ∷ 0x40 ∷ []) & tt) none
+  pub value_m_laid : NeverTells lay_route.Post (shape_of 4 1 2 & o lends_mut replicate 8 0 & 0 & 3 & q lends array (0x42 ∷ 0x03 ∷ 0x40 ∷ []) & tt) told_where none
   -- m servers at a switch of level 0: 00 by 10 to 13 of (4,1,2), the links of 12 and 13 forgotten
   pub m_servers_at_level_0 : NeverLeaves lay_route.Post (shape_of 4 1 2 & o lends_mut replicate 8 0 & 0 & 7 & q lends direct & tt) second (2 ∷ 0 ∷ 0 ∷ 0 ∷ 3 ∷ 1 ∷ 0 ∷ 0 ∷ [])

@@ -1,5 +1,7 @@
 pub mod Never
+pub mod Told
 pub mod Examples
+pub mod Numbers
 pub mod Helpers
 pub mod Room
 pub mod Links

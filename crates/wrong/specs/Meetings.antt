@@ -1,7 +1,7 @@
 -- Where two routes of a list meet, and what comes again on one of them, wrongly told by checking, wherever the table and the list lie.
 use Rattle.std.specs.Prelude.{ℕ, ◌≤◌, ◌≡◌, ◌≢◌, List, [], ◌∷◌, ◌++◌}
-use Rattle.refusals.specs.declared.Refusal.{Refusal}
-use Rattle.refusals.specs.Refusals.{none, refused_at, with_earlier, earlier_route, earlier_hop}
+use Rattle.refusals.specs.Refusals.{Refusal, none, refused_at, with_earlier, earlier_route, earlier_hop}
+use Rattle.refusals.specs.Reasons.{told_where}
 use Rattle.room.specs.declared.Shape.{Shape}
 use Rattle.room.specs.Shapes.{shape_of, full_room}
 use Rattle.verdict.proofs.check_list.Reads as check_list_reads
@@ -152,7 +152,7 @@ pub record Mischecked {K A R X : Type 0} (post : K → A → R → X → Type 0)
 -- ---- each call
 
 pub record Meetings (o q : Loan) : Type 0 where
-  pub check_list : Mismet check_list_reads.Post (λ s d bs. s & o lends none_failed s & 0 & d & q lends bs & tt) (λ y. y)
+  pub check_list : Mismet check_list_reads.Post (λ s d bs. s & o lends none_failed s & 0 & d & q lends bs & tt) told_where
   pub bcube_check : Mismet bcube_check_reads.Post (λ s d bs. room_for s & 0 & d & o lends none_failed s & q lends bs & tt) refusal_in
-  pub any_check_list : (s : Shape) (t : List ℕ) (a d : ℕ) (bs : List ℕ) → Mischecked check_list_reads.Post (s & o lends t & a & d & q lends bs & tt) (λ y. y)
+  pub any_check_list : (s : Shape) (t : List ℕ) (a d : ℕ) (bs : List ℕ) → Mischecked check_list_reads.Post (s & o lends t & a & d & q lends bs & tt) told_where
   pub any_bcube_check : (c : Room) (t : List ℕ) (a d : ℕ) (bs : List ℕ) → Mischecked bcube_check_reads.Post (c & a & d & o lends t & q lends bs & tt) refusal_in

@@ -17,7 +17,7 @@ NeverLeaves {K} {A} {R} {X} post a buffer bs = (κ : K) (r : R) (x : X) → post
 abbrev pub NeverLeavesAt : {K A R X : Type 0} → (K → A → R → X → Type 0) → A → (X → List ℕ) → ℕ → ℕ → Type 0
 NeverLeavesAt {K} {A} {R} {X} post a buffer i v = (κ : K) (r : R) (x : X) → post κ a r x → get_or (buffer x) i 0 ≡ v → ⊥
 
--- the contract never allows a result of which `told` is this, a number or a refusal, whatever else it holds
+-- the contract never allows a result of which `told` is this, whatever else it holds: what a call tells by its answer, or its number or refusal
 abbrev pub NeverTells : {K A R X Y : Type 0} → (K → A → R → X → Type 0) → A → (R → Y) → Y → Type 0
 NeverTells {K} {A} {R} {X} post a told v = (κ : K) (r : R) (x : X) → post κ a r x → told r ≡ v → ⊥
 

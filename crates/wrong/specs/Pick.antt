@@ -6,8 +6,9 @@ use Rattle.pick.specs.Places.{no_place, a_place}
 use Rattle.pick.proofs.pick_route.Reads as pick_route
 use Rattle.pick.proofs.pick_place.Reads as pick_place
 use Rattle.pick.proofs.pick_refusal.Reads as pick-refusal
-use Rattle.wrong.specs.Never.{Never, Loan, ◌&◌, ◌lends◌}
+use Rattle.wrong.specs.Never.{Never, Loan, ◌&◌, ◌lends◌, NeverTells}
 use Rattle.wrong.specs.Examples.{array, healthy, failing, direct, other}
+use Rattle.wrong.specs.Told.{place_told, refusal_told}
 
 -- 00 to 13 of (4,1), where not said otherwise; with server 03 dead, the route `other` is not usable
 pub record Pick (o f k : Loan) : Type 0 where
@@ -32,29 +33,29 @@ pub record Pick (o f k : Loan) : Type 0 where
   pub fill_1_taken : (p : Loan) → Never pick_route.Post (shape_of 4 1 1 & o lends replicate 4 0 & 0 & 1 & f lends array (0x01 ∷ []) & k lends [] & tt) (p lends array (0x01 ∷ []))
   -- ---- pick_place
   -- kept before fresh
-  pub kept_told_first : Never pick_place.Post (full_room 4 1 & o lends healthy & 0 & 7 & f lends direct & k lends other & tt) (a_place 2 1)
+  pub kept_told_first : NeverTells pick_place.Post (full_room 4 1 & o lends healthy & 0 & 7 & f lends direct & k lends other & tt) place_told (a_place 2 1)
   -- the place counted from 0
-  pub place_from_0 : Never pick_place.Post (full_room 4 1 & o lends healthy & 0 & 7 & f lends direct & k lends other & tt) (a_place 1 0)
+  pub place_from_0 : NeverTells pick_place.Post (full_room 4 1 & o lends healthy & 0 & 7 & f lends direct & k lends other & tt) place_told (a_place 1 0)
   -- the place in the kept list counted on from the fresh one
-  pub places_counted_on : Never pick_place.Post (full_room 4 1 & o lends failing 3 3 & 0 & 7 & f lends other & k lends direct & tt) (a_place 2 2)
+  pub places_counted_on : NeverTells pick_place.Post (full_room 4 1 & o lends failing 3 3 & 0 & 7 & f lends other & k lends direct & tt) place_told (a_place 2 2)
   -- the bound of level k as n: 0 to 3 of (4,1,2), 42 03 40 usable
-  pub value_m_told : Never pick_place.Post (shape_of 4 1 2 & o lends replicate 8 0 & 0 & 3 & f lends array (0x42 ∷ 0x03 ∷ 0x40 ∷ []) & k lends array (0x03 ∷ []) & tt) (a_place 1 1)
+  pub value_m_told : NeverTells pick_place.Post (shape_of 4 1 2 & o lends replicate 8 0 & 0 & 3 & f lends array (0x42 ∷ 0x03 ∷ 0x40 ∷ []) & k lends array (0x03 ∷ []) & tt) place_told (a_place 1 1)
   -- the bound of level 0 as m: 0 to 3 of (4,1,2), 03 not usable
-  pub value_3_not_told : Never pick_place.Post (shape_of 4 1 2 & o lends replicate 8 0 & 0 & 3 & f lends array (0x03 ∷ []) & k lends [] & tt) (no_place 16)
+  pub value_3_not_told : NeverTells pick_place.Post (shape_of 4 1 2 & o lends replicate 8 0 & 0 & 3 & f lends array (0x03 ∷ []) & k lends [] & tt) place_told (no_place 16)
   -- N as n to the power k + 1: a table of 16 bytes for (4,1,2)
-  pub told_over_full_table : Never pick_place.Post (shape_of 4 1 2 & o lends healthy & 0 & 7 & f lends direct & k lends [] & tt) (a_place 1 1)
+  pub told_over_full_table : NeverTells pick_place.Post (shape_of 4 1 2 & o lends healthy & 0 & 7 & f lends direct & k lends [] & tt) place_told (a_place 1 1)
   -- ---- pick_refusal
   -- 16 tested before 7: a fresh list of nine bytes
-  pub sixteen_before_seven : Never pick-refusal.Post (full_room 4 1 & o lends healthy & 0 & 7 & f lends replicate 9 0 & k lends [] & tt) (plain 16)
+  pub sixteen_before_seven : NeverTells pick-refusal.Post (full_room 4 1 & o lends healthy & 0 & 7 & f lends replicate 9 0 & k lends [] & tt) refusal_told (plain 16)
   -- empty lists refused as the check refuses them
-  pub empty_lists_refused : Never pick-refusal.Post (full_room 4 1 & o lends healthy & 0 & 7 & f lends [] & k lends [] & tt) (plain 7)
+  pub empty_lists_refused : NeverTells pick-refusal.Post (full_room 4 1 & o lends healthy & 0 & 7 & f lends [] & k lends [] & tt) refusal_told (plain 7)
   -- the kept list not tested, since the fresh one has a route
-  pub kept_not_tested : Never pick-refusal.Post (full_room 4 1 & o lends healthy & 0 & 7 & f lends direct & k lends replicate 9 0 & tt) none
+  pub kept_not_tested : NeverTells pick-refusal.Post (full_room 4 1 & o lends healthy & 0 & 7 & f lends direct & k lends replicate 9 0 & tt) refusal_told none
   -- why the last route is not usable, told for why there is none
-  pub check_told : Never pick-refusal.Post (full_room 4 1 & o lends failing 3 3 & 0 & 7 & f lends other & k lends [] & tt) (refused_at 11 1 1)
+  pub check_told : NeverTells pick-refusal.Post (full_room 4 1 & o lends failing 3 3 & 0 & 7 & f lends other & k lends [] & tt) refusal_told (refused_at 11 1 1)
   -- the bound of level k as n: 0 to 3 of (4,1,2), 42 03 40 usable
-  pub value_m_usable : Never pick-refusal.Post (shape_of 4 1 2 & o lends replicate 8 0 & 0 & 3 & f lends array (0x42 ∷ 0x03 ∷ 0x40 ∷ []) & k lends [] & tt) none
+  pub value_m_usable : NeverTells pick-refusal.Post (shape_of 4 1 2 & o lends replicate 8 0 & 0 & 3 & f lends array (0x42 ∷ 0x03 ∷ 0x40 ∷ []) & k lends [] & tt) refusal_told none
   -- the bound of level 0 as m: 0 to 3 of (4,1,2), 03 not usable
-  pub value_3_not_usable : Never pick-refusal.Post (shape_of 4 1 2 & o lends replicate 8 0 & 0 & 3 & f lends array (0x03 ∷ []) & k lends [] & tt) (plain 16)
+  pub value_3_not_usable : NeverTells pick-refusal.Post (shape_of 4 1 2 & o lends replicate 8 0 & 0 & 3 & f lends array (0x03 ∷ []) & k lends [] & tt) refusal_told (plain 16)
   -- N as n to the power k + 1: a table of 16 bytes for (4,1,2)
-  pub usable_over_full_table : Never pick-refusal.Post (shape_of 4 1 2 & o lends healthy & 0 & 7 & f lends direct & k lends [] & tt) none
+  pub usable_over_full_table : NeverTells pick-refusal.Post (shape_of 4 1 2 & o lends healthy & 0 & 7 & f lends direct & k lends [] & tt) refusal_told none

@@ -5,7 +5,7 @@ use Rattle.room.specs.declared.Shape.{Shape}
 use Rattle.room.specs.Shapes.{shape_of, full_room, Server}
 use Rattle.room.specs.Addresses.{switch_of}
 use Rattle.links.specs.Table.{failed, room_table_refusal, table_link_refusal, table_server_refusal}
-use Rattle.summary.specs.declared.DeadSwitch.{DeadSwitch}
+use Rattle.summary.specs.Told.{DeadSwitch}
 use Rattle.summary.specs.Counts.{switches_in, place_of, count_at, summary_of}
 use Rattle.summary.specs.Refusals.{counted_link_refusal, counted_server_refusal, entries_refusal}
 use Rattle.summary.specs.Answers.{none_dead, dead_at}
@@ -16,44 +16,45 @@ use Rattle.summary.proofs.mark_server.Reads as mark-server
 use Rattle.summary.proofs.clear_server.Reads as clear-server
 use Rattle.summary.proofs.dead_switch.Reads as dead-switch
 use Rattle.summary.proofs.summarize.Reads as summarize
-use Rattle.wrong.specs.Never.{Never, NeverLeaves, Loan, second, third, ◌&◌, ◌lends◌, ◌lends_mut◌}
+use Rattle.wrong.specs.Never.{NeverLeaves, Loan, second, third, ◌&◌, ◌lends◌, ◌lends_mut◌, NeverTells}
 use Rattle.wrong.specs.Examples.{healthy, failing, unmarked, counting, half_healthy, half_failing, half_unmarked, half_counting, stale}
+use Rattle.wrong.specs.Told.{refusal_told, dead_told}
 
 -- o lends a table, q a summary
 pub record Summary (o q : Loan) : Type 0 where
   -- ---- mark_link
   -- level k + 1 marked
-  pub marked_above_k : Never mark-link.Post (full_room 4 1 & o lends_mut healthy & q lends_mut unmarked & 3 & 2 & tt) none
+  pub marked_above_k : NeverTells mark-link.Post (full_room 4 1 & o lends_mut healthy & q lends_mut unmarked & 3 & 2 & tt) refusal_told none
   -- 6 tested before 4: server 16, a table of 15 bytes
-  pub table_before_address : Never mark-link.Post (full_room 4 1 & o lends_mut replicate 15 0 & q lends_mut unmarked & 16 & 0 & tt) (plain 6)
+  pub table_before_address : NeverTells mark-link.Post (full_room 4 1 & o lends_mut replicate 15 0 & q lends_mut unmarked & 16 & 0 & tt) refusal_told (plain 6)
   -- 30 tested before 4: server 16, a summary of 9 bytes
-  pub summary_before_address : Never mark-link.Post (full_room 4 1 & o lends_mut healthy & q lends_mut replicate 9 0 & 16 & 0 & tt) (plain 30)
+  pub summary_before_address : NeverTells mark-link.Post (full_room 4 1 & o lends_mut healthy & q lends_mut replicate 9 0 & 16 & 0 & tt) refusal_told (plain 30)
   -- 30 tested before 20: level 2, a summary of 9 bytes
-  pub summary_before_level : Never mark-link.Post (full_room 4 1 & o lends_mut healthy & q lends_mut replicate 9 0 & 3 & 2 & tt) (plain 30)
+  pub summary_before_level : NeverTells mark-link.Post (full_room 4 1 & o lends_mut healthy & q lends_mut replicate 9 0 & 3 & 2 & tt) refusal_told (plain 30)
   -- 30 tested before 6: a bit above k, a summary of 8 bytes for the 6 switches of (4,1,2)
-  pub summary_before_table : Never mark-link.Post (shape_of 4 1 2 & o lends_mut half_failing 0 4 & q lends_mut replicate 8 0 & 5 & 1 & tt) (plain 30)
+  pub summary_before_table : NeverTells mark-link.Post (shape_of 4 1 2 & o lends_mut half_failing 0 4 & q lends_mut replicate 8 0 & 5 & 1 & tt) refusal_told (plain 30)
   -- 6 for 30: the same summary with a sound table
-  pub six_for_thirty : Never mark-link.Post (shape_of 4 1 2 & o lends_mut half_healthy & q lends_mut replicate 8 0 & 5 & 1 & tt) (plain 6)
+  pub six_for_thirty : NeverTells mark-link.Post (shape_of 4 1 2 & o lends_mut half_healthy & q lends_mut replicate 8 0 & 5 & 1 & tt) refusal_told (plain 6)
   -- a place told with 30, which has none
-  pub thirty_at_route_1 : Never mark-link.Post (shape_of 4 1 2 & o lends_mut half_healthy & q lends_mut replicate 8 0 & 5 & 1 & tt) (refused_at 30 1 0)
+  pub thirty_at_route_1 : NeverTells mark-link.Post (shape_of 4 1 2 & o lends_mut half_healthy & q lends_mut replicate 8 0 & 5 & 1 & tt) refusal_told (refused_at 30 1 0)
   -- the 8 switches of the full room counted: that summary taken
-  pub full_summary_taken : Never mark-link.Post (shape_of 4 1 2 & o lends_mut half_healthy & q lends_mut replicate 8 0 & 5 & 1 & tt) none
+  pub full_summary_taken : NeverTells mark-link.Post (shape_of 4 1 2 & o lends_mut half_healthy & q lends_mut replicate 8 0 & 5 & 1 & tt) refusal_told none
   -- a summary of one byte too many taken
-  pub long_summary_taken : Never mark-link.Post (shape_of 4 1 2 & o lends_mut half_healthy & q lends_mut replicate 7 0 & 5 & 1 & tt) none
+  pub long_summary_taken : NeverTells mark-link.Post (shape_of 4 1 2 & o lends_mut half_healthy & q lends_mut replicate 7 0 & 5 & 1 & tt) refusal_told none
   -- a summary of one byte too few taken
-  pub short_summary_taken : Never mark-link.Post (shape_of 4 1 2 & o lends_mut half_healthy & q lends_mut replicate 5 0 & 5 & 1 & tt) none
+  pub short_summary_taken : NeverTells mark-link.Post (shape_of 4 1 2 & o lends_mut half_healthy & q lends_mut replicate 5 0 & 5 & 1 & tt) refusal_told none
   -- 30 not given: the entry says 1, and nothing is marked
-  pub entry_not_tested : Never mark-link.Post (shape_of 4 1 2 & o lends_mut half_healthy & q lends_mut half_counting 3 1 & 5 & 1 & tt) none
+  pub entry_not_tested : NeverTells mark-link.Post (shape_of 4 1 2 & o lends_mut half_healthy & q lends_mut half_counting 3 1 & 5 & 1 & tt) refusal_told none
   -- 30 not given where the mark would change nothing: the entry says 0, and it is marked
-  pub entry_not_tested_again : Never mark-link.Post (shape_of 4 1 2 & o lends_mut half_failing 5 2 & q lends_mut half_unmarked & 5 & 1 & tt) none
+  pub entry_not_tested_again : NeverTells mark-link.Post (shape_of 4 1 2 & o lends_mut half_failing 5 2 & q lends_mut half_unmarked & 5 & 1 & tt) refusal_told none
   -- 30 for entries that are wrong elsewhere
-  pub elsewhere_tested : Never mark-link.Post (shape_of 4 1 2 & o lends_mut half_healthy & q lends_mut set (half_counting 0 9) 5 7 & 5 & 1 & tt) (plain 30)
+  pub elsewhere_tested : NeverTells mark-link.Post (shape_of 4 1 2 & o lends_mut half_healthy & q lends_mut set (half_counting 0 9) 5 7 & 5 & 1 & tt) refusal_told (plain 30)
   -- m servers counted at a switch of level 0: the mark of server 3 missed, and the entry refused
-  pub m_servers_counted : Never mark-link.Post (shape_of 4 1 2 & o lends_mut half_failing 3 1 & q lends_mut half_counting 0 1 & 0 & 0 & tt) (plain 30)
+  pub m_servers_counted : NeverTells mark-link.Post (shape_of 4 1 2 & o lends_mut half_failing 3 1 & q lends_mut half_counting 0 1 & 0 & 0 & tt) refusal_told (plain 30)
   -- the marks of another level counted: the level-0 link of server 1 at its switch of level 1
-  pub another_level_counted : Never mark-link.Post (shape_of 4 1 2 & o lends_mut half_failing 1 1 & q lends_mut half_counting 0 1 & 5 & 1 & tt) (plain 30)
+  pub another_level_counted : NeverTells mark-link.Post (shape_of 4 1 2 & o lends_mut half_failing 1 1 & q lends_mut half_counting 0 1 & 5 & 1 & tt) refusal_told (plain 30)
   -- the place of an entry as level times n to the power k, plus number: 5 tested for 3
-  pub place_by_power_tested : Never mark-link.Post (shape_of 4 1 2 & o lends_mut set (half_failing 1 2) 5 2 & q lends_mut half_counting 3 2 & 5 & 1 & tt) (plain 30)
+  pub place_by_power_tested : NeverTells mark-link.Post (shape_of 4 1 2 & o lends_mut set (half_failing 1 2) 5 2 & q lends_mut half_counting 3 2 & 5 & 1 & tt) refusal_told (plain 30)
   -- nothing marked
   pub marks_nothing : NeverLeaves mark-link.Post (full_room 4 1 & o lends_mut failing 3 1 & q lends_mut counting 0 1 & 3 & 1 & tt) second (failing 3 1)
   -- the byte set, and not its bit: the mark of level 0 lost
@@ -99,26 +100,26 @@ pub record Summary (o q : Loan) : Type 0 where
   -- any refusal on which the summary is touched
   pub mark_refused_and_summary_touched : (s : Shape) (t c u : List ℕ) (a l : ℕ) → counted_link_refusal s t c a l ≢ 0 → u ≢ c → NeverLeaves mark-link.Post (s & o lends_mut t & q lends_mut c & a & l & tt) third u
   -- 30 told where any test before it refuses
-  pub mark_thirty_first : (s : Shape) (t c : List ℕ) (a l : ℕ) → table_link_refusal s t a l ≢ 0 → Never mark-link.Post (s & o lends_mut t & q lends_mut c & a & l & tt) (plain 30)
+  pub mark_thirty_first : (s : Shape) (t c : List ℕ) (a l : ℕ) → table_link_refusal s t a l ≢ 0 → NeverTells mark-link.Post (s & o lends_mut t & q lends_mut c & a & l & tt) refusal_told (plain 30)
   -- 30 told of any summary that has an entry for each switch and the right one for that of the link
-  pub mark_other_entries_tested : (s : Shape) (t c : List ℕ) (a l : ℕ) → length c ≡ length (switches_in s) → get_or c (place_of s l (switch_of s l a)) 0 ≡ count_at s t l (switch_of s l a) → Never mark-link.Post (s & o lends_mut t & q lends_mut c & a & l & tt) (plain 30)
+  pub mark_other_entries_tested : (s : Shape) (t c : List ℕ) (a l : ℕ) → length c ≡ length (switches_in s) → get_or c (place_of s l (switch_of s l a)) 0 ≡ count_at s t l (switch_of s l a) → NeverTells mark-link.Post (s & o lends_mut t & q lends_mut c & a & l & tt) refusal_told (plain 30)
   -- ---- clear_link
   -- level k + 1 cleared
-  pub cleared_above_k : Never clear-link.Post (full_room 4 1 & o lends_mut healthy & q lends_mut unmarked & 3 & 2 & tt) none
+  pub cleared_above_k : NeverTells clear-link.Post (full_room 4 1 & o lends_mut healthy & q lends_mut unmarked & 3 & 2 & tt) refusal_told none
   -- 20 tested before 4: level 2 of server 16
-  pub level_before_address : Never clear-link.Post (full_room 4 1 & o lends_mut healthy & q lends_mut unmarked & 16 & 2 & tt) (plain 20)
+  pub level_before_address : NeverTells clear-link.Post (full_room 4 1 & o lends_mut healthy & q lends_mut unmarked & 16 & 2 & tt) refusal_told (plain 20)
   -- 30 tested before 6: a bit above k, a summary of 8 bytes for (4,1,2)
-  pub clear_summary_before_table : Never clear-link.Post (shape_of 4 1 2 & o lends_mut half_failing 0 4 & q lends_mut replicate 8 0 & 5 & 1 & tt) (plain 30)
+  pub clear_summary_before_table : NeverTells clear-link.Post (shape_of 4 1 2 & o lends_mut half_failing 0 4 & q lends_mut replicate 8 0 & 5 & 1 & tt) refusal_told (plain 30)
   -- a summary of one byte too many taken
-  pub clear_long_summary_taken : Never clear-link.Post (shape_of 4 1 2 & o lends_mut half_healthy & q lends_mut replicate 7 0 & 5 & 1 & tt) none
+  pub clear_long_summary_taken : NeverTells clear-link.Post (shape_of 4 1 2 & o lends_mut half_healthy & q lends_mut replicate 7 0 & 5 & 1 & tt) refusal_told none
   -- 30 not given: the entry says 2, and one is marked
-  pub clear_entry_not_tested : Never clear-link.Post (shape_of 4 1 2 & o lends_mut half_failing 5 2 & q lends_mut half_counting 3 2 & 5 & 1 & tt) none
+  pub clear_entry_not_tested : NeverTells clear-link.Post (shape_of 4 1 2 & o lends_mut half_failing 5 2 & q lends_mut half_counting 3 2 & 5 & 1 & tt) refusal_told none
   -- 30 not given where clearing would change nothing: the entry says 1, and nothing is marked
-  pub clear_entry_not_tested_again : Never clear-link.Post (shape_of 4 1 2 & o lends_mut half_healthy & q lends_mut half_counting 3 1 & 5 & 1 & tt) none
+  pub clear_entry_not_tested_again : NeverTells clear-link.Post (shape_of 4 1 2 & o lends_mut half_healthy & q lends_mut half_counting 3 1 & 5 & 1 & tt) refusal_told none
   -- 30 for entries that are wrong elsewhere
-  pub clear_elsewhere_tested : Never clear-link.Post (shape_of 4 1 2 & o lends_mut half_healthy & q lends_mut set (half_counting 0 9) 5 7 & 5 & 1 & tt) (plain 30)
+  pub clear_elsewhere_tested : NeverTells clear-link.Post (shape_of 4 1 2 & o lends_mut half_healthy & q lends_mut set (half_counting 0 9) 5 7 & 5 & 1 & tt) refusal_told (plain 30)
   -- 30 for a link that is not marked
-  pub unmarked_refused : Never clear-link.Post (shape_of 4 1 2 & o lends_mut half_healthy & q lends_mut half_unmarked & 5 & 1 & tt) (plain 30)
+  pub unmarked_refused : NeverTells clear-link.Post (shape_of 4 1 2 & o lends_mut half_healthy & q lends_mut half_unmarked & 5 & 1 & tt) refusal_told (plain 30)
   -- nothing cleared
   pub clears_nothing : NeverLeaves clear-link.Post (full_room 4 1 & o lends_mut failing 3 3 & q lends_mut set (counting 0 1) 7 1 & 3 & 0 & tt) second (failing 3 3)
   -- all links of the server cleared
@@ -154,26 +155,26 @@ pub record Summary (o q : Loan) : Type 0 where
   -- any refusal on which the summary is touched
   pub clear_refused_and_summary_touched : (s : Shape) (t c u : List ℕ) (a l : ℕ) → counted_link_refusal s t c a l ≢ 0 → u ≢ c → NeverLeaves clear-link.Post (s & o lends_mut t & q lends_mut c & a & l & tt) third u
   -- 30 told where any test before it refuses
-  pub clear_thirty_first : (s : Shape) (t c : List ℕ) (a l : ℕ) → table_link_refusal s t a l ≢ 0 → Never clear-link.Post (s & o lends_mut t & q lends_mut c & a & l & tt) (plain 30)
+  pub clear_thirty_first : (s : Shape) (t c : List ℕ) (a l : ℕ) → table_link_refusal s t a l ≢ 0 → NeverTells clear-link.Post (s & o lends_mut t & q lends_mut c & a & l & tt) refusal_told (plain 30)
   -- 30 told of any summary that has an entry for each switch and the right one for that of the link
-  pub clear_other_entries_tested : (s : Shape) (t c : List ℕ) (a l : ℕ) → length c ≡ length (switches_in s) → get_or c (place_of s l (switch_of s l a)) 0 ≡ count_at s t l (switch_of s l a) → Never clear-link.Post (s & o lends_mut t & q lends_mut c & a & l & tt) (plain 30)
+  pub clear_other_entries_tested : (s : Shape) (t c : List ℕ) (a l : ℕ) → length c ≡ length (switches_in s) → get_or c (place_of s l (switch_of s l a)) 0 ≡ count_at s t l (switch_of s l a) → NeverTells clear-link.Post (s & o lends_mut t & q lends_mut c & a & l & tt) refusal_told (plain 30)
   -- ---- mark_server, of which server 5 of (4,1,2) is at switch 1 of level 0 and at switch 1 of level 1: places 1 and 3
   -- server N marked
-  pub server_n_marked : Never mark-server.Post (full_room 4 1 & o lends_mut healthy & q lends_mut unmarked & 16 & tt) none
+  pub server_n_marked : NeverTells mark-server.Post (full_room 4 1 & o lends_mut healthy & q lends_mut unmarked & 16 & tt) refusal_told none
   -- 6 tested before 4: server 16, a table of 15 bytes
-  pub mark_table_before_address : Never mark-server.Post (full_room 4 1 & o lends_mut replicate 15 0 & q lends_mut unmarked & 16 & tt) (plain 6)
+  pub mark_table_before_address : NeverTells mark-server.Post (full_room 4 1 & o lends_mut replicate 15 0 & q lends_mut unmarked & 16 & tt) refusal_told (plain 6)
   -- 30 tested before 6: a bit above k, a summary of 8 bytes for (4,1,2)
-  pub server_summary_before_table : Never mark-server.Post (shape_of 4 1 2 & o lends_mut half_failing 0 4 & q lends_mut replicate 8 0 & 5 & tt) (plain 30)
+  pub server_summary_before_table : NeverTells mark-server.Post (shape_of 4 1 2 & o lends_mut half_failing 0 4 & q lends_mut replicate 8 0 & 5 & tt) refusal_told (plain 30)
   -- a summary of one byte too many taken
-  pub server_long_summary_taken : Never mark-server.Post (shape_of 4 1 2 & o lends_mut half_healthy & q lends_mut replicate 7 0 & 5 & tt) none
+  pub server_long_summary_taken : NeverTells mark-server.Post (shape_of 4 1 2 & o lends_mut half_healthy & q lends_mut replicate 7 0 & 5 & tt) refusal_told none
   -- the entry of level 0 tested alone: that of level 1 says 1, and nothing is marked
-  pub level_k_not_tested : Never mark-server.Post (shape_of 4 1 2 & o lends_mut half_healthy & q lends_mut half_counting 3 1 & 5 & tt) none
+  pub level_k_not_tested : NeverTells mark-server.Post (shape_of 4 1 2 & o lends_mut half_healthy & q lends_mut half_counting 3 1 & 5 & tt) refusal_told none
   -- the entry of level k tested alone
-  pub level_0_not_tested : Never mark-server.Post (shape_of 4 1 2 & o lends_mut half_healthy & q lends_mut half_counting 1 1 & 5 & tt) none
+  pub level_0_not_tested : NeverTells mark-server.Post (shape_of 4 1 2 & o lends_mut half_healthy & q lends_mut half_counting 1 1 & 5 & tt) refusal_told none
   -- 30 not given where the marks would change nothing
-  pub dead_server_not_tested : Never mark-server.Post (shape_of 4 1 2 & o lends_mut half_failing 5 3 & q lends_mut half_unmarked & 5 & tt) none
+  pub dead_server_not_tested : NeverTells mark-server.Post (shape_of 4 1 2 & o lends_mut half_failing 5 3 & q lends_mut half_unmarked & 5 & tt) refusal_told none
   -- 30 for entries that are wrong elsewhere
-  pub server_elsewhere_tested : Never mark-server.Post (shape_of 4 1 2 & o lends_mut half_healthy & q lends_mut set (half_counting 0 9) 5 7 & 5 & tt) (plain 30)
+  pub server_elsewhere_tested : NeverTells mark-server.Post (shape_of 4 1 2 & o lends_mut half_healthy & q lends_mut set (half_counting 0 9) 5 7 & 5 & tt) refusal_told (plain 30)
   -- nothing marked
   pub marks_no_server : NeverLeaves mark-server.Post (full_room 4 1 & o lends_mut failing 3 1 & q lends_mut counting 0 1 & 3 & tt) second (failing 3 1)
   -- one link marked, that of level k
@@ -217,28 +218,28 @@ pub record Summary (o q : Loan) : Type 0 where
   -- any refusal on which the summary is touched
   pub mark_server_refused_and_summary_touched : (s : Shape) (t c u : List ℕ) (a : ℕ) → counted_server_refusal s t c a ≢ 0 → u ≢ c → NeverLeaves mark-server.Post (s & o lends_mut t & q lends_mut c & a & tt) third u
   -- 30 told where any test before it refuses
-  pub mark_server_thirty_first : (s : Shape) (t c : List ℕ) (a : ℕ) → table_server_refusal s t a ≢ 0 → Never mark-server.Post (s & o lends_mut t & q lends_mut c & a & tt) (plain 30)
+  pub mark_server_thirty_first : (s : Shape) (t c : List ℕ) (a : ℕ) → table_server_refusal s t a ≢ 0 → NeverTells mark-server.Post (s & o lends_mut t & q lends_mut c & a & tt) refusal_told (plain 30)
   -- ---- clear_server
   -- server N cleared
-  pub server_n_cleared : Never clear-server.Post (full_room 4 1 & o lends_mut healthy & q lends_mut unmarked & 16 & tt) none
+  pub server_n_cleared : NeverTells clear-server.Post (full_room 4 1 & o lends_mut healthy & q lends_mut unmarked & 16 & tt) refusal_told none
   -- 6 tested before 4: server 16, and a bit above k
-  pub clear_table_before_address : Never clear-server.Post (full_room 4 1 & o lends_mut failing 3 4 & q lends_mut unmarked & 16 & tt) (plain 6)
+  pub clear_table_before_address : NeverTells clear-server.Post (full_room 4 1 & o lends_mut failing 3 4 & q lends_mut unmarked & 16 & tt) refusal_told (plain 6)
   -- a server that is live refused
-  pub live_server_refused : Never clear-server.Post (full_room 4 1 & o lends_mut healthy & q lends_mut unmarked & 3 & tt) (plain 6)
+  pub live_server_refused : NeverTells clear-server.Post (full_room 4 1 & o lends_mut healthy & q lends_mut unmarked & 3 & tt) refusal_told (plain 6)
   -- the same with 30
-  pub live_server_refused_30 : Never clear-server.Post (shape_of 4 1 2 & o lends_mut half_healthy & q lends_mut half_unmarked & 5 & tt) (plain 30)
+  pub live_server_refused_30 : NeverTells clear-server.Post (shape_of 4 1 2 & o lends_mut half_healthy & q lends_mut half_unmarked & 5 & tt) refusal_told (plain 30)
   -- 30 tested before 6: a bit above k, a summary of 8 bytes for (4,1,2)
-  pub clear_server_summary_before_table : Never clear-server.Post (shape_of 4 1 2 & o lends_mut half_failing 0 4 & q lends_mut replicate 8 0 & 5 & tt) (plain 30)
+  pub clear_server_summary_before_table : NeverTells clear-server.Post (shape_of 4 1 2 & o lends_mut half_failing 0 4 & q lends_mut replicate 8 0 & 5 & tt) refusal_told (plain 30)
   -- a summary of one byte too many taken
-  pub clear_server_long_summary_taken : Never clear-server.Post (shape_of 4 1 2 & o lends_mut half_healthy & q lends_mut replicate 7 0 & 5 & tt) none
+  pub clear_server_long_summary_taken : NeverTells clear-server.Post (shape_of 4 1 2 & o lends_mut half_healthy & q lends_mut replicate 7 0 & 5 & tt) refusal_told none
   -- the entry of level 0 tested alone
-  pub clear_level_k_not_tested : Never clear-server.Post (shape_of 4 1 2 & o lends_mut half_failing 5 3 & q lends_mut half_counting 1 1 & 5 & tt) none
+  pub clear_level_k_not_tested : NeverTells clear-server.Post (shape_of 4 1 2 & o lends_mut half_failing 5 3 & q lends_mut half_counting 1 1 & 5 & tt) refusal_told none
   -- the entry of level k tested alone
-  pub clear_level_0_not_tested : Never clear-server.Post (shape_of 4 1 2 & o lends_mut half_failing 5 3 & q lends_mut half_counting 3 1 & 5 & tt) none
+  pub clear_level_0_not_tested : NeverTells clear-server.Post (shape_of 4 1 2 & o lends_mut half_failing 5 3 & q lends_mut half_counting 3 1 & 5 & tt) refusal_told none
   -- 30 not given where clearing would change nothing: an entry says 1, and nothing is marked
-  pub clear_server_not_tested_again : Never clear-server.Post (shape_of 4 1 2 & o lends_mut half_healthy & q lends_mut half_counting 3 1 & 5 & tt) none
+  pub clear_server_not_tested_again : NeverTells clear-server.Post (shape_of 4 1 2 & o lends_mut half_healthy & q lends_mut half_counting 3 1 & 5 & tt) refusal_told none
   -- 30 for entries that are wrong elsewhere
-  pub clear_server_elsewhere_tested : Never clear-server.Post (shape_of 4 1 2 & o lends_mut half_healthy & q lends_mut set (half_counting 0 9) 5 7 & 5 & tt) (plain 30)
+  pub clear_server_elsewhere_tested : NeverTells clear-server.Post (shape_of 4 1 2 & o lends_mut half_healthy & q lends_mut set (half_counting 0 9) 5 7 & 5 & tt) refusal_told (plain 30)
   -- nothing cleared
   pub clears_no_server : NeverLeaves clear-server.Post (full_room 4 1 & o lends_mut failing 3 3 & q lends_mut set (counting 0 1) 7 1 & 3 & tt) second (failing 3 3)
   -- one link cleared, that of level 0
@@ -274,75 +275,75 @@ pub record Summary (o q : Loan) : Type 0 where
   -- any refusal on which the summary is touched
   pub clear_server_refused_and_summary_touched : (s : Shape) (t c u : List ℕ) (a : ℕ) → counted_server_refusal s t c a ≢ 0 → u ≢ c → NeverLeaves clear-server.Post (s & o lends_mut t & q lends_mut c & a & tt) third u
   -- 30 told where any test before it refuses
-  pub clear_server_thirty_first : (s : Shape) (t c : List ℕ) (a : ℕ) → table_server_refusal s t a ≢ 0 → Never clear-server.Post (s & o lends_mut t & q lends_mut c & a & tt) (plain 30)
+  pub clear_server_thirty_first : (s : Shape) (t c : List ℕ) (a : ℕ) → table_server_refusal s t a ≢ 0 → NeverTells clear-server.Post (s & o lends_mut t & q lends_mut c & a & tt) refusal_told (plain 30)
   -- ---- dead_switch, of which a switch of level 0 of (4,1,2) has four servers, a switch of level 1 two
   -- n links wanted at a switch of level k: both links of switch 1 marked, and none found
-  pub n_for_m : Never dead-switch.Post (shape_of 4 1 2 & o lends set (half_failing 1 2) 5 2 & q lends half_counting 3 2 & tt) (none_dead 0)
+  pub n_for_m : NeverTells dead-switch.Post (shape_of 4 1 2 & o lends set (half_failing 1 2) 5 2 & q lends half_counting 3 2 & tt) dead_told (none_dead 0)
   -- m links wanted at a switch of level 0: two of four marked, and found
-  pub m_for_n : Never dead-switch.Post (shape_of 4 1 2 & o lends set (half_failing 0 1) 1 1 & q lends half_counting 0 2 & tt) (dead_at 0 0)
+  pub m_for_n : NeverTells dead-switch.Post (shape_of 4 1 2 & o lends set (half_failing 0 1) 1 1 & q lends half_counting 0 2 & tt) dead_told (dead_at 0 0)
   -- a switch found by one mark
-  pub one_mark_is_dead : Never dead-switch.Post (shape_of 4 1 2 & o lends half_failing 5 2 & q lends half_counting 3 1 & tt) (dead_at 1 1)
+  pub one_mark_is_dead : NeverTells dead-switch.Post (shape_of 4 1 2 & o lends half_failing 5 2 & q lends half_counting 3 1 & tt) dead_told (dead_at 1 1)
   -- switch 0 of level 0 found, and told as none
-  pub first_switch_is_none : Never dead-switch.Post (shape_of 4 1 2 & o lends 1 ∷ 1 ∷ 1 ∷ 1 ∷ 0 ∷ 0 ∷ 0 ∷ 0 ∷ [] & q lends half_counting 0 4 & tt) (none_dead 0)
+  pub first_switch_is_none : NeverTells dead-switch.Post (shape_of 4 1 2 & o lends 1 ∷ 1 ∷ 1 ∷ 1 ∷ 0 ∷ 0 ∷ 0 ∷ 0 ∷ [] & q lends half_counting 0 4 & tt) dead_told (none_dead 0)
   -- none found, and told as switch 0 of level 0
-  pub none_is_first_switch : Never dead-switch.Post (shape_of 4 1 2 & o lends half_healthy & q lends half_unmarked & tt) (dead_at 0 0)
+  pub none_is_first_switch : NeverTells dead-switch.Post (shape_of 4 1 2 & o lends half_healthy & q lends half_unmarked & tt) dead_told (dead_at 0 0)
   -- the second of two dead switches of a level
-  pub later_switch_given : Never dead-switch.Post (shape_of 4 1 2 & o lends 0 ∷ 2 ∷ 2 ∷ 0 ∷ 0 ∷ 2 ∷ 2 ∷ 0 ∷ [] & q lends set (half_counting 3 2) 4 2 & tt) (dead_at 1 2)
+  pub later_switch_given : NeverTells dead-switch.Post (shape_of 4 1 2 & o lends 0 ∷ 2 ∷ 2 ∷ 0 ∷ 0 ∷ 2 ∷ 2 ∷ 0 ∷ [] & q lends set (half_counting 3 2) 4 2 & tt) dead_told (dead_at 1 2)
   -- the higher level first
-  pub higher_level_first : Never dead-switch.Post (shape_of 4 1 2 & o lends 3 ∷ 1 ∷ 1 ∷ 1 ∷ 2 ∷ 0 ∷ 0 ∷ 0 ∷ [] & q lends set (half_counting 0 4) 2 2 & tt) (dead_at 1 0)
+  pub higher_level_first : NeverTells dead-switch.Post (shape_of 4 1 2 & o lends 3 ∷ 1 ∷ 1 ∷ 1 ∷ 2 ∷ 0 ∷ 0 ∷ 0 ∷ [] & q lends set (half_counting 0 4) 2 2 & tt) dead_told (dead_at 1 0)
   -- the place among all switches for the number in the level
-  pub place_for_number : Never dead-switch.Post (shape_of 4 1 2 & o lends set (half_failing 1 2) 5 2 & q lends half_counting 3 2 & tt) (dead_at 1 3)
+  pub place_for_number : NeverTells dead-switch.Post (shape_of 4 1 2 & o lends set (half_failing 1 2) 5 2 & q lends half_counting 3 2 & tt) dead_told (dead_at 1 3)
   -- level and number by the power of n, as if level 0 had four switches
-  pub level_by_power : Never dead-switch.Post (shape_of 4 1 2 & o lends set (half_failing 1 2) 5 2 & q lends half_counting 3 2 & tt) (dead_at 0 3)
+  pub level_by_power : NeverTells dead-switch.Post (shape_of 4 1 2 & o lends set (half_failing 1 2) 5 2 & q lends half_counting 3 2 & tt) dead_told (dead_at 0 3)
   -- level and number exchanged
-  pub dead_level_and_number_exchanged : Never dead-switch.Post (shape_of 4 1 2 & o lends 0 ∷ 0 ∷ 2 ∷ 0 ∷ 0 ∷ 0 ∷ 2 ∷ 0 ∷ [] & q lends half_counting 4 2 & tt) (dead_at 2 1)
+  pub dead_level_and_number_exchanged : NeverTells dead-switch.Post (shape_of 4 1 2 & o lends 0 ∷ 0 ∷ 2 ∷ 0 ∷ 0 ∷ 0 ∷ 2 ∷ 0 ∷ [] & q lends half_counting 4 2 & tt) dead_told (dead_at 2 1)
   -- a dead server taken for a dead switch
-  pub server_for_switch : Never dead-switch.Post (shape_of 4 1 2 & o lends half_failing 5 3 & q lends set (half_counting 1 1) 3 1 & tt) (dead_at 0 1)
+  pub server_for_switch : NeverTells dead-switch.Post (shape_of 4 1 2 & o lends half_failing 5 3 & q lends set (half_counting 1 1) 3 1 & tt) dead_told (dead_at 0 1)
   -- the summary believed: an entry says 2, and nothing is marked
-  pub table_not_counted : Never dead-switch.Post (shape_of 4 1 2 & o lends half_healthy & q lends half_counting 3 2 & tt) (dead_at 1 1)
+  pub table_not_counted : NeverTells dead-switch.Post (shape_of 4 1 2 & o lends half_healthy & q lends half_counting 3 2 & tt) dead_told (dead_at 1 1)
   -- the table counted, and the summary not tested
-  pub summary_not_asked : Never dead-switch.Post (shape_of 4 1 2 & o lends set (half_failing 1 2) 5 2 & q lends half_unmarked & tt) (dead_at 1 1)
+  pub summary_not_asked : NeverTells dead-switch.Post (shape_of 4 1 2 & o lends set (half_failing 1 2) 5 2 & q lends half_unmarked & tt) dead_told (dead_at 1 1)
   -- none told over entries that are wrong
-  pub none_over_wrong_entries : Never dead-switch.Post (shape_of 4 1 2 & o lends half_healthy & q lends set (half_counting 0 9) 5 7 & tt) (none_dead 0)
+  pub none_over_wrong_entries : NeverTells dead-switch.Post (shape_of 4 1 2 & o lends half_healthy & q lends set (half_counting 0 9) 5 7 & tt) dead_told (none_dead 0)
   -- the entries tested up to the first dead switch alone: the last is wrong
-  pub tested_to_the_first : Never dead-switch.Post (shape_of 4 1 2 & o lends 1 ∷ 1 ∷ 1 ∷ 1 ∷ 0 ∷ 0 ∷ 0 ∷ 0 ∷ [] & q lends set (half_counting 0 4) 5 1 & tt) (dead_at 0 0)
+  pub tested_to_the_first : NeverTells dead-switch.Post (shape_of 4 1 2 & o lends 1 ∷ 1 ∷ 1 ∷ 1 ∷ 0 ∷ 0 ∷ 0 ∷ 0 ∷ [] & q lends set (half_counting 0 4) 5 1 & tt) dead_told (dead_at 0 0)
   -- 30 tested before 6: a bit above k, a summary of 8 bytes
-  pub dead_summary_before_table : Never dead-switch.Post (shape_of 4 1 2 & o lends half_failing 0 4 & q lends replicate 8 0 & tt) (none_dead 30)
+  pub dead_summary_before_table : NeverTells dead-switch.Post (shape_of 4 1 2 & o lends half_failing 0 4 & q lends replicate 8 0 & tt) dead_told (none_dead 30)
   -- N as n to the power k + 1: a table of 16 bytes for (4,1,2)
-  pub dead_full_table_taken : Never dead-switch.Post (shape_of 4 1 2 & o lends healthy & q lends half_unmarked & tt) (none_dead 0)
+  pub dead_full_table_taken : NeverTells dead-switch.Post (shape_of 4 1 2 & o lends healthy & q lends half_unmarked & tt) dead_told (none_dead 0)
   -- a summary of one byte too many taken
-  pub dead_long_summary_taken : Never dead-switch.Post (shape_of 4 1 2 & o lends half_healthy & q lends replicate 7 0 & tt) (none_dead 0)
+  pub dead_long_summary_taken : NeverTells dead-switch.Post (shape_of 4 1 2 & o lends half_healthy & q lends replicate 7 0 & tt) dead_told (none_dead 0)
   -- a summary of one byte too few taken
-  pub dead_short_summary_taken : Never dead-switch.Post (shape_of 4 1 2 & o lends half_healthy & q lends replicate 5 0 & tt) (none_dead 0)
+  pub dead_short_summary_taken : NeverTells dead-switch.Post (shape_of 4 1 2 & o lends half_healthy & q lends replicate 5 0 & tt) dead_told (none_dead 0)
   -- a dead switch told beside a refusal
-  pub found_beside_refusal : Never dead-switch.Post (shape_of 4 1 2 & o lends half_healthy & q lends half_counting 3 2 & tt) (record { refusal = plain 30; found = true; level = 1; number = 1 })
+  pub found_beside_refusal : NeverTells dead-switch.Post (shape_of 4 1 2 & o lends half_healthy & q lends half_counting 3 2 & tt) dead_told (record { refusal = plain 30; found = true; level = 1; number = 1 })
   -- the last switch not looked at: switch 1 of level 1 of (2,1), both of whose links are marked
-  pub last_switch_missed : Never dead-switch.Post (full_room 2 1 & o lends 0 ∷ 2 ∷ 0 ∷ 2 ∷ [] & q lends 0 ∷ 0 ∷ 0 ∷ 2 ∷ [] & tt) (none_dead 0)
+  pub last_switch_missed : NeverTells dead-switch.Post (full_room 2 1 & o lends 0 ∷ 2 ∷ 0 ∷ 2 ∷ [] & q lends 0 ∷ 0 ∷ 0 ∷ 2 ∷ [] & tt) dead_told (none_dead 0)
   -- any dead switch denied
-  pub dead_denied : (s : Shape) (t c : List ℕ) (l w : ℕ) → DeadOne s t l w → Never dead-switch.Post (s & o lends t & q lends c & tt) (none_dead 0)
+  pub dead_denied : (s : Shape) (t c : List ℕ) (l w : ℕ) → DeadOne s t l w → NeverTells dead-switch.Post (s & o lends t & q lends c & tt) dead_told (none_dead 0)
   -- any switch found that a live link leads to
-  pub live_switch_found : (s : Shape) (t c : List ℕ) (l w a : ℕ) → Server s a → switch_of s l a ≡ w → failed t a l ≡ false → Never dead-switch.Post (s & o lends t & q lends c & tt) (dead_at l w)
+  pub live_switch_found : (s : Shape) (t c : List ℕ) (l w a : ℕ) → Server s a → switch_of s l a ≡ w → failed t a l ≡ false → NeverTells dead-switch.Post (s & o lends t & q lends c & tt) dead_told (dead_at l w)
   -- any switch given before which there is a dead one
-  pub not_the_first : (s : Shape) (t c : List ℕ) (l w j v : ℕ) → Earlier j v l w → DeadOne s t j v → Never dead-switch.Post (s & o lends t & q lends c & tt) (dead_at l w)
+  pub not_the_first : (s : Shape) (t c : List ℕ) (l w j v : ℕ) → Earlier j v l w → DeadOne s t j v → NeverTells dead-switch.Post (s & o lends t & q lends c & tt) dead_told (dead_at l w)
   -- any answer over a summary that is not the count of the table
-  pub answered_over_wrong_summary : (s : Shape) (t c : List ℕ) (y : DeadSwitch) → c ≢ summary_of s t → y.refusal.number ≡ 0 → Never dead-switch.Post (s & o lends t & q lends c & tt) y
+  pub answered_over_wrong_summary : (s : Shape) (t c : List ℕ) (y : DeadSwitch) → c ≢ summary_of s t → y.refusal.number ≡ 0 → NeverTells dead-switch.Post (s & o lends t & q lends c & tt) dead_told y
   -- 30 told where any test before it refuses
-  pub dead_thirty_first : (s : Shape) (t c : List ℕ) → room_table_refusal s t ≢ 0 → Never dead-switch.Post (s & o lends t & q lends c & tt) (none_dead 30)
+  pub dead_thirty_first : (s : Shape) (t c : List ℕ) → room_table_refusal s t ≢ 0 → NeverTells dead-switch.Post (s & o lends t & q lends c & tt) dead_told (none_dead 30)
   -- ---- summarize
   -- the old entries tested
-  pub old_entries_tested : Never summarize.Post (shape_of 4 1 2 & o lends half_healthy & q lends_mut set (half_counting 0 9) 5 7 & tt) (plain 30)
+  pub old_entries_tested : NeverTells summarize.Post (shape_of 4 1 2 & o lends half_healthy & q lends_mut set (half_counting 0 9) 5 7 & tt) refusal_told (plain 30)
   -- old entries that no table counts refused
-  pub old_entries_refused : Never summarize.Post (shape_of 4 1 2 & o lends half_healthy & q lends_mut stale 6 & tt) (plain 30)
+  pub old_entries_refused : NeverTells summarize.Post (shape_of 4 1 2 & o lends half_healthy & q lends_mut stale 6 & tt) refusal_told (plain 30)
   -- 30 tested before 6: a bit above k, a summary of 8 bytes
-  pub fresh_summary_before_table : Never summarize.Post (shape_of 4 1 2 & o lends half_failing 0 4 & q lends_mut replicate 8 0 & tt) (plain 30)
+  pub fresh_summary_before_table : NeverTells summarize.Post (shape_of 4 1 2 & o lends half_failing 0 4 & q lends_mut replicate 8 0 & tt) refusal_told (plain 30)
   -- a summary of one byte too many taken
-  pub fresh_long_summary_taken : Never summarize.Post (shape_of 4 1 2 & o lends half_healthy & q lends_mut replicate 7 0 & tt) none
+  pub fresh_long_summary_taken : NeverTells summarize.Post (shape_of 4 1 2 & o lends half_healthy & q lends_mut replicate 7 0 & tt) refusal_told none
   -- the 8 switches of the full room counted: that summary taken
-  pub fresh_full_summary_taken : Never summarize.Post (shape_of 4 1 2 & o lends half_healthy & q lends_mut replicate 8 0 & tt) none
+  pub fresh_full_summary_taken : NeverTells summarize.Post (shape_of 4 1 2 & o lends half_healthy & q lends_mut replicate 8 0 & tt) refusal_told none
   -- the same of (8,3,4), which has 1,280: 2,048 bytes
-  pub fresh_2048_taken : Never summarize.Post (shape_of 8 3 4 & o lends replicate 2048 0 & q lends_mut replicate 2048 0 & tt) none
+  pub fresh_2048_taken : NeverTells summarize.Post (shape_of 8 3 4 & o lends replicate 2048 0 & q lends_mut replicate 2048 0 & tt) refusal_told none
   -- N as n to the power k + 1: a table of 16 bytes for (4,1,2)
-  pub fresh_full_table_taken : Never summarize.Post (shape_of 4 1 2 & o lends healthy & q lends_mut half_unmarked & tt) none
+  pub fresh_full_table_taken : NeverTells summarize.Post (shape_of 4 1 2 & o lends healthy & q lends_mut half_unmarked & tt) refusal_told none
   -- the old bytes left
   pub old_bytes_left : NeverLeaves summarize.Post (shape_of 4 1 2 & o lends half_failing 5 3 & q lends_mut stale 6 & tt) third (stale 6)
   -- the counts added to what was there
@@ -368,6 +369,6 @@ pub record Summary (o q : Loan) : Type 0 where
   -- the summary touched on refusal 6, which a bit above k is
   pub fresh_on_refusal_6 : NeverLeaves summarize.Post (shape_of 4 1 2 & o lends half_failing 0 4 & q lends_mut stale 6 & tt) third half_unmarked
   -- 30 told of any summary that has an entry for each switch
-  pub any_old_entries_tested : (s : Shape) (t c : List ℕ) → length c ≡ length (switches_in s) → Never summarize.Post (s & o lends t & q lends_mut c & tt) (plain 30)
+  pub any_old_entries_tested : (s : Shape) (t c : List ℕ) → length c ≡ length (switches_in s) → NeverTells summarize.Post (s & o lends t & q lends_mut c & tt) refusal_told (plain 30)
   -- any refusal on which the summary is touched
   pub fresh_refused_and_touched : (s : Shape) (t c u : List ℕ) → entries_refusal s t c ≢ 0 → u ≢ c → NeverLeaves summarize.Post (s & o lends t & q lends_mut c & tt) third u

@@ -3,7 +3,7 @@
 use Rattle.std.specs.Prelude.{ℕ, ◌≤◌, ◌<◌, ◌≡◌, ◌≢◌, List, ◌++◌, length, replicate}
 use Rattle.refusals.specs.Refusals.{plain, refused_at}
 use Rattle.room.specs.declared.Shape.{Shape}
-use Rattle.room.specs.declared.Number.{Number}
+use Rattle.room.specs.Told.{Number}
 use Rattle.room.specs.Shapes.{shape_of, full_room, bound, servers_of, Link}
 use Rattle.room.specs.Addresses.{digit, with_digit}
 use Rattle.room.specs.Refusals.{link_refusal}
@@ -22,6 +22,7 @@ use Rattle.driver.proofs.bcube_tree.Reads as bcube_tree_reads
 use Rattle.wrong.specs.Never.{NeverLeaves, NeverLeavesAt, NeverTells, NeverSo, Loan, fourth, ◌&◌, ◌lends_mut◌}
 use Rattle.wrong.specs.Examples.{stale}
 use Rattle.wrong.specs.Again.{room_for}
+use Rattle.wrong.specs.Told.{number_told}
 
 -- the number, or the refusal, that a word tells
 abbrev pub number_in : Answer → Number
@@ -284,22 +285,22 @@ pub record AnyMisgrown {K A R X : Type 0} (post : K → A → R → X → Type 0
 
 pub record Trees (b : Loan) : Type 0 where
   -- a wrong parent: told, and written in a tree
-  pub parent-of : Misparented (λ s a l x. NeverTells parent_of_reads.Post (s & a & l & x & tt) (λ y. y.value))
+  pub parent-of : Misparented (λ s a l x. NeverTells parent_of_reads.Post (s & a & l & x & tt) (λ y. (number_told y).value))
   pub bcube_parent : Misparented (λ s a l x. NeverTells bcube_parent_reads.Post (room_for s & a & l & x & tt) value_in)
   pub write_tree : Misparented (λ s a l x. NeverLeavesAt write_tree_reads.Post (s & a & l & b lends_mut stale 4096 & tt) fourth x)
   pub bcube_tree : Misparented (λ s a l x. NeverLeavesAt bcube_tree_reads.Post (room_for s & a & l & b lends_mut stale 4096 & tt) fourth x)
   -- of any server that has a parent
-  pub any_parent_of : (s : Shape) (a l x : ℕ) → Child s a l x → AnyMisparented (NeverTells parent_of_reads.Post (s & a & l & x & tt) (λ y. y.value)) s a l x
+  pub any_parent_of : (s : Shape) (a l x : ℕ) → Child s a l x → AnyMisparented (NeverTells parent_of_reads.Post (s & a & l & x & tt) (λ y. (number_told y).value)) s a l x
   pub any_bcube_parent : (c : Room) (a l x : ℕ) → Child (shape_in c) a l x → AnyMisparented (NeverTells bcube_parent_reads.Post (c & a & l & x & tt) value_in) (shape_in c) a l x
   pub any_write_tree : (s : Shape) (a l x : ℕ) (ps : List ℕ) → Child s a l x → AnyMisparented (NeverLeavesAt write_tree_reads.Post (s & a & l & b lends_mut ps & tt) fourth x) s a l x
   pub any_bcube_tree : (c : Room) (a l x : ℕ) (ps : List ℕ) → Child (shape_in c) a l x → AnyMisparented (NeverLeavesAt bcube_tree_reads.Post (c & a & l & b lends_mut ps & tt) fourth x) (shape_in c) a l x
   -- a parent wrongly refused, or told where it is refused
-  pub parent_of_refused : Misrefused parent_of_reads.Post (λ s a l x. s & a & l & x & tt) (λ y. y)
+  pub parent_of_refused : Misrefused parent_of_reads.Post (λ s a l x. s & a & l & x & tt) number_told
   pub bcube_parent_refused : Misrefused bcube_parent_reads.Post (λ s a l x. room_for s & a & l & x & tt) number_in
-  pub any_parent_of_refused : (s : Shape) (a l x : ℕ) → AnyMisrefused parent_of_reads.Post (s & a & l & x & tt) (λ y. y) s a l x
+  pub any_parent_of_refused : (s : Shape) (a l x : ℕ) → AnyMisrefused parent_of_reads.Post (s & a & l & x & tt) number_told s a l x
   pub any_bcube_parent_refused : (c : Room) (a l x : ℕ) → AnyMisrefused bcube_parent_reads.Post (c & a & l & x & tt) number_in (shape_in c) a l x
   -- a tree wrongly written, counted or refused
-  pub write_tree_grown : Misgrown write_tree_reads.Post (λ s a l. s & a & l & b lends_mut stale 4096 & tt) (λ y. y) fourth
+  pub write_tree_grown : Misgrown write_tree_reads.Post (λ s a l. s & a & l & b lends_mut stale 4096 & tt) number_told fourth
   pub bcube_tree_grown : Misgrown bcube_tree_reads.Post (λ s a l. room_for s & a & l & b lends_mut stale 4096 & tt) number_in fourth
-  pub any_write_tree_grown : (s : Shape) (a l : ℕ) (ps : List ℕ) → AnyMisgrown write_tree_reads.Post (s & a & l & b lends_mut ps & tt) (λ y. y) fourth s a l ps
+  pub any_write_tree_grown : (s : Shape) (a l : ℕ) (ps : List ℕ) → AnyMisgrown write_tree_reads.Post (s & a & l & b lends_mut ps & tt) number_told fourth s a l ps
   pub any_bcube_tree_grown : (c : Room) (a l : ℕ) (ps : List ℕ) → AnyMisgrown bcube_tree_reads.Post (c & a & l & b lends_mut ps & tt) number_in fourth (shape_in c) a l ps
