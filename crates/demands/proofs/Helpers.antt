@@ -28,13 +28,9 @@ use Rattle.links.proofs.TableLaws.{changed-in, changed-long, changed-own, change
 use Rattle.links.proofs.LinkLaws.{change-past, change-above, failed-past}
 use Rattle.demands.specs.Demand2.{Sets}
 use Rattle.demands.specs.Calls.{AtPort}
-use Rattle.demands.specs.Helpers.{taken, EveryReason, NoPower, OneLink, ServersAt, ServersOf, EveryHelper}
+use Rattle.demands.specs.Helpers.{taken, reasons, EveryReason, NoPower, OneLink, ServersAt, ServersOf, EveryHelper}
 
 -- ---- reasons
-
--- the reasons, in the order of their numbers
-abbrev reasons : List Reason
-reasons = Ports ∷ Levels ∷ Servers ∷ Address ∷ SameEnds ∷ Table ∷ Listed ∷ Position ∷ Valued ∷ NoChange ∷ FailedLink ∷ NotArrived ∷ AfterArrival ∷ NotParallel ∷ NoRoute ∷ NeighbourTable ∷ HopIndex ∷ Unavailable ∷ Level ∷ Digit ∷ ServerCount ∷ NotNeighbours ∷ Fill ∷ ServerAgain ∷ SwitchAgain ∷ Summary ∷ []
 
 number-taken : (r : Reason) → is_in (number_of r) taken ≡ true
 unfolding is_in
@@ -68,6 +64,7 @@ number-taken Summary = refl
 pub every_reason : EveryReason
 every_reason =
     record {
+      each = refl;
       numbers = λ n. (
         λ e.
             let p = (in_exactly n taken).0 e in

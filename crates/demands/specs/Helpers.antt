@@ -1,9 +1,10 @@
 -- Demand 1, of reasons: their numbers are those of the rules, and a call tells by them all that it answers.
 -- Demand 2, of the functions that serve the layers above them: a refusal moved to a route and with an earlier hop, the numbers of a shape, the
 -- servers at a switch, one link changed with no test, what a path byte names, and the place of a number in a list.
-use Rattle.std.specs.Prelude.{ℕ, ◌+◌, ◌*◌, ◌/◌, ◌%◌, ◌^◌, ◌≤◌, ◌<◌, ◌≡◌, ◌≢◌, ◌⊎◌, ◌↔◌, Bool, true, false, List, [], ◌∷◌, length, get_or, Result}
+use Rattle.std.specs.Prelude.{ℕ, ◌+◌, ◌*◌, ◌/◌, ◌%◌, ◌^◌, ◌≤◌, ◌<◌, ◌≡◌, ◌≢◌, ◌⊎◌, ◌↔◌, Bool, true, false, List, [], ◌∷◌, map, length, get_or, Result}
 use Rattle.lists.specs.Lists.{is_in, place_in}
 use Rattle.refusals.specs.declared.Reason.{Reason}
+use Rattle.refusals.specs.declared.Reason.TheVariants.{Ports, Levels, Servers, Address, SameEnds, Table, List as Listed, Position, Value, NoChange, FailedLink, NotArrived, AfterArrival, NotParallel, NoRoute, NeighbourTable, HopIndex, Unavailable, Level, Digit, ServerCount, NotNeighbours, Fill, ServerAgain, SwitchAgain, Summary}
 use Rattle.refusals.specs.declared.Refused.{Refused}
 use Rattle.refusals.specs.Refusals.{Refusal, none, earlier_route, earlier_hop, of_route, with_earlier}
 use Rattle.refusals.specs.Reasons.{number_of, refusal_of, told, tells, tells_where, told_where}
@@ -23,6 +24,10 @@ use Rattle.demands.specs.Calls.{AtPort}
 abbrev pub taken : List ℕ
 taken = 1 ∷ 2 ∷ 3 ∷ 4 ∷ 5 ∷ 6 ∷ 7 ∷ 8 ∷ 9 ∷ 10 ∷ 11 ∷ 13 ∷ 14 ∷ 15 ∷ 16 ∷ 17 ∷ 18 ∷ 19 ∷ 20 ∷ 21 ∷ 22 ∷ 23 ∷ 26 ∷ 28 ∷ 29 ∷ 30 ∷ []
 
+-- the reasons by name, in the order of their numbers
+abbrev pub reasons : List Reason
+reasons = Ports ∷ Levels ∷ Servers ∷ Address ∷ SameEnds ∷ Table ∷ Listed ∷ Position ∷ Value ∷ NoChange ∷ FailedLink ∷ NotArrived ∷ AfterArrival ∷ NotParallel ∷ NoRoute ∷ NeighbourTable ∷ HopIndex ∷ Unavailable ∷ Level ∷ Digit ∷ ServerCount ∷ NotNeighbours ∷ Fill ∷ ServerAgain ∷ SwitchAgain ∷ Summary ∷ []
+
 -- a refusal and an answer are read back from what is told of them, and in what is told of an answer there is no refusal
 pub record ReadBack {A R X : Type 0} (refused : R → X) (given : A → X) (nothing : R) : Type 0 where
   pub refusal : X → R
@@ -33,6 +38,8 @@ pub record ReadBack {A R X : Type 0} (refused : R → X) (given : A → X) (noth
 
 -- the reasons are those of the rules by their numbers, and a call tells by them all that it answers
 pub record EveryReason : Type 1 where
+  -- each by its name has its number
+  pub each : map number_of reasons ≡ taken
   -- each number that is taken is that of a reason, and no other number is
   pub numbers : (n : ℕ) → (is_in n taken ≡ true) ↔ ((r : Reason) × (number_of r ≡ n))
   -- no two reasons have one number, and none has 0, which is no refusal

@@ -2,7 +2,7 @@
 use mathlib.Core.Path.{refl, sym, ap, ◌∙◌}
 use native.Mathlib.Omega.{arith}
 use Rattle.refusals.specs.Refusals.{Refusal, earlier_route, earlier_hop, ◌or_else◌}
-use Rattle.refusals.proofs.ReasonLaws.{reason-some}
+use Rattle.refusals.proofs.ReasonLaws.{reason-some, reason-same}
 use Rattle.room.specs.declared.Side.{Side}
 use Rattle.room.specs.Shapes.{servers_of, bound, power_of, server_count}
 use Rattle.room.specs.Refusals.{shape_refusal, server_refusal, pair_refusal, ends_refusal}
@@ -17,6 +17,7 @@ unfolding servers_of bound power_of server_count shape_refusal server_refusal pa
 wrong_helpers o =
     record {
       route_kept = λ r i j h n κ y x p e. n (sym (ap (λ (y : Refusal). y.route) (sym p ∙ e)));
+      reason_changed = λ y q i n κ z x p e. n (sym (reason-same z.reason y.reason (ap (λ (z : Refusal). z.number) p)) ∙ e);
       hop_lost = λ r i j h n κ y x p e. n (ap (λ (y : Refusal). y.hop) (sym p ∙ e));
       earlier_hop_lost = λ r i h j g k n κ y x p e. n (ap earlier_hop (sym p ∙ e));
       earlier_route_lost = λ r i h j g k n κ y x p e. n (ap earlier_route (sym p ∙ e));
@@ -29,6 +30,7 @@ wrong_helpers o =
       own_route_set = λ y i h n κ z x p e. n (ap (λ (z : Refusal). z.route) (sym p ∙ e));
       own_hop_set = λ y i h n κ z x p e. n (ap (λ (z : Refusal). z.hop) (sym p ∙ e));
       own_hop_lost = λ y i h n κ z x p e. n (ap (λ (z : Refusal). z.hop) (sym p ∙ e));
+      own_reason_changed = λ y q i h n κ z x p e. n (sym (reason-same z.reason y.reason (ap (λ (z : Refusal). z.number) p)) ∙ e);
       own_number_lost = λ y i h κ z x p e. reason-some y.reason (ap (λ (z : Refusal). z.number) (sym p ∙ e));
       base_and_level_exchanged = clash (λ y. y) refl;
       level_4_taken = clash (λ y. y) refl;

@@ -24,7 +24,7 @@ use Rattle.path.specs.Answers.{no_hop, a_hop, hop_from, hop_answer, array_refusa
 use Rattle.path.proofs.HopLaws.{hop-exactly, hop-number, hop-made, hop-known, hop-neighbours}
 use Rattle.wrong.specs.Never.{Loan}
 use Rattle.wrong.specs.Path.{Path}
-use Rattle.wrong.proofs.Clash.{clash, clash_told}
+use Rattle.wrong.proofs.Clash.{clash, clash_told, differ}
 
 -- ---- any list
 
@@ -67,6 +67,7 @@ wrong_path o q =
       value_5_at_level_0_refused = clash_told _ (λ (y : Number). y.refusal.number) refl;
       parts_in_low_bits = clash_told _ (λ (y : Parts). y.level) refl;
       parts_exchanged = clash_told _ (λ (y : Parts). y.level) refl;
+      parts_fields_exchanged = λ κ x e. differ (λ (y : Parts). y.level) refl e;
       number_cut = clash_told _ (λ (y : Parts). y.refusal.number) refl;
       parts_value_before_position = clash_told _ (λ (y : Parts). y.refusal.number) refl;
       parts_no_place = clash_told _ (λ (y : Parts). y.refusal.hop) refl;
@@ -78,6 +79,8 @@ wrong_path o q =
       new_value_told_at_level_k = clash_told _ (λ (y : Hop). y.old) refl;
       any_new_value_told = λ s a b z n κ y x e f. ((hop-exactly (server_of s a z) b).0 n).1 (sym (old-left s a b z n e) ∙ f);
       any_digit_of_the_next_told = λ s a b z n κ y x e f. (hop-neighbours (server_of s a z) b n).differ (sym (old-left s a b z n e) ∙ f);
+      hop_fields_exchanged = λ κ x e. differ (λ (y : Hop). y.level) refl e;
+      value_for_position = λ κ x e. differ (λ (y : Hop). y.refusal.number) refl e;
       hop_level_and_old_exchanged = clash_told _ (λ (y : Hop). y.level) refl;
       hop_level_from_1 = clash_told _ (λ (y : Hop). y.level) refl;
       hop_level_below = clash_told _ (λ (y : Hop). y.level) refl;
@@ -128,6 +131,7 @@ wrong_path o q =
       destination_not_tested = clash_told _ (λ y. y) refl;
       same_ends_before_address = clash_told _ (λ y. y) refl;
       ends_in_the_full_room = clash_told _ (λ y. y) refl;
+      walked_hops_counted = λ κ x e. differ (λ (y : Walked). y.count) refl e;
       receiver_forgotten = clash_told _ (λ (y : Walked). y.refusal.number) refl;
       zero_byte_is_the_end = clash_told _ (λ (y : Walked). y.refusal.number) refl;
       server_again_for_thirteen = λ g. clash_told _ (λ (y : Walked). y.refusal.number) refl;
@@ -140,6 +144,7 @@ wrong_path o q =
       walk_by_value_m = clash_told _ (λ (y : Walked). y.refusal.number) refl;
       walk_by_value_3_refused = clash_told _ (λ (y : Walked). y.refusal.number) refl;
       walk_in_the_full_room = clash_told _ (λ (y : Walked). y.refusal.number) refl;
+      read_hops_counted = λ κ x e. differ (λ (y : Reading). y.count) refl e;
       switch_used_twice = clash_told _ (λ (y : Reading). y.refusal.number) refl;
       read_servers_told_with_29 = clash_told _ (λ (y : Reading). y.count) refl;
       after_arrival_goes_by = clash_told _ (λ (y : Reading). y.refusal.number) refl;

@@ -67,6 +67,9 @@ wrong-step q e =
       any_new_value_told = λ s a d i bs es z away κ y x p f. let g = goes_of s a d i bs es z away in ((hop-exactly g.given.here (get_or bs i 0)).0 g.taken).1 (sym (old-left s a d i bs es z away p) ∙ f);
       old_of_the_destination = clash_told _ (λ (y : declared.Step). y.old) refl;
       any_digit_of_the_next_told = λ s a d i bs es z away κ y x p f. let g = goes_of s a d i bs es z away in (hop-neighbours g.given.here (get_or bs i 0) g.taken).differ (sym (old-left s a d i bs es z away p) ∙ f);
+      step_fields_exchanged = λ κ x e. differ (λ (y : declared.Step). y.level) refl e;
+      next_and_index_exchanged = λ κ x e. differ (λ (y : declared.Step). y.next) refl e;
+      delivered_on_the_way = λ κ x e. differ (λ (y : declared.Step). bit y.delivered) refl e;
       level_and_old_exchanged = clash_told _ (λ (y : declared.Step). y.level) refl;
       level_from_1 = clash_told _ (λ (y : declared.Step). y.level) refl;
       level_of_the_next_byte = clash_told _ (λ (y : declared.Step). y.level) refl;

@@ -194,6 +194,7 @@ wrong_summary o q =
       clear_server_refused_and_table_touched = λ s t c u a f n κ r x p e. n (sym e ∙ p.1 ∙ (server-kept false s t c a f).0);
       clear_server_refused_and_summary_touched = λ s t c u a f n κ r x p e. n (sym e ∙ p.2 ∙ (server-kept false s t c a f).1);
       clear_server_thirty_first = λ s t c a f κ r x p e. server-first s t c a f (sym (ap (λ (y : Refusal). y.number) (sym e ∙ p.0)));
+      dead_fields_exchanged = λ κ x e. differ (λ (y : DeadSwitch). y.level) refl e;
       n_for_m = clash_told _ (λ (y : DeadSwitch). bit y.found) refl;
       m_for_n = clash_told _ (λ (y : DeadSwitch). bit y.found) refl;
       one_mark_is_dead = clash_told _ (λ (y : DeadSwitch). bit y.found) refl;

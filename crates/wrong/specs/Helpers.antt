@@ -33,6 +33,8 @@ pub record Helpers (o : Loan) : Type 0 where
   -- ---- Refused::of_route
   -- the route that it had kept
   pub route_kept : (r : Reason) (i j h : ℕ) → i ≢ j → NeverTells of-route.Post (refused r i h 0 0 & j & tt) refusal_of (refused_at (number_of r) i h)
+  -- another reason
+  pub reason_changed : (y : Refused) (q : Reason) (i : ℕ) → y.reason ≢ q → NeverTells of-route.Post (y & i & tt) (λ z. z.reason) q
   -- the hop lost
   pub hop_lost : (r : Reason) (i j h : ℕ) → h ≢ 0 → NeverTells of-route.Post (refused r i h 0 0 & j & tt) refusal_of (refused_at (number_of r) j 0)
   -- the earlier hop lost, or the earlier route
@@ -53,6 +55,8 @@ pub record Helpers (o : Loan) : Type 0 where
   pub own_route_set : (y : Refused) (i h : ℕ) → y.route ≢ i → NeverTells with-earlier.Post (y & i & h & tt) refusal_of (refused_at (number_of y.reason) i h)
   pub own_hop_set : (y : Refused) (i h : ℕ) → y.hop ≢ h → NeverTells with-earlier.Post (y & i & h & tt) refusal_of (refused_at (number_of y.reason) i h)
   pub own_hop_lost : (y : Refused) (i h : ℕ) → y.hop ≢ 0 → NeverTells with-earlier.Post (y & i & h & tt) refusal_of (with_earlier i h (plain (number_of y.reason)))
+  -- another reason
+  pub own_reason_changed : (y : Refused) (q : Reason) (i h : ℕ) → y.reason ≢ q → NeverTells with-earlier.Post (y & i & h & tt) (λ z. z.reason) q
   -- the number lost
   pub own_number_lost : (y : Refused) (i h : ℕ) → NeverTells with-earlier.Post (y & i & h & tt) refusal_of (with_earlier i h (refused_at 0 y.route y.hop))
   -- ---- power

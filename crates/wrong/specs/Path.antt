@@ -1,6 +1,7 @@
 -- Wrong answers of `path`, wherever the table and the list or array lie.
-use Rattle.std.specs.Prelude.{ℕ, ◌<◌, ◌≡◌, ◌≢◌, List, [], ◌∷◌, ◌++◌, length, get_or, replicate}
+use Rattle.std.specs.Prelude.{ℕ, ◌<◌, ◌≡◌, ◌≢◌, Ok, Err, List, [], ◌∷◌, ◌++◌, length, get_or, replicate}
 use Rattle.lists.specs.Lists.{filled}
+use Rattle.refusals.specs.declared.Reason.TheVariants.{Value}
 use Rattle.refusals.specs.Refusals.{Refusal, plain, refused_at, with_earlier}
 use Rattle.refusals.specs.Reasons.{told}
 use Rattle.room.specs.declared.Shape.{Shape}
@@ -49,6 +50,8 @@ pub record Path (o q : Loan) : Type 0 where
   pub parts_in_low_bits : NeverTells parts_of.Post (full_room 4 3 & 0x42 & tt) parts_told (some_parts 2 16)
   -- level and value exchanged
   pub parts_exchanged : NeverTells parts_of.Post (full_room 4 3 & 0x42 & tt) parts_told (some_parts 2 1)
+  -- level and value exchanged in the result itself
+  pub parts_fields_exchanged : Never parts_of.Post (full_room 4 3 & 0x42 & tt) (Ok (record { level = 2; value = 1 }))
   -- a number above 255 cut to a byte
   pub number_cut : NeverTells parts_of.Post (full_room 4 1 & 0x142 & tt) parts_told (some_parts 1 2)
   -- 9 tested before 8: byte 84 in (4,1), whose level and value are both too high
@@ -72,6 +75,10 @@ pub record Path (o q : Loan) : Type 0 where
   pub any_new_value_told : (s : Shape) (a b : ℕ) → server_refusal s a ≡ 0 → hop_refusal s a b ≡ 0 → NeverTells hop_of.Post (s & a & b & tt) (λ y. (hop_told y).old) (value_of b)
   -- the old value of the destination: the digit, at the hop's level, of the server where any hop leads
   pub any_digit_of_the_next_told : (s : Shape) (a b : ℕ) → server_refusal s a ≡ 0 → hop_refusal s a b ≡ 0 → NeverTells hop_of.Post (s & a & b & tt) (λ y. (hop_told y).old) (digit s (level_of b) (hop_to s a b))
+  -- level and old value exchanged in the result itself
+  pub hop_fields_exchanged : Never hop_of.Post (full_room 8 3 & 1399 & 0xc4 & tt) (Ok (record { next = 2423; level = 2; old = 3 }))
+  -- the reason of 9 in the result itself, for that of 8
+  pub value_for_position : Never hop_of.Post (full_room 4 1 & 0 & 0x80 & tt) (Err (record { reason = Value; route = 1; hop = 1; earlier_route = 0; earlier_hop = 0 }))
   -- level and old value exchanged
   pub hop_level_and_old_exchanged : NeverTells hop_of.Post (full_room 8 3 & 1399 & 0xc4 & tt) hop_told (a_hop 2423 2 3)
   -- the level counted from 1
@@ -171,6 +178,8 @@ pub record Path (o q : Loan) : Type 0 where
   -- N as n to the power k + 1: 0 to 8 of (4,1,2)
   pub ends_in_the_full_room : NeverTells ends-refusal.Post (shape_of 4 1 2 & 0 & 8 & tt) told 0
   -- ---- walk
+  -- the hops counted in the result itself, for the servers
+  pub walked_hops_counted : Never walk.Post (full_room 4 1 & o lends healthy & 0 & 3 & q lends array (0x03 ∷ []) & tt) (Ok (record { count = 1; servers = filled 9 (0 ∷ 3 ∷ []); switches = filled 8 (0 ∷ []) }))
   -- the receiver's link forgotten: 00 to 03 of (4,1) by byte 03, where the level-0 link of 03 is failed
   pub receiver_forgotten : NeverTells walk.Post (full_room 4 1 & o lends failing 3 1 & 0 & 3 & q lends array (0x03 ∷ []) & tt) walk_told (walked (arrived (0 ∷ 3 ∷ []) (0 ∷ [])))
   -- a zero byte taken for the end: 1 to 0 of (2,0), eight zero bytes, and not arrived
@@ -196,6 +205,8 @@ pub record Path (o q : Loan) : Type 0 where
   -- N as n to the power k + 1: 8 to 0 of (4,1,2) by byte 40
   pub walk_in_the_full_room : NeverTells walk.Post (shape_of 4 1 2 & o lends healthy & 8 & 0 & q lends array (0x40 ∷ []) & tt) walk_told (walked (arrived (8 ∷ 0 ∷ []) (4096 ∷ [])))
   -- ---- read_path
+  -- the same of the servers alone
+  pub read_hops_counted : Never read_path.Post (full_room 4 1 & 0 & 3 & q lends array (0x03 ∷ []) & tt) (Ok (record { count = 1; servers = filled 9 (0 ∷ 3 ∷ []) }))
   -- middle servers compared only: 00 to 03 of (4,1) by 01 03, two hops over one switch
   pub switch_used_twice : NeverTells read_path.Post (full_room 4 1 & 0 & 3 & q lends array (0x01 ∷ 0x03 ∷ []) & tt) reading_told (reading (walked (arrived (0 ∷ 1 ∷ 3 ∷ []) [])))
   -- the servers met before the refusal told with it

@@ -1,7 +1,9 @@
 -- Wrong answers of `pick`, wherever the table, the fresh list and the kept list lie.
-use Rattle.std.specs.Prelude.{◌≢◌, [], ◌∷◌, ◌++◌, replicate}
+use Rattle.std.specs.Prelude.{◌≢◌, [], ◌∷◌, ◌++◌, replicate, Ok, Err}
+use Rattle.refusals.specs.declared.Reason.TheVariants.{FailedLink}
 use Rattle.refusals.specs.Refusals.{none, plain, refused_at}
 use Rattle.room.specs.Shapes.{shape_of, full_room}
+use Rattle.pick.specs.declared.List.TheVariants.{Kept}
 use Rattle.pick.specs.Places.{no_place, a_place}
 use Rattle.pick.proofs.pick_route.Reads as pick_route
 use Rattle.pick.proofs.pick_place.Reads as pick_place
@@ -34,6 +36,8 @@ pub record Pick (o f k : Loan) : Type 0 where
   -- ---- pick_place
   -- kept before fresh
   pub kept_told_first : NeverTells pick_place.Post (full_room 4 1 & o lends healthy & 0 & 7 & f lends direct & k lends other & tt) place_told (a_place 2 1)
+  -- the kept list named in the result itself, for the fresh one
+  pub kept_named_first : Never pick_place.Post (full_room 4 1 & o lends healthy & 0 & 7 & f lends direct & k lends other & tt) (Ok (record { list = Kept; route = 1 }))
   -- the place counted from 0
   pub place_from_0 : NeverTells pick_place.Post (full_room 4 1 & o lends healthy & 0 & 7 & f lends direct & k lends other & tt) place_told (a_place 1 0)
   -- the place in the kept list counted on from the fresh one
@@ -51,7 +55,9 @@ pub record Pick (o f k : Loan) : Type 0 where
   pub empty_lists_refused : NeverTells pick-refusal.Post (full_room 4 1 & o lends healthy & 0 & 7 & f lends [] & k lends [] & tt) refusal_told (plain 7)
   -- the kept list not tested, since the fresh one has a route
   pub kept_not_tested : NeverTells pick-refusal.Post (full_room 4 1 & o lends healthy & 0 & 7 & f lends direct & k lends replicate 9 0 & tt) refusal_told none
-  -- why the last route is not usable, told for why there is none
+  -- why the last route is not usable, for why there is none, in the result itself
+  pub check_given : Never pick-refusal.Post (full_room 4 1 & o lends failing 3 3 & 0 & 7 & f lends other & k lends [] & tt) (Err FailedLink)
+  -- the same told with its place
   pub check_told : NeverTells pick-refusal.Post (full_room 4 1 & o lends failing 3 3 & 0 & 7 & f lends other & k lends [] & tt) refusal_told (refused_at 11 1 1)
   -- the bound of level k as n: 0 to 3 of (4,1,2), 42 03 40 usable
   pub value_m_usable : NeverTells pick-refusal.Post (shape_of 4 1 2 & o lends replicate 8 0 & 0 & 3 & f lends array (0x42 ∷ 0x03 ∷ 0x40 ∷ []) & k lends [] & tt) refusal_told none

@@ -1,7 +1,7 @@
 -- Wrong answers of `room`.
-use Rattle.std.specs.Prelude.{ℕ, ◌+◌, ◌≢◌, [], ◌∷◌, Ok}
+use Rattle.std.specs.Prelude.{ℕ, ◌+◌, ◌≢◌, [], ◌∷◌, Ok, Err, None, Some}
 use Rattle.refusals.specs.declared.Reason.{Reason}
-use Rattle.refusals.specs.declared.Reason.TheVariants.{Ports, NotArrived, Fill, Summary}
+use Rattle.refusals.specs.declared.Reason.TheVariants.{Ports, Levels, NotArrived, Fill, Summary}
 use Rattle.refusals.specs.Refusals.{none, plain, refused_at, with_earlier}
 use Rattle.refusals.specs.Reasons.{number_of, refusal_of, told, told_where}
 use Rattle.refusals.proofs.Reason.number.Reads as reason_number
@@ -66,11 +66,15 @@ pub record Room : Type 0 where
   -- ---- Refused::from
   -- the number lost
   pub number_lost : (r : Reason) → NeverTells refused_from.Post (r & tt) refusal_of none
+  -- another reason
+  pub from_another_reason : (r q : Reason) → r ≢ q → NeverTells refused_from.Post (r & tt) (λ y. y.reason) q
   -- route 1, as a single array is, though the call as a whole is refused
   pub plain_at_route_1 : (r : Reason) → NeverTells refused_from.Post (r & tt) refusal_of (refused_at (number_of r) 1 0)
   -- an earlier hop, though the call as a whole is refused
   pub plain_with_earlier_hop : (r : Reason) (g : ℕ) → g ≢ 0 → NeverTells refused_from.Post (r & tt) refusal_of (with_earlier 0 g (plain (number_of r)))
   -- ---- Refused::at
+  -- another reason
+  pub at_another_reason : (r q : Reason) (i h : ℕ) → r ≢ q → NeverTells at_hop.Post (r & i & h & tt) (λ y. y.reason) q
   -- route and hop exchanged
   pub route_and_hop_exchanged : (r : Reason) (i h : ℕ) → i ≢ h → NeverTells at_hop.Post (r & i & h & tt) refusal_of (refused_at (number_of r) h i)
   -- the hop counted from 0
@@ -199,6 +203,8 @@ pub record Room : Type 0 where
   -- weights to the base m: 3 at place 3
   pub weights_to_the_base_m : NeverTells address-of.Post (shape_of 8 3 4 & 0 ∷ 0 ∷ 0 ∷ 3 ∷ [] & tt) number_told (a_number 192)
   -- ---- switch_of
+  -- level and number exchanged in the result itself
+  pub switch_fields_exchanged : Never switch-of.Post (full_room 4 1 & 7 & 0 & tt) (Ok (record { level = 1; number = 0 }))
   -- not closed up: 13 of (4,1) with digit 0 made 0, not struck out
   pub switch_not_closed_up : NeverTells switch-of.Post (full_room 4 1 & 7 & 0 & tt) switch_told (a_switch 0 4)
   -- the other digits struck out
@@ -259,6 +265,10 @@ pub record Room : Type 0 where
   -- N as n to the power k + 1: a neighbour of server 2048
   pub neighbour_in_the_full_room : NeverTells neighbour_of.Post (shape_of 8 3 4 & 2048 & 0 & 1 & tt) number_told (a_number 2049)
   -- ---- level_between
+  -- no level in the result itself, for level 0
+  pub level_0_is_none : Never level_between.Post (full_room 4 1 & 0 & 1 & tt) (Ok None)
+  -- level 0 in the result itself, for no level
+  pub none_is_level_0 : Never level_between.Post (full_room 4 1 & 0 & 7 & tt) (Ok (Some 0))
   -- two that differ in two digits taken for neighbours: 00 and 13
   pub two_digits_apart : NeverTells level_between.Post (full_room 4 1 & 0 & 7 & tt) between_told (only_level (0 ∷ []))
   -- a server taken for its own neighbour

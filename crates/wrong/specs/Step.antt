@@ -1,5 +1,5 @@
 -- Wrong answers of `step`, wherever the path bytes and the neighbour table lie.
-use Rattle.std.specs.Prelude.{ℕ, ◌≡◌, ◌≢◌, Bool, true, false, List, [], ◌∷◌, get_or, replicate}
+use Rattle.std.specs.Prelude.{ℕ, ◌≡◌, ◌≢◌, Ok, Bool, true, false, List, [], ◌∷◌, get_or, replicate}
 use Rattle.refusals.specs.Refusals.{Refusal, none, plain, refused_at}
 use Rattle.room.specs.declared.Shape.{Shape}
 use Rattle.room.specs.Shapes.{shape_of, full_room}
@@ -7,9 +7,10 @@ use Rattle.room.specs.Addresses.{digit}
 use Rattle.path.specs.Routes.{level_of, value_of}
 use Rattle.path.specs.Walks.{hop_to}
 use Rattle.step.specs.Told as declared
+use Rattle.step.specs.declared.Step.TheVariants.{Delivered, Onward}
 use Rattle.step.specs.Steps.{step_refusal, no_step}
 use Rattle.step.proofs.step_once.Reads as step_once
-use Rattle.wrong.specs.Never.{NeverTells, Loan, ◌&◌, ◌lends◌}
+use Rattle.wrong.specs.Never.{Never, NeverTells, Loan, ◌&◌, ◌lends◌}
 use Rattle.wrong.specs.Examples.{array, direct, mac, neighbour}
 use Rattle.wrong.specs.Told.{step_told}
 
@@ -71,6 +72,10 @@ pub record Step (q e : Loan) : Type 0 where
   pub old_of_the_destination : NeverTells step_once.Post (full_room 8 3 & 1399 & 847 & 0 & q lends around & e lends neighbour 0xc4 1 & tt) step_told (left_with 3 1)
   -- the digit, at the hop's level, of the next server, of any step that is made
   pub any_digit_of_the_next_told : (s : Shape) (a d i : ℕ) (bs es : List ℕ) → step_refusal s a d i bs es ≡ 0 → a ≢ d → NeverTells step_once.Post (s & a & d & i & q lends bs & e lends es & tt) (λ y. (step_told y).old) (digit s (level_of (get_or bs i 0)) (hop_to s a (get_or bs i 0)))
+  -- level and old value exchanged in the result itself, next server and index, or a delivery for a step
+  pub step_fields_exchanged : Never step_once.Post (full_room 8 3 & 1399 & 847 & 0 & q lends around & e lends neighbour 0xc4 1 & tt) (Ok (Onward (record { next = 2423; index = 1; mac = mac; port = 7; level = 2; old = 3 })))
+  pub next_and_index_exchanged : Never step_once.Post (full_room 8 3 & 1399 & 847 & 0 & q lends around & e lends neighbour 0xc4 1 & tt) (Ok (Onward (record { next = 1; index = 2423; mac = mac; port = 7; level = 3; old = 2 })))
+  pub delivered_on_the_way : Never step_once.Post (full_room 8 3 & 1399 & 847 & 0 & q lends around & e lends neighbour 0xc4 1 & tt) (Ok Delivered)
   -- level and old value exchanged
   pub level_and_old_exchanged : NeverTells step_once.Post (full_room 8 3 & 1399 & 847 & 0 & q lends around & e lends neighbour 0xc4 1 & tt) step_told (left_with 2 3)
   -- the level counted from 1

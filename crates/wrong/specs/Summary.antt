@@ -1,5 +1,5 @@
 -- Wrong answers of `summary`, wherever the table and the summary lie.
-use Rattle.std.specs.Prelude.{ℕ, ◌≤◌, ◌≡◌, ◌≢◌, true, false, List, [], ◌∷◌, length, get_or, replicate, set}
+use Rattle.std.specs.Prelude.{ℕ, ◌≤◌, ◌≡◌, ◌≢◌, true, false, List, [], ◌∷◌, length, get_or, replicate, set, Ok, Some}
 use Rattle.refusals.specs.Refusals.{none, plain, refused_at}
 use Rattle.room.specs.declared.Shape.{Shape}
 use Rattle.room.specs.Shapes.{shape_of, full_room, Server}
@@ -16,7 +16,7 @@ use Rattle.summary.proofs.mark_server.Reads as mark-server
 use Rattle.summary.proofs.clear_server.Reads as clear-server
 use Rattle.summary.proofs.dead_switch.Reads as dead-switch
 use Rattle.summary.proofs.summarize.Reads as summarize
-use Rattle.wrong.specs.Never.{NeverLeaves, Loan, second, third, ◌&◌, ◌lends◌, ◌lends_mut◌, NeverTells}
+use Rattle.wrong.specs.Never.{NeverLeaves, Loan, second, third, ◌&◌, ◌lends◌, ◌lends_mut◌, NeverTells, Never}
 use Rattle.wrong.specs.Examples.{healthy, failing, unmarked, counting, half_healthy, half_failing, half_unmarked, half_counting, stale}
 use Rattle.wrong.specs.Told.{refusal_told, dead_told}
 
@@ -277,6 +277,8 @@ pub record Summary (o q : Loan) : Type 0 where
   -- 30 told where any test before it refuses
   pub clear_server_thirty_first : (s : Shape) (t c : List ℕ) (a : ℕ) → table_server_refusal s t a ≢ 0 → NeverTells clear-server.Post (s & o lends_mut t & q lends_mut c & a & tt) refusal_told (plain 30)
   -- ---- dead_switch, of which a switch of level 0 of (4,1,2) has four servers, a switch of level 1 two
+  -- level and number exchanged in the result itself: the switch 0 of level 1 of (4,1) is dead
+  pub dead_fields_exchanged : Never dead-switch.Post (full_room 4 1 & o lends 2 ∷ 0 ∷ 0 ∷ 0 ∷ 2 ∷ 0 ∷ 0 ∷ 0 ∷ 2 ∷ 0 ∷ 0 ∷ 0 ∷ 2 ∷ 0 ∷ 0 ∷ 0 ∷ [] & q lends counting 4 4 & tt) (Ok (Some (record { level = 0; number = 1 })))
   -- n links wanted at a switch of level k: both links of switch 1 marked, and none found
   pub n_for_m : NeverTells dead-switch.Post (shape_of 4 1 2 & o lends set (half_failing 1 2) 5 2 & q lends half_counting 3 2 & tt) dead_told (none_dead 0)
   -- m links wanted at a switch of level 0: two of four marked, and found
