@@ -3,9 +3,12 @@ use Prim.Native.Nat.{ℕ}
 use mathlib.Core.Path.{◌≡◌, refl, sym, ap, ◌∙◌}
 use mathlib.Core.List.{[], ◌∷◌}
 use native.Mathlib.Omega.{arith}
+use mathlib.Core.Bool.{false}
 use lib.ListN.{get_or}
+use borrow.Author.Tests.{ne_eqb}
 use Rattle.std.specs.Prelude.{Result, Ok, Err, IsErrAnd}
 use Rattle.std.proofs.lemmas.Result.{err_from_is_err_and}
+use Rattle.lists.specs.Lists.{is_in}
 use Rattle.refusals.specs.declared.Reason.{Reason}
 use Rattle.refusals.specs.declared.Refused.{Refused}
 use Rattle.refusals.specs.declared.Reason.TheVariants.{Ports, Levels, Servers, Address, SameEnds, Table, List, Position, Value, NoChange, FailedLink, NotArrived, AfterArrival, NotParallel, NoRoute, NeighbourTable, HopIndex, Unavailable, Level, Digit, ServerCount, NotNeighbours, Fill, ServerAgain, SwitchAgain, Summary}
@@ -120,6 +123,11 @@ module _ {A X : Type 0} (refused : ℕ → X) (given : A → X) where
     tells-same (Err r) (Err q) e = ap Err (reason-same r q (sym (by_number (number_of r)) ∙ ap number e ∙ by_number (number_of q)))
 
 -- ---- refusals with a place
+
+-- a reason but these three is none of their numbers
+pub not-listed : (r : Reason) → (r ≡ NotParallel → ⊥) → (r ≡ ServerAgain → ⊥) → (r ≡ SwitchAgain → ⊥) → is_in (number_of r) (15 ∷ 28 ∷ 29 ∷ []) ≡ false
+unfolding is_in
+not-listed r p q s = rw (ne_eqb _ 15 (λ e. p (reason-same r NotParallel e)), ne_eqb _ 28 (λ e. q (reason-same r ServerAgain e)), ne_eqb _ 29 (λ e. s (reason-same r SwitchAgain e))) refl
 
 -- two refusals that are told the same are one
 pub refused-same : (x y : Refused) → refusal_of x ≡ refusal_of y → x ≡ y

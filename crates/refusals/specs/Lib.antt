@@ -1,3 +1,4 @@
 pub mod Refusals
 pub mod Determined
 pub mod Reasons
+pub mod Shown

@@ -1,9 +1,10 @@
 // Refusals: why a call did not answer, and where. Every number of the library stands here.
 #![tactic(auto)]
 
-ghost use Rattle.std.specs.Prelude.{◌≡◌};
+ghost use Rattle.std.specs.Prelude.{◌≡◌, Some};
 ghost use Rattle.refusals.specs.Reasons.{number_of, refusal_of};
 ghost use Rattle.refusals.specs.Refusals.{plain, refused_at, of_route, with_earlier};
+ghost use Rattle.refusals.specs.Shown.{reason_text, names_earlier, refused_text};
 
 use std::error::Error;
 use std::fmt;
@@ -76,6 +77,8 @@ impl Reason {
 
 // "refused NUMBER".
 impl fmt::Display for Reason {
+    ghost output = { λ r. Some (reason_text r) };
+
     fn fmt<W: fmt::Write>(&self, f: &mut fmt::Formatter<W>) -> fmt::Result {
         write!(f, "refused {}", self.number())
     }
@@ -126,7 +129,9 @@ impl Refused {
     }
 
     // Whether an earlier hop is shown: by its reason, or because it is not zero.
-    fn names_earlier(&self) -> bool {
+    fn names_earlier(&self) -> bool
+        ensures { result ≡ names_earlier self.now }
+    {
         match self.reason {
             Reason::NotParallel | Reason::ServerAgain | Reason::SwitchAgain => true,
             _ => self.earlier_route != 0 || self.earlier_hop != 0,
@@ -151,6 +156,8 @@ impl From<Reason> for Refused {
 
 // "refused NUMBER", with route and hop where they are not zero, and the earlier hop where one is named.
 impl fmt::Display for Refused {
+    ghost output = { λ r. Some (refused_text r) };
+
     fn fmt<W: fmt::Write>(&self, f: &mut fmt::Formatter<W>) -> fmt::Result {
         write!(f, "{}", self.reason)?;
         if self.route != 0 {

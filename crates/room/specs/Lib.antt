@@ -6,3 +6,4 @@ pub mod Told
 pub mod Answers
 pub mod Wiring
 pub mod Sides
+pub mod ShapeText

@@ -2,8 +2,9 @@
 // answers, or refuses by number.
 #![tactic(auto)]
 
-ghost use Rattle.std.specs.Prelude.{◌≡◌};
+ghost use Rattle.std.specs.Prelude.{◌≡◌, Some};
 ghost use Rattle.room.specs.Shapes.{shape_of, full_room};
+ghost use Rattle.room.specs.ShapeText.{shape_text};
 
 use std::fmt;
 
@@ -78,6 +79,8 @@ impl Shape {
 
 // "(n,k)" of a full room, "(n,k,m)" of any other.
 impl fmt::Display for Shape {
+    ghost output = { λ s. Some (shape_text s) };
+
     fn fmt<W: fmt::Write>(&self, f: &mut fmt::Formatter<W>) -> fmt::Result {
         if self.m == self.n {
             write!(f, "({},{})", self.n, self.k)
