@@ -3,14 +3,14 @@ use Prim.Native.Nat.{ℕ, zero, suc, ◌+◌, ◌-◌, ◌*◌, ◌/◌, ◌%◌
 use mathlib.Core.Path.{◌≡◌, refl, sym, ap, ap₂, ◌∙◌}
 use mathlib.Core.Logic.{◌≢◌, ◌⊎◌, inl, inr, ⊎_elim}
 use mathlib.Core.List.{List, [], ◌∷◌, ◌++◌}
-use native.Mathlib.Nat.{mod-lt, mod-add-div, div-lt_iff_lt-mul, pow-zero, pow-suc, pow-succ', mod-eq_of_lt, div-eq_of_lt, zero-div, zero-add, mul-zero, mul_assoc, mul-add, add_assoc, mul_comm, mul-suc, mul-one, one-mul, add-mul-mod_self_left, add-mul-div_left, div-div-eq-div-mul, mod-one, div-one, pow-le-pow_left, pow-le-pow_right, one-le-pow, mul-le-mul_left, mul_left_comm, suc_inj, le_of_suc-le-suc, lt_of_le_of_lt, mod-le, le_trans, le_of_lt, zero-mod, suc-add}
+use native.Mathlib.Nat.{mod-lt, mod-add-div, div-lt_iff_lt-mul, pow-zero, pow-suc, pow-succ', mod-eq_of_lt, div-eq_of_lt, zero-div, zero-add, mul-zero, mul_assoc, mul-add, add_assoc, mul_comm, mul-suc, mul-one, one-mul, add-mul-mod_self_left, add-mul-div_left, div-div-eq-div-mul, mod-one, div-one, pow-le-pow_left, pow-le-pow_right, one-le-pow, mul-le-mul_left, mul_left_comm, suc_inj, le_of_suc-le-suc, lt_of_lt_of_le, lt_of_le_of_lt, mod-le, le_trans, le_of_lt, zero-mod, suc-add}
 use native.Mathlib.Numerals.{add-one}
 use native.Mathlib.Omega.{arith}
 use native.Mathlib.Decide.{dec_lt}
 use lib.Dec.{lit<}
 use lib.Arith.{mod-mul, lt-one}
-use lib.ListN.{length, get_or, take, drop, set, replicate}
-use lib.Seq.{ext_get_or, set_split, length-take-le}
+use lib.ListN.{length, get_or, take, drop, set, replicate, length-set, length-drop}
+use lib.Seq.{ext_get_or, set_split, get_or-set_other, length-take-le, get_or-drop, drop-cons}
 use Rattle.lists.specs.Lists.{filled}
 use Rattle.room.specs.Digits.{digits_of, address_of, strike, Below}
 
@@ -94,6 +94,10 @@ pub address_injective : (n : ℕ) (ds es : List ℕ) → length ds ≡ length es
 address_injective n ds es l hd he q =
     sym (digits-address n ds hd) ∙ ap₂ (λ (m a : ℕ). digits_of n m a) l q ∙ digits-address n es he
 
+pub digits_injective : (n m a b : ℕ) → 0 < n → a < n ^ m → b < n ^ m → digits_of n m a ≡ digits_of n m b → a ≡ b
+digits_injective n m a b p ha hb q =
+    sym (address-digits n m a p ha) ∙ ap (address_of n) q ∙ address-digits n m b p hb
+
 -- ---- striking out a place
 
 pub strike-below : (l : ℕ) (ds : List ℕ) (i : ℕ) → i < l → get_or (strike l ds) i 0 ≡ get_or ds i 0
@@ -149,6 +153,11 @@ strike-agree l ds es q e = record { long = q; agree = at }
     at i ne =
         ⊎_elim (λ (h : i < l). sym (strike-below l ds i h) ∙ ap (λ (x : List ℕ). get_or x i 0) e ∙ strike-below l es i h)
         (λ (h : l ≤ i). high_at i h ne) (side i l)
+
+-- ---- changing a place
+
+pub set_but : (l v : ℕ) (ds : List ℕ) → But l (set ds l v) ds
+set_but l v ds = record { long = length-set ds l v; agree = λ i q. get_or-set_other ds l i v 0 q }
 
 -- ---- closed forms: what a program computes
 
@@ -215,6 +224,20 @@ pub power_three : (n : ℕ) → n * n * n ≡ n ^ 3
 power_three n = next_power n 2 (n * n) (power-two n)
 
 -- ---- four places
+
+pub drop-below : (n j : ℕ) (ds : List ℕ) → Below n ds → Below n (drop j ds)
+drop-below n j ds h = record { at = λ i p. rw get_or-drop (h.at (j + i) (omega (arith, length-drop j ds))) }
+
+-- what a program computes of four places stays small
+pub address-small : (n j : ℕ) (ds : List ℕ) → Below n ds → n ≤ 64 → length ds ≡ 4 → address_of n (drop j ds) ≤ 16777216
+address-small n j ds b h l =
+    le_of_lt (lt_of_lt_of_le (address_lt n (drop j ds) (drop-below n j ds b))
+    (pow_small n (length (drop j ds)) h (omega (arith, length-drop j ds))))
+
+-- the rest of a number from place j on, from that of the place above
+pub address-next : (n j : ℕ) (ds : List ℕ) → j < length ds → address_of n (drop j ds) ≡ get_or ds j 0 + n * address_of n (drop (suc j) ds)
+unfolding address_of
+address-next n j ds h = ap (address_of n) (drop-cons ds j 0 h)
 
 zeros_of : (n m : ℕ) → digits_of n m 0 ≡ replicate m 0
 unfolding digits_of

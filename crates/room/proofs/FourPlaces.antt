@@ -1,5 +1,5 @@
 -- What the programs over four places compute.
-use Prim.Native.Nat.{ℕ, ◌+◌, ◌*◌, ◌≤◌, ◌<◌}
+use Prim.Native.Nat.{ℕ, zero, suc, ◌+◌, ◌*◌, ◌≤◌, ◌<◌}
 use mathlib.Core.Path.{◌≡◌, refl, sym, ap, ◌∙◌}
 use mathlib.Core.Bool.{true, cond}
 use mathlib.Core.List.{List, [], ◌∷◌, ◌++◌}
@@ -10,7 +10,7 @@ use lib.Dec.{eqb}
 use borrow.Author.Tests.{eq-eqb, ne_eqb}
 use Rattle.refusals.specs.Refusals.{none}
 use Rattle.room.specs.Told.{Between}
-use Rattle.room.specs.Digits.{address_of, differ_from, Below}
+use Rattle.room.specs.Digits.{address_of, strike, differ_from, Below}
 use Rattle.std.specs.Prelude.{Some, None}
 use Rattle.room.specs.Answers.{between, only_level, no_between}
 use Rattle.room.proofs.DigitLaws.{address_lt, pow_small}
@@ -29,6 +29,34 @@ from-top n (p ∷ q ∷ r ∷ t ∷ u ∷ ds) l = let z : ⊥ = omega arith in a
 
 pub four_small : (n : ℕ) (ds : List ℕ) → n ≤ 64 → Below n ds → length ds ≡ 4 → address_of n ds ≤ 16777216
 four_small n ds h b l = omega (arith, address_lt n ds b, pow_small n (length ds) h (omega arith))
+
+-- ---- striking one out
+
+-- the places of four by a choice of three
+abbrev pub three_of : List ℕ → ℕ → ℕ → ℕ → List ℕ
+three_of ds i j k = get_or ds i 0 ∷ get_or ds j 0 ∷ get_or ds k 0 ∷ 0 ∷ []
+
+abbrev pub struck_of : ℕ → List ℕ → List ℕ
+struck_of zero ds = three_of ds 1 2 3
+struck_of (suc zero) ds = three_of ds 0 2 3
+struck_of (suc (suc zero)) ds = three_of ds 0 1 3
+struck_of (suc (suc (suc l))) ds = three_of ds 0 1 2
+
+pub struck_places : (l : ℕ) (ds : List ℕ) → l ≤ 3 → length ds ≡ 4 → struck_of l ds ≡ strike l ds ++ (0 ∷ [])
+struck_places l [] h e = let z : ⊥ = omega arith in absurd z
+struck_places l (p ∷ []) h e = let z : ⊥ = omega arith in absurd z
+struck_places l (p ∷ q ∷ []) h e = let z : ⊥ = omega arith in absurd z
+struck_places l (p ∷ q ∷ r ∷ []) h e = let z : ⊥ = omega arith in absurd z
+struck_places zero (p ∷ q ∷ r ∷ t ∷ []) h e = refl
+struck_places (suc zero) (p ∷ q ∷ r ∷ t ∷ []) h e = refl
+struck_places (suc (suc zero)) (p ∷ q ∷ r ∷ t ∷ []) h e = refl
+struck_places (suc (suc (suc zero))) (p ∷ q ∷ r ∷ t ∷ []) h e = refl
+struck_places (suc (suc (suc (suc l)))) (p ∷ q ∷ r ∷ t ∷ []) h e = let z : ⊥ = omega arith in absurd z
+struck_places l (p ∷ q ∷ r ∷ t ∷ u ∷ ds) h e = let z : ⊥ = omega arith in absurd z
+
+-- as the program finds the level
+pub struck-at : (m l : ℕ) (ds : List ℕ) → l ≡ m → m ≤ 3 → length ds ≡ 4 → struck_of m ds ≡ strike l ds ++ (0 ∷ [])
+struck-at m l ds e h n = rw e (struck_places m ds h n)
 
 -- ---- counting the places that differ: c so far, l the last, and these to come
 

@@ -136,6 +136,10 @@ value-of s a l v e =
     let z = or_else_zero (link_refusal s a l) _ e in
     record { link = link_of s a l z.0; value = ltb-true v (bound s l) (test_held _ 20 z.1) }
 
+pub value_none : {s : Shape} {a l v : ℕ} → Value s a l v → 0 ≡ value_refusal s a l v
+unfolding value_refusal
+value_none {s} {a} {l} {v} h = chain_goes _ _ _ _ (link-none h.link) refl (simp (lt-ltb v (bound s l) h.value))
+
 -- ---- a level, and q, whatever is tested after it: the shape is none that is refused
 module _ (s : Shape) (l q : ℕ) (e : 0 ≡ shape_refusal s) where
   pub level-above : s.k < l → 20 ≡ level_refusal s l or_else q

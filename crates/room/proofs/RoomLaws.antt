@@ -2,23 +2,25 @@
 use Prim.Native.Nat.{ℕ, zero, suc, ◌+◌, ◌-◌, ◌*◌, ◌/◌, ◌%◌, ◌^◌, ◌≤◌, ◌<◌, suc-le-suc, zero-le}
 use mathlib.Core.Path.{◌≡◌, refl, sym, ap, ◌∙◌}
 use mathlib.Core.Logic.{◌≢◌, ◌↔◌}
+use mathlib.Core.Bool.{cond}
 use mathlib.Core.List.{List, [], ◌∷◌, ◌++◌}
 use native.Mathlib.Numerals.{add-one}
 use native.Mathlib.Omega.{arith}
 use native.Mathlib.Decide.{dec_le, dec_lt, ℕ_discrete}
 use native.Mathlib.Nat.{mod-eq_of_lt, pow-le-pow_right, one-le-pow, div-le_self, pow-suc, pow-succ', le_refl, mul_comm, mul_assoc, mul-le-mul_right, mul-div_cancel, div-le_of_le-mul, le_of_suc-le-suc, add-zero, zero-add, add-suc, suc-add}
-use lib.ListN.{length, get_or, set, drop, replicate, length-set, drop_of_length-le, get_or-eq_default}
-use lib.Seq.{get_or-set_same, get_or-set_other, set-get_or, ext_get_or, drop-cons}
-use lib.Dec.{lit<}
+use lib.ListN.{length, get_or, set, take, drop, replicate, length-set, length-take, drop_of_length-le, get_or-eq_default}
+use lib.Seq.{get_or-set_same, get_or-set_other, set-get_or, ext_get_or, length-take-le, drop-cons, get_or-take}
+use lib.Dec.{leb, lit<}
+use lib.Arith.{lt-one}
 use borrow.Author.Tests.{le-leb, lt-leb, eq-eqb, ne_eqb}
 use Rattle.lists.specs.Lists.{filled}
-use Rattle.lists.proofs.ListLaws.{pad_at, filled_at}
+use Rattle.lists.proofs.ListLaws.{pad_at, filled_at, length-filled}
 use Rattle.room.specs.declared.Shape.{Shape}
 use Rattle.room.specs.Digits.{digits_of, address_of, strike, differ_from, Below}
 use Rattle.room.specs.Shapes.{servers_of, bound, Valid, Server, Link, Value}
 use Rattle.room.specs.Addresses.{digits, digit, with_digit, switch_of, switches_at, differing, Written, Beside, Neighbours}
 use Rattle.room.specs.Refusals.{place_bound}
-use Rattle.room.proofs.DigitLaws.{rest_lt, power-one, length_digits, digits-below, address-digits, digits-address, address_lt, address-top, address_injective, strike-above, strike_keeps, strike-same, strike-agree, length-strike, digit_closed, digit-top, with_closed, strike_closed, padded_digits}
+use Rattle.room.proofs.DigitLaws.{rest_lt, power-one, length_digits, digits-below, address-digits, digits-address, address_lt, address-top, address_injective, strike-above, strike_keeps, strike-same, strike-agree, length-strike, digit_closed, digit-top, with_closed, strike_closed, padded_digits, address_padded}
 use Rattle.room.proofs.RefusalLaws.{Places}
 
 -- ---- the bound of a level, and the number of servers
@@ -376,6 +378,29 @@ pub padded_below : {s : Shape} {ds : List ℕ} → Valid s → Written s ds → 
 unfolding filled
 padded_below {s} {ds} v w = below_padded s.n ds (4 - length ds) (positive v) (written_below v w)
 
+strike_padded : (l : ℕ) (ds zs : List ℕ) → l < length ds → strike l (ds ++ zs) ≡ strike l ds ++ zs
+strike_padded l [] zs h = let z : ⊥ = omega arith in absurd z
+strike_padded zero (d ∷ ds) zs h = refl
+strike_padded (suc l) (d ∷ ds) zs h = ap (λ (x : List ℕ). d ∷ x) (strike_padded l ds zs (le_of_suc-le-suc h))
+
+-- striking a digit out of four places
+pub strike-four : {s : Shape} {a l : ℕ} → Link s a l → address_of s.n (strike l (filled 4 (digits s a)) ++ (0 ∷ [])) ≡ switch_of s l a
+unfolding switch_of filled
+strike-four {s} {a} {l} h =
+    let q : l < length (digits s a) = rw digits_long (omega arith) in
+    let z = 4 - length (digits s a) in
+    address_padded s.n (strike l (filled 4 (digits s a))) 1
+    ∙ ap (address_of s.n) (strike_padded l (digits s a) (replicate z 0) q)
+    ∙ address_padded s.n (strike l (digits s a)) z
+
+pub strike-four-below : {s : Shape} {a l : ℕ} → Link s a l → Below s.n (strike l (filled 4 (digits s a)) ++ (0 ∷ []))
+strike-four-below {s} {a} {l} h =
+    let v = h.server.valid in
+    let w = written-digits h.server in
+    let q : length (digits s a) ≤ 4 = rw digits_long (omega arith) in
+    below_padded s.n (strike l (filled 4 (digits s a))) 1 (positive v)
+    (strike_keeps s.n l (filled 4 (digits s a)) (padded_below v w) (rw (length-filled 4 (digits s a) q) (omega arith)))
+
 differ_padded : (o : ℕ) (ds es zs : List ℕ) → length ds ≡ length es → differ_from o (ds ++ zs) (es ++ zs) ≡ differ_from o ds es
 unfolding differ_from
 differ_padded o [] [] zs h = differ-none o zs
@@ -402,6 +427,51 @@ places_below {s} {ds} p = record { at = at }
           | yes y ↦ let b : get_or ds i 0 < bound s i = rw (le-leb i s.k y) at (p.at i h) in omega (arith, bound_le p.valid i)
           | no y ↦ let b : get_or ds i 0 < 1 = rw (lt-leb i s.k (omega arith)) at (p.at i h) in omega (arith, positive p.valid)
         ]
+
+pub places_digits : {s : Shape} {a : ℕ} → Server s a → Places s (filled 4 (digits s a))
+unfolding place_bound
+places_digits {s} {a} h = record { valid = h.valid; at = at }
+  where
+    at : (i : ℕ) → i < length (filled 4 (digits s a)) → get_or (filled 4 (digits s a)) i 0 < cond (leb i s.k) (bound s i) 1
+    at i p =
+        elim (dec_le i s.k) [
+          | yes y ↦ rw (le-leb i s.k y, place-digit s a i) (digit_lt h i y)
+          | no y ↦ rw (lt-leb i s.k (omega arith), place-digit s a i, digit-past s a i (omega arith)) (lit< tt)
+        ]
+
+pub places_written : {s : Shape} {ds : List ℕ} → Places s ds → length ds ≡ 4 → Written s (take (suc s.k) ds)
+unfolding place_bound
+places_written {s} {ds} h l =
+    record {
+      long = length-take-le (suc s.k) ds (omega (arith, h.valid.levels));
+      small = λ i p.
+          rw (get_or-take (suc s.k) ds i 0 (suc-le-suc p))
+          (rw (le-leb i s.k p) at (h.at i (omega (arith, h.valid.levels))));
+    }
+
+pub places_padded : {s : Shape} {ds : List ℕ} → Places s ds → length ds ≡ 4 → filled 4 (take (suc s.k) ds) ≡ ds
+unfolding place_bound
+places_padded {s} {ds} h l = ext_get_or 0 (filled 4 T) ds (length-filled 4 T (omega (arith, length-take (suc s.k) ds, h.valid.levels)) ∙ sym l) at
+  where
+    T : List ℕ
+    T = take (suc s.k) ds
+
+    at : (i : ℕ) → i < length (filled 4 T) → get_or (filled 4 T) i 0 ≡ get_or ds i 0
+    at i p =
+        filled_at 4 T i
+        ∙ (elim (dec_lt i (suc s.k)) as (λ x. get_or T i 0 ≡ get_or ds i 0) [
+          | yes y ↦ get_or-take (suc s.k) ds i 0 y
+          | no y ↦ let z : length T ≤ i = omega (arith, length-take (suc s.k) ds) in
+              let q : i < length ds = omega (arith, length-filled 4 T (omega (arith, length-take (suc s.k) ds, h.valid.levels))) in
+              let b : get_or ds i 0 < 1 = rw (lt-leb i s.k (omega arith)) at (h.at i q) in
+              get_or-eq_default T 0 z ∙ sym (lt-one b)
+        ])
+
+pub places_address : {s : Shape} {ds : List ℕ} → Places s ds → length ds ≡ 4 → address_of s.n ds ≡ address_of s.n (take (suc s.k) ds)
+unfolding filled
+places_address {s} {ds} h l =
+    ap (address_of s.n) (sym (places_padded h l))
+    ∙ address_padded s.n (take (suc s.k) ds) (4 - length (take (suc s.k) ds))
 
 -- ---- closed forms, for a program that has the power p of the base at hand
 

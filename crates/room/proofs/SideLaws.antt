@@ -166,3 +166,6 @@ module _ {s : Shape} {l w v : ℕ} (h : Port s l w v) where
 
   pub number-count : (side_at s l w).count ≡ bound s l
   number-count = ap (λ (x : Side). x.count) number_is
+
+  pub number_stride : (side_at s l w).stride ≡ s.n ^ l
+  number_stride = ap (λ (x : Side). x.stride) number_is

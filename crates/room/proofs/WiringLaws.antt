@@ -213,16 +213,13 @@ port_sums {s} {l} {w} {v} h p e =
 
 -- ---- how many switches a level has: x servers, y at each
 
-module _ (s : Shape) (l x y : ℕ) (z : 0 ≡ level_refusal s l) (f : y ≡ bound s l) where
-  shaped : Valid s
-  shaped = (level-of s l (sym z)).0
-
+module _ (s : Shape) (l x y : ℕ) (z : shape_refusal s ≡ 0) (f : y ≡ bound s l) where
   pub switches-some : 0 < y
-  switches-some = omega (arith, bound-two shaped l)
+  switches-some = omega (arith, bound-two (valid_of s z) l)
 
   pub switches-made : x ≡ server_count s → x / y ≡ switches_at s l
   unfolding switches_at
-  switches-made e = ap₂ (λ (u v : ℕ). u / v) (e ∙ count-servers shaped) f
+  switches-made e = ap₂ (λ (u v : ℕ). u / v) (e ∙ count-servers (valid_of s z)) f
 
 -- ---- a port as the program tests it: the shape is not refused, x is the number of servers, b the bound of the level, t of the tests in one go
 
