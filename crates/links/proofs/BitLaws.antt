@@ -42,7 +42,7 @@ bit-none m l x h p =
     let q : x < 2 ^ l = lt_of_lt_of_le h (pow-le-pow_right (lit< tt) p) in ap (λ (y : ℕ). eqb (y % 2) 1) (div-eq_of_lt q)
 
 -- a bit that is set weighs no more than the whole
-bit_le : (l x : ℕ) → bit l x ≡ true → 2 ^ l ≤ x
+pub bit_le : (l x : ℕ) → bit l x ≡ true → 2 ^ l ≤ x
 unfolding bit
 bit_le l x e =
     elim (dec_le (2 ^ l) x) [
@@ -59,11 +59,11 @@ unfolding with_bit
 put_same true l x e = rw e
 put_same false l x e = rw e
 
-put-raised : (l x : ℕ) → bit l x ≡ false → with_bit true l x ≡ x + 2 ^ l
+pub put-raised : (l x : ℕ) → bit l x ≡ false → with_bit true l x ≡ x + 2 ^ l
 unfolding with_bit
 put-raised l x e = rw e
 
-put-lowered : (l x : ℕ) → bit l x ≡ true → with_bit false l x ≡ x - 2 ^ l
+pub put-lowered : (l x : ℕ) → bit l x ≡ true → with_bit false l x ≡ x - 2 ^ l
 unfolding with_bit
 put-lowered l x e = rw e
 

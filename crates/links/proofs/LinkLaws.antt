@@ -1,8 +1,8 @@
 -- What the programs over bytes and tables compute.
-use Prim.Native.Nat.{ℕ, suc, ◌+◌, ◌-◌, ◌*◌, ◌/◌, ◌%◌, ◌^◌, ◌≤◌, ◌<◌, max}
+use Prim.Native.Nat.{ℕ, zero, suc, ◌+◌, ◌-◌, ◌*◌, ◌/◌, ◌%◌, ◌^◌, ◌≤◌, ◌<◌, max}
 use mathlib.Core.Path.{◌≡◌, refl, sym, ap, ◌∙◌}
-use mathlib.Core.Bool.{Bool, true, false, cond, ◌&&◌, and_assoc, and-true}
-use mathlib.Core.List.{List}
+use mathlib.Core.Bool.{Bool, true, false, not, cond, ◌&&◌, and_assoc, and-true}
+use mathlib.Core.List.{List, [], ◌∷◌}
 use mathlib.Core.Logic.{◌≢◌}
 use native.Mathlib.Numerals.{add-one}
 use native.Mathlib.Omega.{arith}
@@ -13,11 +13,11 @@ use lib.ListN.{length, get_or, set, drop, drop_of_length-le, get_or-eq_default}
 use lib.Seq.{set_out}
 use borrow.Author.Tests.{eq-eqb, ne_eqb, lt-ltb, le-ltb}
 use lib.Bits.{bit_and}
-use Rattle.std.specs.Int.{w8}
+use Rattle.std.specs.Int.{w8, bit_at}
 use Rattle.std.specs.Int.RustNames.{bit_or}
 use Rattle.std.proofs.lemmas.Bool.Decides.{nat_tests}
 use Rattle.std.proofs.lemmas.Nat.{and_le_l, or_lt, one_shl}
-use Rattle.std.proofs.lemmas.Nat.Bits.{shr_and_one, bit_at_set_same, bit_at_set_other, bit_at_clear_same, bit_at_clear_other}
+use Rattle.std.proofs.lemmas.Nat.Bits.{shr_and_one, and_pow, bit_at_set_same, bit_at_set_other, bit_at_clear_same, bit_at_clear_other}
 use Rattle.lists.proofs.ListLaws.{left}
 use Rattle.std.specs.Prelude.{Result}
 use Rattle.refusals.specs.declared.Reason.{Reason}
@@ -42,6 +42,34 @@ bit_past l x h p = sym (bit-none 8 l x h p)
 pub bit_by : (l x : ℕ) → eqb (bit_and (x / 2 ^ l) 1) 1 ≡ bit l x
 unfolding bit
 bit_by l x = ap (λ (y : ℕ). eqb y 1) (shr_and_one x l)
+
+-- a number below 2 times a weight is none only where the number is
+weighed : (y p : ℕ) → y < 2 → 0 < p → not (eqb (y * p) 0) ≡ eqb y 1
+weighed y p h q =
+    elim (ℕ_discrete y 1) [
+      | yes e ↦ rw e (ap not (ne_eqb (1 * p) 0 (λ r. omega arith)))
+      | no n ↦ let z : y ≡ 0 = omega arith in rw (z, eq-eqb (0 * p) 0 (omega arith)) refl
+    ]
+
+-- the weights of a byte's bits
+pub weight_at : (l : ℕ) → l < 8 → get_or (1 ∷ 2 ∷ 4 ∷ 8 ∷ 16 ∷ 32 ∷ 64 ∷ 128 ∷ []) l 0 ≡ 2 ^ l
+weight_at zero h = refl
+weight_at (suc zero) h = refl
+weight_at (suc (suc zero)) h = refl
+weight_at (suc (suc (suc zero))) h = refl
+weight_at (suc (suc (suc (suc zero)))) h = refl
+weight_at (suc (suc (suc (suc (suc zero))))) h = refl
+weight_at (suc (suc (suc (suc (suc (suc zero)))))) h = refl
+weight_at (suc (suc (suc (suc (suc (suc (suc zero))))))) h = refl
+weight_at (suc (suc (suc (suc (suc (suc (suc (suc l)))))))) h = absurd (omega arith)
+
+-- by the mask of its weight
+pub bit_by_weight : (l x w : ℕ) → w ≡ 2 ^ l → not (eqb (bit_and x w) 0) ≡ bit l x
+unfolding bit
+bit_by_weight l x w h =
+    ap (λ (m : ℕ). not (eqb (bit_and x m) 0)) h
+    ∙ ap (λ (m : ℕ). not (eqb m 0)) (and_pow x l)
+    ∙ weighed (bit_at x l) (2 ^ l) (mod-lt (x / 2 ^ l) (lit< tt)) (one-le-pow l 2 (lit< tt))
 
 -- a byte whose bit l is b, and whose others are as they were
 put_by : (b : Bool) (l x y : ℕ) → l < 8 → x < 256 → y < 256 → bit l y ≡ b → ((m : ℕ) → m < 8 → m ≢ l → bit m y ≡ bit m x) → y ≡ with_bit b l x

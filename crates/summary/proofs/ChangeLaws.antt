@@ -20,7 +20,7 @@ use Rattle.room.specs.Addresses.{switch_of}
 use Rattle.room.specs.Answers.{no_switch, the_switch, switch_answer}
 use Rattle.room.proofs.RoomLaws.{bound_le}
 use Rattle.links.specs.Table.{bit, failed, changed, changed_in, TableOf}
-use Rattle.links.proofs.TableLaws.{changed-in, changed-long, changed_already, changed-own, changed-other, changed_below, below-own, below_other, below-table}
+use Rattle.links.proofs.TableLaws.{changed-in, changed-long, changed_already, changed-other, changed_below, below-own, below_other, below-table}
 use Rattle.summary.specs.Counts.{place_of, count_at, recounted, recounted_below}
 use Rattle.summary.specs.Refusals.{is_counted}
 use Rattle.summary.specs.Inside.{CountedLink, CountedServer}
@@ -58,9 +58,6 @@ module _ (s : Shape) (t c : List ℕ) (a l : ℕ) (h : CountedLink s t c a l) (f
   pub made_table : u ≡ changed f a l t
   made_table = r ∙ changed-in f a l t (omega (arith, h.link.level, h.link.server.valid.levels))
 
-  own : failed u a l ≡ f
-  own = ap (λ (y : List ℕ). failed y a l) made_table ∙ changed-own f a l t (omega (arith, h.link.server.below, h.table.long))
-
   others : (x : ℕ) → x ≢ a → failed u x l ≡ failed t x l
   others x n = ap (λ (y : List ℕ). failed y x l) made_table ∙ changed-other f a l x l t (λ q. absurd (n q))
 
@@ -68,15 +65,15 @@ module _ (s : Shape) (t c : List ℕ) (a l : ℕ) (h : CountedLink s t c a l) (f
   by_left : (d : List ℕ) → d ≡ recounted s u a l c → d ≡ recounted s (changed f a l t) a l c
   by_left d q = q ∙ ap (λ (y : List ℕ). recounted s y a l c) made_table
 
-  -- b is what it found of the link before
-  module _ (b : Bool) (e : b ≡ failed t a l) where
-    pub same_summary : beq b f ≡ true → c ≡ recounted s (changed f a l t) a l c
+  -- b is what it found of the link before, d after
+  module _ (b d : Bool) (e : b ≡ failed t a l) (v : d ≡ failed u a l) where
+    pub same_summary : beq b d ≡ true → c ≡ recounted s (changed f a l t) a l c
     same_summary m =
         by_left c
         (sym
         (counted_still s t u c a l h.counted
         (count_same s u t l (switch_of s l a)
-        (λ x q k. elim (ℕ_discrete x a) [ yes z ↦ rw z (own ∙ sym ((booleans_Decides b f).0 m) ∙ e) | no z ↦ others x z ]))))
+        (λ x q k. elim (ℕ_discrete x a) [ yes z ↦ rw z (sym v ∙ sym ((booleans_Decides b d).0 m) ∙ e) | no z ↦ others x z ]))))
 
     -- q is what it was told of the link's switch, x the switch in it, i the place of its entry
     module _ (q : Result Switch Reason) (g : tells no_switch the_switch q ≡ switch_answer s a l) (x : Switch) (k : q ≡ Ok x) (z : Shape) (j : z ≡ s) (i : ℕ) (p : i ≡ place_of z l x.number) where
@@ -86,27 +83,27 @@ module _ (s : Shape) (t c : List ℕ) (a l : ℕ) (h : CountedLink s t c a l) (f
       entry : get_or c i 0 ≡ count_at s t l (switch_of s l a)
       entry = ap (λ (j : ℕ). get_or c j 0) place ∙ counted-entry s t c a l h.counted
 
-      stored : (v : ℕ) → v ≡ count_at s u l (switch_of s l a) → set c i v ≡ recounted s (changed f a l t) a l c
+      stored : (w : ℕ) → w ≡ count_at s u l (switch_of s l a) → set c i w ≡ recounted s (changed f a l t) a l c
       unfolding recounted
-      stored v y = by_left (set c i v) (ap₂ (set c) place y)
+      stored w y = by_left (set c i w) (ap₂ (set c) place y)
 
       -- failed now, and not before
-      module _ (n : beq b f ≡ false) (m : f ≡ true) where
+      module _ (n : beq b d ≡ false) (m : d ≡ true) where
         raised : get_or c i 0 + 1 ≡ count_at s u l (switch_of s l a)
-        raised = omega (arith, entry, count_more h.link t u (sym e ∙ differs b f n ∙ ap not m) (own ∙ m) others)
+        raised = omega (arith, entry, count_more h.link t u (sym e ∙ differs b d n ∙ ap not m) (sym v ∙ m) others)
 
         pub raise_fits : get_or c i 0 + 1 < 256
         raise_fits =
-            let v = h.link.server.valid in
-            omega (arith, raised, count_most (link-switch h.link) u, bound_le v l, v.ports)
+            let valid = h.link.server.valid in
+            omega (arith, raised, count_most (link-switch h.link) u, bound_le valid l, valid.ports)
 
         pub raise_made : set c i (get_or c i 0 + 1) ≡ recounted s (changed f a l t) a l c
         raise_made = stored _ raised
 
       -- failed before, and not now
-      module _ (n : beq b f ≡ false) (m : f ≡ false) where
+      module _ (n : beq b d ≡ false) (m : d ≡ false) where
         lowered : get_or c i 0 ≡ suc (count_at s u l (switch_of s l a))
-        lowered = entry ∙ count_more h.link u t (own ∙ m) (sym e ∙ differs b f n ∙ ap not m) (λ y q. sym (others y q))
+        lowered = entry ∙ count_more h.link u t (sym v ∙ m) (sym e ∙ differs b d n ∙ ap not m) (λ y q. sym (others y q))
 
         pub lower-fits : 1 ≤ get_or c i 0
         lower-fits = omega (arith, lowered)

@@ -175,6 +175,10 @@ module _ {s : Shape} {l w : ℕ} {side : Side} (h : IsSwitch s l w) (e : side �
       let x = port-server (switch-port h q) in
       omega (arith, found-reach q, x.below, x.valid.small)
 
+  -- the way from one to the next is short
+  pub found-stride : side.stride < 4096
+  found-stride = omega (arith, found-near 1 (omega (arith, found-ports, bound-two h.valid l)))
+
   module _ (t : List ℕ) where
     abbrev test : ℕ → Bool
     test v = failed t (side.first + v * side.stride) l

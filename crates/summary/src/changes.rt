@@ -10,7 +10,8 @@ use crate::order::Order;
 use links::{is_failed, put};
 use room::{Shape, switch_of};
 
-// Marks or clears a link, and its switch counts one more where it is failed only now, one less where it was.
+// Marks or clears a link, and its switch counts one more where it is failed only now, one less where it was. What the link is
+// after the change is asked of the table, and not of what was put.
 pub(crate) fn change(
     shape: Shape,
     table: &mut [u8],
@@ -26,11 +27,12 @@ pub(crate) fn change(
     let place = Order::of(shape).place_of(level, switch.number);
     let was = is_failed(&*table, server, level);
     put(&mut *table, server, level, failed);
-    if was == failed {
+    let is = is_failed(&*table, server, level);
+    if was == is {
         return;
     }
     let entry = &mut summary[place];
-    if failed {
+    if is {
         *entry += 1;
     } else {
         *entry -= 1;

@@ -11,11 +11,14 @@ pub(crate) fn count_at(shape: Shape, table: &[u8], level: usize, number: usize) 
     ensures { result ≡ count_at shape table.now level number }
 {
     let side = side_at(shape, level, number);
+    let mut server = side.first;
     let mut count: u8 = 0;
-    for port in 0..side.count {
-        if is_failed(table, side.first + port * side.stride, level) {
+    for _port in 0..side.count {
+        if is_failed(table, server, level) {
             count += 1;
         }
+        // A stride more, and not the product of port and stride, with which the largest rooms take a third more time.
+        server += side.stride;
     }
     count
 }

@@ -14,8 +14,8 @@ of-requires c = sym (valid-none c.requires.link.server.valid)
 pub place_of-place-requires : goal.place_of-place-requires
 place_of-place-requires c = search order-switch
 
-pub returns-then-was-failed : goal.returns-then-was-failed
-returns-then-was-failed c = (search made_table, search same_summary)
+pub returns-then-was-is : goal.returns-then-was-is
+returns-then-was-is c = (search made_table, search same_summary)
 
 pub bounds-summary-place : goal.bounds-summary-place
 bounds-summary-place c = search found_inside
@@ -23,11 +23,11 @@ bounds-summary-place c = search found_inside
 pub overflow_add-entry : goal.overflow_add-entry
 overflow_add-entry c = search raise_fits
 
-pub returns-then-failed : goal.returns-then-failed
-returns-then-failed c = (search made_table, search raise_made)
+pub returns-then-is : goal.returns-then-is
+returns-then-is c = (search made_table, search raise_made)
 
 pub overflow_sub-entry : goal.overflow_sub-entry
 overflow_sub-entry c = search lower-fits
 
-pub returns-else-failed : goal.returns-else-failed
-returns-else-failed c = (search made_table, search lower-made)
+pub returns-else-is : goal.returns-else-is
+returns-else-is c = (search made_table, search lower-made)
