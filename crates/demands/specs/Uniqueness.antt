@@ -450,8 +450,8 @@ pub record Uniqueness : Type 0 where
   pub answer_line : Determined 1 answer_line_kinds.ps answer_line_kinds.r answer_line_reads.Post
   pub tree-question-of : Determined 1 tree_question_of_kinds.ps tree_question_of_kinds.r tree_question_of_reads.Post
   pub tree-line : Determined 0 tree_line_kinds.ps tree_line_kinds.r tree_line_reads.Post
-  -- of the part that shows a text, its bytes
-  pub text-shown : (κs : Lfts 1) (a : Dens κs text_shown_kinds.ps) (x y : (res_t text_shown_kinds.r κs).Denot) (s t : AtExit (ended_of 1 text_shown_kinds.ps text_shown_kinds.r) κs) → text_shown_reads.Post κs a x s → text_shown_reads.Post κs a y t → x.now ≡ y.now
+  -- of the part that shows a text, its bytes, and the block and offset where it lies
+  pub text-shown : (κs : Lfts 1) (a : Dens κs text_shown_kinds.ps) (x y : (res_t text_shown_kinds.r κs).Denot) (s t : AtExit (ended_of 1 text_shown_kinds.ps text_shown_kinds.r) κs) → text_shown_reads.Post κs a x s → text_shown_reads.Post κs a y t → (x.now ≡ y.now) × (x.ref_ptr ≡ y.ref_ptr)
   -- driver: what C calls as bcube_room_of, and so on
   pub c_version : Determined 0 c_version_kinds.ps c_version_kinds.r c_version_reads.Post
   pub c_switches : Determined 0 c_switches_kinds.ps c_switches_kinds.r c_switches_reads.Post

@@ -19,12 +19,12 @@ use Rattle.desk_line.specs.Shown.{text_of, shown, Whole}
 abbrev pub text_from : List ℕ → ℕ → Inside
 text_from bytes length = record { bytes = bytes; length = length }
 
-shown-text : (xs : List ℕ) → shown (text_of xs) ≡ xs
+pub shown-text : (xs : List ℕ) → shown (text_of xs) ≡ xs
 unfolding text_of filled
 shown-text xs = take-append_seam xs (replicate (128 - length xs) 0)
 
 -- an answer made of a short text is whole, and shows it
-whole_of : (t : Inside) (xs : List ℕ) → t ≡ text_of xs → length xs ≤ 128 → Whole t
+pub whole_of : (t : Inside) (xs : List ℕ) → t ≡ text_of xs → length xs ≤ 128 → Whole t
 whole_of t xs e h =
     let s = ap shown e ∙ shown-text xs in record { same = e ∙ ap text_of (sym s); fits = omega (arith, ap length s) }
 

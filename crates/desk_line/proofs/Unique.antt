@@ -48,6 +48,6 @@ answer-line-unique κs a x y s t e f = e ∙ sym f
 pub tree-line-unique : Determined 0 tree_line_kinds.ps tree_line_kinds.r tree-line.Post
 tree-line-unique κs a x y s t e f = e ∙ sym f
 
--- of the part that shows a text, its bytes
-pub shown-unique : (κs : Lfts 1) (a : Dens κs shown_kinds.ps) (x y : (res_t shown_kinds.r κs).Denot) (s t : AtExit (ended_of 1 shown_kinds.ps shown_kinds.r) κs) → shown.Post κs a x s → shown.Post κs a y t → x.now ≡ y.now
-shown-unique κs a x y s t e f = e ∙ sym f
+-- of the part that shows a text, its bytes, and the block and offset where it lies
+pub shown-unique : (κs : Lfts 1) (a : Dens κs shown_kinds.ps) (x y : (res_t shown_kinds.r κs).Denot) (s t : AtExit (ended_of 1 shown_kinds.ps shown_kinds.r) κs) → shown.Post κs a x s → shown.Post κs a y t → (x.now ≡ y.now) × (x.ref_ptr ≡ y.ref_ptr)
+shown-unique κs a x y s t e f = (e.0 ∙ sym f.0, e.1 ∙ sym f.1)

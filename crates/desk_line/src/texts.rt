@@ -60,9 +60,9 @@ impl Text {
         text
     }
 
-    // The bytes of the text.
+    // The bytes of the text, where the text itself holds them.
     pub fn shown(&self) -> &[u8]
-        ensures { result.now ≡ self.now }
+        ensures { (result.now ≡ self.now) × (result.ref_ptr ≡ self.entry.ref_ptr) }
     {
         &self.bytes[..self.length]
     }

@@ -17,9 +17,9 @@ pub struct Input {
 }
 
 impl Input {
-    // The bytes that were read.
+    // The bytes that were read, where the input itself holds them.
     pub fn read(&self) -> &[u8]
-        ensures { result.now ≡ take self.now.count self.now.bytes }
+        ensures { (result.now ≡ take self.now.count self.now.bytes) × (result.ref_ptr ≡ self.entry.ref_ptr) }
     {
         &self.bytes[..self.count]
     }

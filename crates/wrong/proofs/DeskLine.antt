@@ -20,15 +20,16 @@ use Rattle.desk_line.specs.Answers.{slot_line, routes_text, built_text, desk_tex
 use Rattle.desk_line.specs.TreeLines.{pointed, server_words, parent_words, server_line, lines_of, tree_lines, tree_line}
 use Rattle.wrong.specs.Never.{Loan}
 use Rattle.wrong.specs.DeskLine.{DeskLine}
-use Rattle.wrong.proofs.Clash.{clash}
+use Rattle.wrong.proofs.Clash.{differ, clash}
 
 pub wrong_desk_line : (o : Loan) → DeskLine o
 unfolding servers_of bound digits_of digits ◌or_else◌ shape_refusal server_refusal pair_refusal filled byte_of ends_refusal plus_one built_hops bytes_of built_bytes joined before after line_size digits_only value_from word_of words_of all_numbers numbers_by numbers_of numbers_in question_of tree_question_of level_refusal link_refusal address_of digit with_digit level_at last_apart lowered_at hangs_at lowered parent_of pointed server_words parent_words server_line in_order lines_of tree_lines tree_line hex_digit hex_of decimal_in decimal refused_line route_line slot_line routes_text built_text desk_text
 wrong_desk_line o =
     record {
-      zeros_shown = λ p. clash (λ (y : List ℕ). length y) refl;
-      newline_not_shown = λ p. clash (λ (y : List ℕ). length y) refl;
-      other_bytes_shown = λ p text bs n κ x e. n e;
+      zeros_shown = λ p κ x e. differ (λ (y : List ℕ). length y) refl e.0;
+      newline_not_shown = λ p κ x e. differ (λ (y : List ℕ). length y) refl e.0;
+      other_bytes_shown = λ p text bs n κ x e. n e.0;
+      shown_elsewhere = λ p n κ x e. n e.1;
       ends_exchanged = clash (λ (y : Question). y.source) refl;
       number_wraps = clash (λ (y : Question). y.n) refl;
       two_spaces_taken = clash (λ (y : Question). y.n) refl;

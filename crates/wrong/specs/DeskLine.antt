@@ -30,6 +30,8 @@ pub record DeskLine (o : Loan) : Type 0 where
   pub newline_not_shown : (p : Loan) → Never text_shown.Post (o lends ascii "input\n" & tt) (p lends ascii "input")
   -- any other bytes
   pub other_bytes_shown : (p : Loan) (text bs : List ℕ) → bs ≢ text → Never text_shown.Post (o lends text & tt) (p lends bs)
+  -- the right bytes, but not those of the text: a copy
+  pub shown_elsewhere : (p : Loan) → p.place ≢ o.place → Never text_shown.Post (o lends ascii "input\n" & tt) (p lends ascii "input\n")
   -- ---- question_of
   -- source and destination exchanged
   pub ends_exchanged : Never question-of.Post (o lends ascii "8 3 1 521\n" & tt) (Some (record { n = 8; k = 3; source = 521; destination = 1 }))
