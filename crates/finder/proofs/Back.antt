@@ -123,13 +123,13 @@ pub record Tracing (k root : ℕ) (back queue : List ℕ) (dst : ℕ) (bytes : L
   pub along : (p : Reached k root back queue dst) → Along p bytes hops at
 
 module _ {k root : ℕ} {back queue : List ℕ} {dst : ℕ} where
-  tracing_starts : (m : ℕ) → m ≡ 8 → Tracing k root back queue dst (replicate m 0) 0 dst
+  pub tracing_starts : (m : ℕ) → m ≡ 8 → Tracing k root back queue dst (replicate m 0) 0 dst
   tracing_starts m e =
       record { few = omega arith; long = length-replicate {A = ℕ} m 0 ∙ e; rest = λ i h. same_at 0 m i; starts = λ z. refl; along = λ p. along-start p (replicate m 0) }
 
   module _ {bytes : List ℕ} {hops at : ℕ} (h : Tracing k root back queue dst bytes hops at) where
     -- the hop before, put in front
-    tracing_more : (at ≡ root → ⊥) → (hops ≡ 8 → ⊥) → (next : List ℕ) → next ≡ ((k - get_or back at 0 % 256 / 64) * 64 + get_or back at 0 % 256 % 64) ∷ take 7 bytes
+    pub tracing_more : (at ≡ root → ⊥) → (hops ≡ 8 → ⊥) → (next : List ℕ) → next ≡ ((k - get_or back at 0 % 256 / 64) * 64 + get_or back at 0 % 256 % 64) ∷ take 7 bytes
         → Tracing k root back queue dst next (hops + 1) (get_or queue (get_or back at 0 / 256) 0)
     unfolding turned
     tracing_more away less next e =
@@ -146,7 +146,7 @@ module _ {k root : ℕ} {back queue : List ℕ} {dst : ℕ} where
         b = turned k (get_or back at 0 % 256)
 
     -- a ninth hop
-    tracing_over : (at ≡ root → ⊥) → hops ≡ 8 → TracedBack k root back queue dst (no_route 0)
+    pub tracing_over : (at ≡ root → ⊥) → hops ≡ 8 → TracedBack k root back queue dst (no_route 0)
     tracing_over away full =
         record {
           refusal = refl;

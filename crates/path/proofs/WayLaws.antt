@@ -37,7 +37,7 @@ bytes_on i (suc m) x = ap₂ (λ (b : ℕ) (bs : List ℕ). b ∷ bs) (byte_on i
     byte_on (suc j) = ap (λ (y : ℕ). y % 256) (sym (div-div-eq-div-mul x 256 (256 ^ suc j) ∙ ap (λ (y : ℕ). x / y) (sym (pow-suc 256 (suc j) ∙ mul_comm (256 ^ suc j) 256))))
 
 -- what bytes were put together gives them back, with zeros past them
-low-bytes : (m : ℕ) (bs : List ℕ) → ((i : ℕ) → i < length bs → get_or bs i 0 < 256) → length bs ≤ m → bytes_low_first 0 m (low_first bs) ≡ filled m bs
+pub low-bytes : (m : ℕ) (bs : List ℕ) → ((i : ℕ) → i < length bs → get_or bs i 0 < 256) → length bs ≤ m → bytes_low_first 0 m (low_first bs) ≡ filled m bs
 unfolding low_first filled
 low-bytes zero [] h few = refl
 low-bytes zero (b ∷ bs) h few = let z : ⊥ = omega arith in absurd z

@@ -30,7 +30,7 @@ use Rattle.verdict.proofs.LengthLaws.{list_few}
 use Rattle.verdict.proofs.ScanLaws.{first_told, first_right}
 
 -- a walked array with no refusal has arrived
-arrived_of : (s : Shape) (t : List ℕ) (a d : ℕ) (bs : List ℕ) (w : Walked) → w ≡ walk_answer s t a d bs → w.refusal.number ≡ 0 → Arrived w
+pub arrived_of : (s : Shape) (t : List ℕ) (a d : ℕ) (bs : List ℕ) (w : Walked) → w ≡ walk_answer s t a d bs → w.refusal.number ≡ 0 → Arrived w
 unfolding switches_of
 arrived_of s t a d bs w e n =
     let h = (walk-exactly s t a d bs).0 (ap (λ (x : Walked). x.refusal.number) (sym e) ∙ n) in
