@@ -329,27 +329,27 @@ BCUBE_RESULT bcube_answer bcube_failed_link(bcube_room room, uint64_t server, ui
 /* Marks a link as failed. Refuses 1, 2, 26, 3, 4, 20, 6, 30 (the length of the summary, or the entry of the link's
  * switch). Value: 0. The one bit of the table is set, and the entry of its switch is one more; no other bit and no
  * other entry changes. Marking a marked link changes nothing.
- * Cost: the table, and the servers of one switch; 192 bytes of stack. */
+ * Cost: the table, and the servers of one switch; 256 bytes of stack. */
 BCUBE_RESULT bcube_answer bcube_mark(bcube_room room, uint64_t server, uint64_t level, uint8_t *table, size_t table_len,
                                      uint8_t *summary, size_t summary_len);
 
 /* Clears a link of its mark. Refuses 1, 2, 26, 3, 4, 20, 6, 30 (the length of the summary, or the entry of the link's
  * switch). Value: 0. The one bit of the table is reset, and the entry of its switch is one less; no other bit and no
  * other entry changes. Clearing a link that is not marked changes nothing.
- * Cost: the table, and the servers of one switch; 192 bytes of stack. */
+ * Cost: the table, and the servers of one switch; 256 bytes of stack. */
 BCUBE_RESULT bcube_answer bcube_clear(bcube_room room, uint64_t server, uint64_t level, uint8_t *table,
                                       size_t table_len, uint8_t *summary, size_t summary_len);
 
 /* Marks all links of a server, levels 0 to k, as failed: the server is dead. Refuses 1, 2, 26, 3, 4, 6, 30 (the length
  * of the summary, or the entry of one of the server's k+1 switches). Value: 0. The server's byte of the table and those
  * entries are as after marking each link; no other byte and no other entry changes.
- * Cost: the table, and the servers of k+1 switches; 192 bytes of stack. */
+ * Cost: the table, and the servers of k+1 switches; 256 bytes of stack. */
 BCUBE_RESULT bcube_answer bcube_mark_all(bcube_room room, uint64_t server, uint8_t *table, size_t table_len,
                                          uint8_t *summary, size_t summary_len);
 
 /* Clears all links of a server of their marks. Refuses 1, 2, 26, 3, 4, 6, 30 (as bcube_mark_all). Value: 0. The
  * server's byte of the table and those entries are as after clearing each link; no other byte and no other entry
- * changes. Cost: the table, and the servers of k+1 switches; 192 bytes of stack. */
+ * changes. Cost: the table, and the servers of k+1 switches; 256 bytes of stack. */
 BCUBE_RESULT bcube_answer bcube_clear_all(bcube_room room, uint64_t server, uint8_t *table, size_t table_len,
                                           uint8_t *summary, size_t summary_len);
 
@@ -413,7 +413,7 @@ static inline uint8_t bcube_hop_back(bcube_answer hop) { return (uint8_t)(bcube_
 /* Reads one array as a route from source to destination. It looks at no failed links.
  * Refuses 1, 2, 26, 3, 4 (either end), 5, 7; then hop by hop 8, 9, 10, 28, 29; 13 after the eighth hop; 14 on the
  * arrival. Value: how many servers the route has, its hops + 1. Written: those servers in order, the
- * source first; zeros after the last. Cost: constant; 384 bytes of stack. */
+ * source first; zeros after the last. Cost: constant; 448 bytes of stack. */
 BCUBE_BUFFER(6) BCUBE_RESULT bcube_answer bcube_read(bcube_room room, uint64_t source, uint64_t destination,
                                                      const uint8_t *path, size_t path_len, uint64_t servers[9]);
 
