@@ -1,6 +1,6 @@
 -- `summary::counts::count_at`: the servers at the switch are looked at one after the other, a stride apart.
 use native.Mathlib.Nat.{add-mul}
-use Rattle.std.proofs.Common.{true, false, refl, sym, ap, ◌∙◌, ◌≡◌, arith}
+use Rattle.std.proofs.Common.{true, false, refl, sym, ap, ◌∙◌, arith}
 use Rattle.lists.proofs.ListCounts.{many}
 use Rattle.links.specs.Table.{failed}
 use Rattle.summary.proofs.CountLaws.{count-next, found-near, found-stride, found-small, found-all}
