@@ -39,16 +39,17 @@ use Rattle.links.proofs.TableLaws.{changed-in}
 pub bit_past : (l x : ℕ) → x < 256 → 8 ≤ l → false ≡ bit l x
 bit_past l x h p = sym (bit-none 8 l x h p)
 
--- a bit by division, by a shift
+-- a bit by division
 pub bit_by : (l x w : ℕ) → w ≡ 2 ^ l → eqb (x / w % 2) 1 ≡ bit l x
 unfolding bit
 bit_by l x w h = ap (λ (y : ℕ). eqb (x / y % 2) 1) h
 
+-- by a shift
 pub bit_by_shift : (l x : ℕ) → eqb (bit_and (x / 2 ^ l) 1) 1 ≡ bit l x
 unfolding bit
 bit_by_shift l x = ap (λ (y : ℕ). eqb y 1) (shr_and_one x l)
 
--- a number below 2 times a weight is none only where the number is
+-- 0 or 1 times a weight is not 0 where the number is 1, and only there
 weighed : (y p : ℕ) → y < 2 → 0 < p → not (eqb (y * p) 0) ≡ eqb y 1
 weighed y p h q =
     elim (ℕ_discrete y 1) [
